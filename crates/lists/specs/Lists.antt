@@ -1,0 +1,41 @@
+-- What the library lacks for lists that are walked, filtered and written to. map, _++_ and flatMap are mathlib's; length, getD and getElem? are lib.ListN's.
+use mathlib.Core.Path.{_≡_}
+use mathlib.Core.Bool.{Bool, true, false, _&&_}
+use mathlib.Core.List.{List, [], _∷_, List·Memᴰ}
+use mathlib.Core.Option.{Option, some}
+use Prim.Native.Nat.{ℕ, zero, suc}
+use lib.ListN.{getElem?}
+use lib.Seq.{sets}
+
+-- a stands in l at place k, counted from 0
+abbrev pub At : {A : Type 0} → List A → ℕ → A → Type 0
+At l k a = getElem? l k ≡ some a
+
+-- nothing stands in l twice
+abbrev pub Distinct : {A : Type 0} → List A → Type 0
+Distinct [] = Unit {0}
+Distinct (x ∷ xs) = (List·Memᴰ x xs → ⊥) × Distinct xs
+
+-- x in front of l where the test holds
+abbrev pub putIf : {A : Type 0} → Bool → A → List A → List A
+putIf true x l = x ∷ l
+putIf false x l = l
+
+-- those of l for which P holds, in their order
+unfoldable pub keepIf : {A : Type 0} → (A → Bool) → List A → List A
+keepIf P [] = []
+keepIf P (x ∷ xs) = putIf (P x) x (keepIf P xs)
+
+-- P holds for all of l
+unfoldable pub every : {A : Type 0} → (A → Bool) → List A → Bool
+every P [] = true
+every P (x ∷ xs) = P x && every P xs
+
+-- the n numbers from s on: s, s + 1, ..
+unfoldable pub interval : ℕ → ℕ → List ℕ
+interval s zero = []
+interval s (suc n) = s ∷ interval (suc s) n
+
+-- s with the words of r written from index `at` on; what does not fit is not written
+unfoldable pub put : List ℕ → ℕ → List ℕ → List ℕ
+put s at r = sets s at r

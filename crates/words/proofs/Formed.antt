@@ -1,0 +1,102 @@
+-- Machines that are well formed, and malformed machines, each one word away from a well-formed one; products of weights. Each table under one theorem.
+use mathlib.Core.Path.{_≡_, refl}
+use mathlib.Core.Bool.{Bool, true, false, not}
+use mathlib.Core.List.{List, [], _∷_, _++_, List·Memᴰ as In}
+use mathlib.Core.Option.{none, some}
+use Prim.Native.Nat.{ℕ}
+use lib.ListN.{set, take}
+use borrow.Author.Tests.{not-true}
+use Rattle.lists.specs.Lists.{every, interval}
+use Rattle.lists.proofs.Members.{every-in}
+use Rattle.words.specs.Labels.{MAX}
+use Rattle.words.specs.Weights.{cost, count, times}
+use Rattle.words.specs.Machines.{stateCount, trCount, startWord, sideMark, acceptorMark, stateWord, trWord, firstOf, nextOf, listBy, listFrom, listOf, noFall, sorted, stateOk, nextOk, trOk, acceptor, marksOk, sizeOk, wellFormed}
+
+-- Two states and three transitions. State 0 has the list 1, 3 and state 1 the list 2, 3, final with weight 4: the lists share a tail. Inputs rise in both lists, outputs fall in one.
+abbrev sound : List ℕ
+sound = 2 ∷ 3 ∷ 1 ∷ 0 ∷ 0 ∷ 0 ∷ 1 ∷ 0 ∷ 0 ∷ 2 ∷ 1 ∷ 4 ∷ 1 ∷ 8 ∷ 0 ∷ 1 ∷ 3 ∷ 2 ∷ 6 ∷ 2 ∷ 1 ∷ 3 ∷ 3 ∷ 7 ∷ 3 ∷ 0 ∷ 0 ∷ []
+
+-- one state whose list is record 1; record 2, whose labels fall to those of record 3, stands in no list
+abbrev unlisted : List ℕ
+unlisted = 1 ∷ 3 ∷ 1 ∷ 1 ∷ 1 ∷ 1 ∷ 1 ∷ 0 ∷ 0 ∷ 1 ∷ 1 ∷ 0 ∷ 0 ∷ 0 ∷ 5 ∷ 5 ∷ 0 ∷ 0 ∷ 3 ∷ 4 ∷ 4 ∷ 0 ∷ 0 ∷ 0 ∷ []
+
+unfoldable pub wellFormedOnes : List (List ℕ)
+wellFormedOnes =
+    sound
+    -- marks: inputs are sorted, outputs are not; no start
+    ∷ set sound 3 1
+    ∷ set sound 4 2
+    ∷ set sound 2 0
+    -- "no label falls within any list": records that stand in no list do not count
+    ∷ unlisted
+    -- no states: every side is sorted and input equals output everywhere
+    ∷ (0 ∷ 0 ∷ 0 ∷ 1 ∷ 1 ∷ 1 ∷ [])
+    ∷ []
+
+unfoldable pub malformedOnes : List (List ℕ)
+malformedOnes =
+    -- no words, a header cut short, a word too few, a word too many
+    []
+    ∷ take 5 sound
+    ∷ take 26 sound
+    ∷ (sound ++ (0 ∷ []))
+    -- counts that lie
+    ∷ set sound 0 3
+    ∷ set sound 1 4
+    -- "Start plus one is at most S"
+    ∷ set sound 2 3
+    -- a mark out of its range
+    ∷ set sound 3 3
+    ∷ set sound 4 3
+    ∷ set sound 5 2
+    -- a false mark: outputs are not sorted, inputs are, input differs from output in a record
+    ∷ set sound 4 1
+    ∷ set sound 3 2
+    ∷ set sound 5 1
+    -- "input equals output everywhere": also in a record that stands in no list
+    ∷ set unlisted 14 6
+    -- mark 2 whose only fall stands in no list
+    ∷ set unlisted 3 2
+    ∷ (0 ∷ 0 ∷ 0 ∷ 2 ∷ 0 ∷ 0 ∷ [])
+    -- "a first at most T", "final 0 or 1", "final weight (0 if not final)"
+    ∷ set sound 6 4
+    ∷ set sound 10 2
+    ∷ set sound 8 1
+    -- a label MAX, "a target below S"
+    ∷ set sound 12 MAX
+    ∷ set sound 13 MAX
+    ∷ set sound 15 2
+    -- "next is 0 or above its own number, up to T"
+    ∷ set sound 16 1
+    ∷ set sound 21 1
+    ∷ set sound 21 4
+    -- a record that stands in no list is checked too
+    ∷ set unlisted 17 1
+    ∷ []
+
+well-formed-hold : every wellFormed wellFormedOnes ≡ true
+unfolding wellFormedOnes wellFormed sizeOk stateOk trOk nextOk marksOk acceptor every interval sorted noFall sideMark acceptorMark stateCount trCount startWord stateWord trWord firstOf nextOf listBy listFrom listOf
+well-formed-hold = refl
+
+malformed-hold : every (λ m. not (wellFormed m)) malformedOnes ≡ true
+unfolding malformedOnes wellFormed sizeOk stateOk trOk nextOk marksOk acceptor every interval sorted noFall sideMark acceptorMark stateCount trCount startWord stateWord trWord firstOf nextOf listBy listFrom listOf
+malformed-hold = refl
+
+pub well-formed-ones : (m : List ℕ) → In m wellFormedOnes → wellFormed m ≡ true
+well-formed-ones m i = every-in wellFormed well-formed-hold i
+
+pub malformed-ones : (m : List ℕ) → In m malformedOnes → wellFormed m ≡ false
+malformed-ones m i = not-true (wellFormed m) (every-in (λ n. not (wellFormed n)) malformed-hold i)
+
+-- a cost reaches MAX only as zero; a count may be MAX
+pub products :
+    (times cost 2147483647 2147483647 ≡ some 4294967294)
+    × (times cost 2147483648 2147483647 ≡ none)
+    × (times cost MAX 4294967294 ≡ some MAX)
+    × (times cost 1 MAX ≡ some MAX)
+    × (times cost 4294967294 0 ≡ some 4294967294)
+    × (times count 65535 65537 ≡ some MAX)
+    × (times count 65536 65536 ≡ none)
+    × (times count 0 MAX ≡ some 0)
+unfolding times
+products = (refl, refl, refl, refl, refl, refl, refl, refl)

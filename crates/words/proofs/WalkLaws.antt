@@ -1,0 +1,61 @@
+-- The second paragraph of "Choosing the side", word for word, follows from the look-ups of which the walk is made.
+use mathlib.Core.Path.{_≡_, refl, sym, _∙_, ap, ap₂}
+use mathlib.Core.Bool.{Bool, true, false, not, _&&_, and-false, cond}
+use mathlib.Core.List.{List, [], _∷_, _++_, map, map-map, flatMap}
+use Prim.Native.Nat.{ℕ}
+use lib.Dec.{eqb}
+use borrow.Author.Tests.{eqb-true, eqb-false, eq-eqb, ne-eqb}
+use Rattle.words.specs.Labels.{epsLabel, noLabel, Checked, good, refused}
+use Rattle.words.specs.Matches.{MatchType, Match, loop, own, labelled, sortedMatches}
+use Rattle.words.specs.Sigmas.{Sigma, Operand, inner, isSet, restMatches, otherwise, lookup}
+use Rattle.words.specs.Steps.{Move, walked, asks, moveOf, movesOf, walk}
+
+-- the epsilon transitions of a state on the inner side
+abbrev pub epsilons : Operand → ℕ → List ℕ
+epsilons o s = labelled (o .on) (o .machine) s epsLabel
+
+or-nothing : (ms : List Match) → otherwise ms [] ≡ ms
+or-nothing [] = refl
+or-nothing (x ∷ xs) = refl
+
+-- asked for 0: the loop, and then the epsilon transitions
+pub lookup-eps : (o : Operand) (s : ℕ) → (o .sigma .label ≡ epsLabel → ⊥) → lookup o s epsLabel ≡ good (loop ∷ map own (epsilons o s))
+unfolding lookup sortedMatches
+lookup-eps o s h = rw (ne-eqb epsLabel (o .sigma .label) (λ e. h (sym e)), and-false)
+
+not-asked : (l : ℕ) → not (eqb l noLabel) && eqb noLabel l ≡ false
+not-asked l = go (eqb l noLabel) refl
+  where
+    go : (b : Bool) → eqb l noLabel ≡ b → not b && eqb noLabel l ≡ false
+    go true e = refl
+    go false e = ne-eqb noLabel l (λ d. eqb-false l noLabel e (sym d))
+
+-- asked for MAX: the epsilon transitions alone
+pub lookup-none : (o : Operand) (s : ℕ) → lookup o s noLabel ≡ good (map own (epsilons o s))
+unfolding lookup sortedMatches restMatches
+lookup-none o s = rw (not-asked (o .sigma .label), or-nothing)
+
+-- what 01 lists for the walked transition t: "for output 0, s1 alone and then a pair with each epsilon of s2; for another label, each match"
+abbrev pub movesOfTr : MatchType → Operand → Operand → ℕ → ℕ → List (Checked Move)
+movesOfTr d W M sm t =
+    cond (eqb (inner W t) epsLabel)
+    (good (moveOf d (own t) loop) ∷ map (λ u. good (moveOf d (own t) (own u))) (epsilons M sm))
+    (movesOf d (own t) (lookup M sm (inner W t)))
+
+moves-of-tr : (d : MatchType) (W M : Operand) (sm t : ℕ) → (M .sigma .label ≡ epsLabel → ⊥) → movesOf d (own t) (lookup M sm (inner W t)) ≡ movesOfTr d W M sm t
+moves-of-tr d W M sm t h = go (eqb (inner W t) epsLabel) refl
+  where
+    go : (b : Bool) → eqb (inner W t) epsLabel ≡ b → movesOf d (own t) (lookup M sm (inner W t)) ≡ movesOfTr d W M sm t
+    go true e = rw (eqb-true (inner W t) epsLabel e, lookup-eps M sm h) (ap (λ l. good (moveOf d (own t) loop) ∷ l) (map-map (λ m. good (moveOf d (own t) m)) own (epsilons M sm)))
+    go false e = rw e
+
+-- "Direction input at (s1, s2, f): first each epsilon-input transition of s2 alone; then along s1's list, for output 0, s1 alone and then a pair with each epsilon of
+-- s2; for another label, each match. Direction output mirrors this": W is walked, M is looked up. Refusal 4 shuts out a sigma label 0.
+pub walk-as-written : (d : MatchType) (W : Operand) (sw : ℕ) (M : Operand) (sm : ℕ) → (M .sigma .label ≡ epsLabel → ⊥)
+    → walk d W sw M sm ≡ map (λ u. good (moveOf d loop (own u))) (epsilons M sm) ++ flatMap (movesOfTr d W M sm) (W .machine .list sw)
+unfolding walk flatMap
+walk-as-written d W sw M sm h = rw lookup-none (ap₂ _++_ (map-map (λ m. good (moveOf d loop m)) own (epsilons M sm)) (along (W .machine .list sw)))
+  where
+    along : (ts : List ℕ) → flatMap (λ w. movesOf d w (lookup M sm (asks W w))) (map own ts) ≡ flatMap (movesOfTr d W M sm) ts
+    along [] = refl
+    along (t ∷ ts) = ap₂ _++_ (moves-of-tr d W M sm t h) (along ts)

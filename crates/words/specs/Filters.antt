@@ -1,0 +1,65 @@
+-- 01, "Filters": the table, cell by cell.
+use mathlib.Core.Bool.{Bool, true, false, not, _&&_}
+use mathlib.Core.Option.{Option, none, some}
+use Prim.Native.Nat.{ℕ, zero, suc}
+use lib.Dec.{eqb}
+use Rattle.lists.specs.Lists.{every}
+use Rattle.papers.specs.Filter.{MoveKind, lone1, lone2, bothEpsilon, aLabel, Facts, Filter}
+use Rattle.words.specs.Labels.{epsLabel}
+use Rattle.words.specs.Sigmas.{Operand, inner}
+
+-- ""none" means no epsilon on its inner side in the present state"
+unfoldable pub noneAt : Operand → ℕ → Bool
+noneAt o s = every (λ t. not (eqb (inner o t) epsLabel)) (o .machine .list s)
+
+-- ""all" means only epsilons there and not final"
+unfoldable pub allAt : Operand → ℕ → Bool
+allAt o s = every (λ t. eqb (inner o t) epsLabel) (o .machine .list s) && not (o .machine .isFinal s)
+
+abbrev pub factsAt : Operand → Operand → ℕ → ℕ → Facts
+factsAt A B s1 s2 = record { none1 = noneAt A s1; all1 = allAt A s1; none2 = noneAt B s2; all2 = allAt B s2 }
+
+-- "Order within a cell counts.": "all drop; none 0; else g"
+abbrev pub allFirst : Bool → Bool → ℕ → Option ℕ
+allFirst true none? g = none
+allFirst false true g = some 0
+allFirst false false g = some g
+
+-- "none 0, all drop, else g"
+abbrev pub noneFirst : Bool → Bool → ℕ → Option ℕ
+noneFirst true all? g = some 0
+noneFirst false true g = none
+noneFirst false false g = some g
+
+-- Each cell: the next f, or none where the move is dropped. f is at most 2 wherever a call looks ("f at most 2"); a larger one is read as 2.
+abbrev pub sequence : Filter
+sequence lone1 φ zero = some 0
+sequence lone1 φ (suc f) = none
+sequence lone2 φ f = allFirst (φ .all1) (φ .none1) 1
+sequence bothEpsilon φ f = none
+sequence aLabel φ f = some 0
+
+abbrev pub alternate : Filter
+alternate lone1 φ f = allFirst (φ .all2) (φ .none2) 1
+alternate lone2 φ zero = some 0
+alternate lone2 φ (suc zero) = none
+alternate lone2 φ (suc (suc f)) = some 0
+alternate bothEpsilon φ f = none
+alternate aLabel φ f = some 0
+
+abbrev pub matching : Filter
+matching lone1 φ zero = noneFirst (φ .none2) (φ .all2) 1
+matching lone1 φ (suc zero) = some 1
+matching lone1 φ (suc (suc f)) = none
+matching lone2 φ zero = noneFirst (φ .none1) (φ .all1) 2
+matching lone2 φ (suc zero) = none
+matching lone2 φ (suc (suc f)) = some 2
+matching bothEpsilon φ zero = some 0
+matching bothEpsilon φ (suc f) = none
+matching aLabel φ f = some 0
+
+-- "0 sequence", "1 alternate", "2 match"; another number is refused before it is read
+abbrev pub filterOf : ℕ → Filter
+filterOf zero = sequence
+filterOf (suc zero) = alternate
+filterOf (suc (suc n)) = matching

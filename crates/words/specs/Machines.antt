@@ -1,0 +1,141 @@
+-- 01, "A machine in words".
+use mathlib.Core.Bool.{Bool, true, false, not, _&&_, _||_, cond}
+use mathlib.Core.List.{List, [], _∷_, map}
+use mathlib.Core.Option.{Option, none, some}
+use Prim.Native.Nat.{ℕ, zero, suc, _+_, _*_}
+use lib.Dec.{eqb, ltb, leb}
+use lib.ListN.{length, getD}
+use Rattle.lists.specs.Lists.{every, interval}
+use Rattle.papers.specs.Machine.{Machine}
+use Rattle.words.specs.Labels.{noLabel}
+use Rattle.words.specs.Matches.{MatchType, inputs, outputs, labelOn}
+
+-- "S and T are at most 65535"
+abbrev pub limit : ℕ
+limit = 65535
+
+-- "Header: state count S, transition count T, start plus one (0: no start), input mark, output mark, acceptor mark."
+unfoldable pub stateCount : List ℕ → ℕ
+stateCount m = getD m 0 0
+
+unfoldable pub trCount : List ℕ → ℕ
+trCount m = getD m 1 0
+
+unfoldable pub startWord : List ℕ → ℕ
+startWord m = getD m 2 0
+
+unfoldable pub sideMark : MatchType → List ℕ → ℕ
+sideMark inputs m = getD m 3 0
+sideMark outputs m = getD m 4 0
+
+unfoldable pub acceptorMark : List ℕ → ℕ
+acceptorMark m = getD m 5 0
+
+-- "Then S records: first transition (0: none), final 0 or 1, final weight (0 if not final)." Word k of the record of state s.
+unfoldable pub stateWord : List ℕ → ℕ → ℕ → ℕ
+stateWord m s k = getD m (6 + 3 * s + k) 0
+
+-- "Then T records: input, output, weight, target state, next. Transitions count from 1". Word k of record t: the record begins at 6 + 3 S + 5 (t - 1).
+unfoldable pub trWord : List ℕ → ℕ → ℕ → ℕ
+trWord m t k = getD m (1 + 3 * stateCount m + 5 * t + k) 0
+
+-- The first record of a state's list, and the record after t in its list; 0 ends the list. Read so that every list ends, whatever the words are: a first above T
+-- and a next that does not rise, or is above T, are read as 0. Both are malformed below.
+unfoldable pub firstOf : List ℕ → ℕ → ℕ
+firstOf m s = cond (leb (stateWord m s 0) (trCount m)) (stateWord m s 0) 0
+
+unfoldable pub nextOf : List ℕ → ℕ → ℕ
+nextOf m t = cond (ltb t (trWord m t 4) && leb (trWord m t 4) (trCount m)) (trWord m t 4) 0
+
+-- the list that begins with record t, at most k records of it
+unfoldable pub listBy : List ℕ → ℕ → ℕ → List ℕ
+listBy m zero t = []
+listBy m (suc k) zero = []
+listBy m (suc k) (suc t) = suc t ∷ listBy m k (nextOf m (suc t))
+
+-- a list has at most T records, since numbers rise along it
+unfoldable pub listFrom : List ℕ → ℕ → List ℕ
+listFrom m t = listBy m (trCount m) t
+
+unfoldable pub listOf : List ℕ → ℕ → List ℕ
+listOf m s = listFrom m (firstOf m s)
+
+abbrev pub lessOne : ℕ → Option ℕ
+lessOne zero = none
+lessOne (suc s) = some s
+
+-- the machine that the words hold
+abbrev pub machineOf : List ℕ → Machine
+machineOf m = record {
+  states = stateCount m;
+  start = lessOne (startWord m);
+  list = listOf m;
+  input = λ t. trWord m t 0;
+  output = λ t. trWord m t 1;
+  weight = λ t. trWord m t 2;
+  target = λ t. trWord m t 3;
+  isFinal = λ s. eqb (stateWord m s 1) 1;
+  finalWeight = λ s. stateWord m s 2;
+}
+
+-- "no label falls": each label of the list is at least the one before it, and the first at least `low`
+unfoldable pub noFall : ℕ → List ℕ → Bool
+noFall low [] = true
+noFall low (x ∷ xs) = leb low x && noFall x xs
+
+-- "sorted (no label falls within any list)"
+unfoldable pub sorted : MatchType → Machine → Bool
+sorted on M = every (λ s. noFall 0 (map (labelOn on M) (M .list s))) (interval 0 (M .states))
+
+-- "final 0 or 1, final weight (0 if not final)"
+abbrev pub finalOk : ℕ → ℕ → Bool
+finalOk zero w = eqb w 0
+finalOk (suc zero) w = true
+finalOk (suc (suc n)) w = false
+
+-- "a first at most T"
+unfoldable pub stateOk : List ℕ → ℕ → Bool
+stateOk m s = leb (stateWord m s 0) (trCount m) && finalOk (stateWord m s 1) (stateWord m s 2)
+
+-- "next is 0 or above its own number, up to T"
+unfoldable pub nextOk : List ℕ → ℕ → Bool
+nextOk m t = eqb (trWord m t 4) 0 || (ltb t (trWord m t 4) && leb (trWord m t 4) (trCount m))
+
+-- "a target below S", no "label MAX"
+unfoldable pub trOk : List ℕ → ℕ → Bool
+trOk m t = ltb (trWord m t 0) noLabel && (ltb (trWord m t 1) noLabel && (ltb (trWord m t 3) (stateCount m) && nextOk m t))
+
+-- "Side marks: 0 unknown, 1 sorted (no label falls within any list), 2 not sorted."
+abbrev pub sideMarkOk : ℕ → Bool → Bool
+sideMarkOk zero fact = true
+sideMarkOk (suc zero) fact = fact
+sideMarkOk (suc (suc zero)) fact = not fact
+sideMarkOk (suc (suc (suc n))) fact = false
+
+-- "Acceptor mark 1 says that input equals output everywhere; 0 says nothing."
+abbrev pub acceptorMarkOk : ℕ → Bool → Bool
+acceptorMarkOk zero fact = true
+acceptorMarkOk (suc zero) fact = fact
+acceptorMarkOk (suc (suc n)) fact = false
+
+-- input equals output in all T records, whether they stand in a list or not
+unfoldable pub acceptor : List ℕ → Bool
+acceptor m = every (λ t. eqb (trWord m t 0) (trWord m t 1)) (interval 1 (trCount m))
+
+unfoldable pub marksOk : List ℕ → Bool
+marksOk m =
+    sideMarkOk (sideMark inputs m) (sorted inputs (machineOf m))
+    && (sideMarkOk (sideMark outputs m) (sorted outputs (machineOf m)) && acceptorMarkOk (acceptorMark m) (acceptor m))
+
+-- "S and T are at most 65535 and the length is exactly 6 + 3S + 5T."
+unfoldable pub sizeOk : List ℕ → Bool
+sizeOk m = leb (stateCount m) limit && (leb (trCount m) limit && eqb (length m) (6 + 3 * stateCount m + 5 * trCount m))
+
+-- "Start plus one is at most S, a first at most T, a target below S. Anything else, a label MAX or a false mark included, is malformed."
+unfoldable pub wellFormed : List ℕ → Bool
+wellFormed m =
+    sizeOk m
+    && (leb (startWord m) (stateCount m)
+    && (every (stateOk m) (interval 0 (stateCount m))
+    && (every (trOk m) (interval 1 (trCount m))
+    && marksOk m)))
