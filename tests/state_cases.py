@@ -70,6 +70,9 @@ def cases():
            machine([(None, [(1, 0, 1, 0), (2, 4, 1, 0), (3, 4, 2, 0)])], marks=(0, 1, 0)), machine([(7, [(0, 6, 1, 0), (4, 7, 1, 0)])], marks=(1, 0, 0)), 0)
     yield ("side both: the state with a sigma transition decides", (0, 0, NO, 0, 9, 2), None, None,
            machine([(0, [(1, 3, 0, 0), (1, 4, 0, 0), (2, 5, 0, 0), (2, 6, 0, 0)])], marks=(0, 1, 0)), machine(SIGMA2, marks=(1, 0, 0)), 0)
+    yield ("side output: the mark of machine 1 alone", (0, 0, NO, 0, NO, 0), None, None, machine([(None, [(1, 0, 1, 0), (2, 4, 1, 0)])], marks=(0, 1, 0)), MIXED2, 0)
+    yield ("side both: machine 1's state has a sigma transition", (0, 0, 9, 2, NO, 0), None, None,
+           machine([(0, [(1, 9, 0, 0)])], marks=(0, 1, 0)), machine([(0, [(3, 6, 0, 0), (4, 7, 0, 0)])], marks=(1, 0, 0)), 0)
     yield ("refusal 10: both states have one", (0, 0, 9, 0, 9, 0), None, None,
            machine([(0, [(1, 9, 0, 0)])], marks=(0, 1, 0)), machine(SIGMA2, marks=(1, 0, 0)), 0)
     # sigma
@@ -77,6 +80,8 @@ def cases():
            machine([(0, [(2, 7, 0, 0), (1, 5, 0, 0), (1, 6, 0, 0)])]), machine(SIGMA2), 0)
     yield ("sigma on machine 1, mode 0 with the acceptor mark", (0, 2, 9, 0, NO, 0), None, None,
            machine([(0, [(0, 0, 1, 0), (9, 9, 2, 0)])], marks=(0, 0, 1)), MIXED2, 0)
+    yield ("sigma on machine 1, mode 1: the side that does not hold sigma stays", (0, 0, 9, 1, NO, 0), None, None,
+           machine([(0, [(1, 9, 0, 0)])]), machine([(0, [(3, 6, 0, 0)])]), 0)
     yield ("sigma on machine 1, an empty allowed list", (0, 2, 9, 0, NO, 0), [], None,
            machine([(0, [(0, 0, 1, 0), (9, 9, 2, 0)])], marks=(0, 0, 1)), MIXED2, 0)
     yield ("refusal 11: a walked label is sigma, after kept moves", (0, 0, NO, 0, 9, 1), None, None,
@@ -84,6 +89,7 @@ def cases():
     # weights
     yield ("refusal 12: the second kept move is too large", (0, 0, NO, 0, NO, 0), None, None,
            machine([(0, [(1, 3, 1, 0), (2, 3, 2147483648, 0)])]), machine([(0, [(3, 4, 2147483647, 0)])]), 0)
+    yield ("a final weight too large", (0, 0, NO, 0, NO, 0), None, None, machine([(2147483648, [])]), machine([(2147483647, [])]), 0)
     yield ("a cost MAX absorbs, a final weight zero is not final", (0, 0, NO, 0, NO, 0), None, None,
            machine([(MAX, [(1, 3, MAX, 0)])]), machine([(4294967294, [(3, 4, 4294967294, 0)])]), 0)
     # shapes of lists
@@ -96,7 +102,8 @@ def cases():
     yield ("refusal 6", (0, 0, NO, 0, 9, 0), None, None, MIXED1, machine([(None, [(4, 4, 1, 0), (2, 0, 1, 0)])]), 0)
     yield ("refusal 7", (0, 0, NO, 0, NO, 0), None, None,
            machine([(None, [(1, 4, 1, 0), (2, 0, 1, 0)])]), machine([(None, [(4, 4, 1, 0), (2, 0, 1, 0)])]), 0)
-    yield ("refusal 4", (0, 0, NO, 0, 0, 0), None, None, MIXED1, MIXED2, 0)
+    yield ("refusal 4, machine 1's sigma", (0, 0, 0, 0, NO, 0), None, None, MIXED1, MIXED2, 0)
+    yield ("refusal 4, machine 2's sigma", (0, 0, NO, 0, 0, 0), None, None, MIXED1, MIXED2, 0)
 
 
 def words(ws):
@@ -132,7 +139,7 @@ def wants(side, answer, states, n):
     """The words of `answer` in Cases.antt."""
     if isinstance(side, int):
         return [0, side]
-    ws = [{"input": 1, "output": 2, "both": 3}[side]]
+    ws = [{"input": 1, "output": 2, "both": 3}[side], 1] + states[0][0]
     final = states[n][1]
     ws += [1, 0] if final == ["-"] else [0, int(final[1])] if final[0] == "refused" else [2, int(final[0])]
     if isinstance(answer, int):

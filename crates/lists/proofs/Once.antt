@@ -1,11 +1,10 @@
 -- Nothing twice: kept through map, keepIf, _++_ and flatMap; then a place is known by what stands there.
-use mathlib.Core.Path.{_≡_, refl, sym, _∙_, ap, subst}
+use mathlib.Core.Path.{_≡_, refl, sym, _∙_, ap}
 use mathlib.Core.Bool.{Bool, true, false}
 use mathlib.Core.List.{List, [], _∷_, _++_, map, flatMap, List·Memᴰ as In, List·Memᴰ·head as here, List·Memᴰ·tail as there, Memᴰ·cast, Memᴰ·of-map, List·Memᴰ·append-cases}
-use mathlib.Core.Logic.{_⊎_, ⊎-elim}
-use mathlib.Core.Option.{Option, none, some, Option·none-ne-some, Option·some-injective}
+use mathlib.Core.Logic.{⊎-elim}
+use mathlib.Core.Option.{Option·none-ne-some}
 use Prim.Native.Nat.{ℕ, zero, suc}
-use lib.ListN.{getElem?}
 use Rattle.lists.specs.Lists.{At, Distinct, putIf, keepIf}
 use Rattle.lists.proofs.Members.{of-flat, of-keep}
 use Rattle.lists.proofs.Places.{at-in}

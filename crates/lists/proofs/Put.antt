@@ -1,11 +1,11 @@
 -- Laws of `put`: a run of words written from an index on.
-use mathlib.Core.Path.{_≡_, refl, sym, ap, _∙_}
+use mathlib.Core.Path.{_≡_, refl, ap, _∙_}
 use mathlib.Core.List.{List, [], _∷_, _++_}
 use Prim.Native.Nat.{ℕ, suc, _+_, _-_, _≤_, _<_}
-use native.Mathlib.Nat.{add-zero, add-suc, suc-add, add-assoc}
+use native.Mathlib.Nat.{add-zero}
 use native.Mathlib.Omega.{arith}
-use lib.ListN.{length, take, drop, getD, set, length-set, length-append}
-use lib.Seq.{sets, length-sets, set-set, getD-set-same, getD-set-other, drop-set-add, take-set-lt, take-set-le, drop-set-lt}
+use lib.ListN.{length, take, drop, getD, set, length-set}
+use lib.Seq.{sets, length-sets, getD-set-same, getD-set-other, drop-set-add, take-set-lt, take-set-le, drop-set-lt}
 use borrow.Rule.Slice.PartMut.{putMid, midOf, put-same}
 use Rattle.lists.specs.Lists.{put}
 

@@ -2,7 +2,7 @@
 use mathlib.Core.Path.{_≡_}
 use mathlib.Core.Bool.{Bool, true, false, _&&_}
 use mathlib.Core.List.{List, [], _∷_, List·Memᴰ}
-use mathlib.Core.Option.{Option, some}
+use mathlib.Core.Option.{some}
 use Prim.Native.Nat.{ℕ, zero, suc}
 use lib.ListN.{getElem?}
 use lib.Seq.{sets}
@@ -36,6 +36,6 @@ unfoldable pub interval : ℕ → ℕ → List ℕ
 interval s zero = []
 interval s (suc n) = s ∷ interval (suc s) n
 
--- s with the words of r written from index `at` on; what does not fit is not written
+-- s with the words of r written from index `at` on; what does not fit is not written. The library's `sets`, shut, so that a proof finds its arguments.
 unfoldable pub put : List ℕ → ℕ → List ℕ → List ℕ
 put s at r = sets s at r

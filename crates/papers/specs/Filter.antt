@@ -15,6 +15,6 @@ pub record Facts : Type 0 where
   pub none2 : Bool
   pub all2 : Bool
 
--- φ: of a pair of extended transitions and a filter state, the next filter state, or none where the pair is blocked.
+-- φ, which here sees of the two transitions their kind and of their origins these facts, and changes neither: the next filter state, or none for the blocking state ⊥.
 abbrev pub Filter : Type 0
 Filter = MoveKind → Facts → ℕ → Option ℕ

@@ -1,10 +1,10 @@
 -- What a well-formed machine says of its size, states, records and marks.
-use mathlib.Core.Path.{_≡_, refl, sym, _∙_, ap}
-use mathlib.Core.Bool.{Bool, true, false, not, _&&_, _||_, false≢true}
-use mathlib.Core.List.{List, [], _∷_, map, List·Memᴰ as In}
-use Prim.Native.Nat.{ℕ, zero, suc, _+_, _*_, _<_, _≤_}
+use mathlib.Core.Path.{_≡_, ap}
+use mathlib.Core.Bool.{true}
+use mathlib.Core.List.{List, map}
+use Prim.Native.Nat.{ℕ, suc, _+_, _*_, _<_, _≤_}
 use native.Mathlib.Omega.{arith}
-use lib.Dec.{eqb, ltb, leb}
+use lib.Dec.{ltb, leb}
 use lib.ListN.{length, getD}
 use borrow.Author.Tests.{ltb-true, leb-true, eqb-true}
 use Rattle.lists.specs.Lists.{every, interval}
@@ -12,7 +12,7 @@ use Rattle.lists.proofs.Members.{and-left, and-right, every-in, in-interval}
 use Rattle.papers.specs.Machine.{Machine}
 use Rattle.words.specs.Labels.{MAX}
 use Rattle.words.specs.Matches.{MatchType, inputs, outputs, labelOn}
-use Rattle.words.specs.Machines.{limit, stateCount, trCount, startWord, sideMark, acceptorMark, stateWord, trWord, firstOf, nextOf, machineOf, noFall, sorted, finalOk, stateOk, nextOk, trOk, sideMarkOk, acceptorMarkOk, acceptor, marksOk, sizeOk, wellFormed}
+use Rattle.words.specs.Machines.{limit, stateCount, trCount, startWord, sideMark, acceptorMark, stateWord, trWord, firstOk, firstOf, nextOf, machineOf, noFall, sorted, finalOk, stateOk, trOk, sideMarkOk, acceptorMarkOk, acceptor, marksOk, sizeOk, wellFormed}
 
 -- the place of a record: "the length is exactly 6 + 3S + 5T", and records count from 1
 pub tr-place : (m : List ℕ) (t k : ℕ) → trWord m (suc t) k ≡ getD m (6 + 3 * stateCount m + 5 * t + k) 0
@@ -32,8 +32,9 @@ pub record TrForm (m : List ℕ) (t : ℕ) : Type 0 where
   pub next : nextOf m t ≡ trWord m t 4
 
 pub record Form (m : List ℕ) : Type 0 where
-  pub states : stateCount m ≤ limit
-  pub trs : trCount m ≤ limit
+  -- "S and T are at most 65535", in digits: no machine that a closed case can hold would show a wrong `limit`
+  pub states : stateCount m ≤ 65535
+  pub trs : trCount m ≤ 65535
   pub words : length m ≡ 6 + 3 * stateCount m + 5 * trCount m
   pub start : startWord m ≤ stateCount m
   pub state : (s : ℕ) → s < stateCount m → StateForm m s
@@ -43,19 +44,10 @@ pub record Form (m : List ℕ) : Type 0 where
 
 state-form : (m : List ℕ) (s : ℕ) → stateOk m s ≡ true → StateForm m s
 unfolding stateOk firstOf
-state-form m s e = record { first = rw (and-left (leb (stateWord m s 0) (trCount m)) _ e); final = and-right (leb (stateWord m s 0) (trCount m)) _ e }
-
-next-word : (m : List ℕ) (t : ℕ) → nextOk m t ≡ true → nextOf m t ≡ trWord m t 4
-unfolding nextOk nextOf
-next-word m t e = go (eqb (trWord m t 4) 0) (ltb t (trWord m t 4) && leb (trWord m t 4) (trCount m)) refl refl e
-  where
-    go : (a b : Bool) → eqb (trWord m t 4) 0 ≡ a → ltb t (trWord m t 4) && leb (trWord m t 4) (trCount m) ≡ b → a || b ≡ true → nextOf m t ≡ trWord m t 4
-    go a true p q h = rw q
-    go true false p q h = rw q (sym (eqb-true _ _ p))
-    go false false p q h = absurd (false≢true h)
+state-form m s e = record { first = rw (and-left (firstOk m s) _ e); final = and-right (firstOk m s) _ e }
 
 tr-form : (m : List ℕ) (t : ℕ) → trOk m t ≡ true → TrForm m t
-unfolding trOk
+unfolding trOk nextOf
 tr-form m t e =
     let r = and-right (ltb (trWord m t 0) MAX) _ e in
     let q = and-right (ltb (trWord m t 1) MAX) _ r in
@@ -63,7 +55,7 @@ tr-form m t e =
       input = ltb-true _ _ (and-left (ltb (trWord m t 0) MAX) _ e);
       output = ltb-true _ _ (and-left (ltb (trWord m t 1) MAX) _ r);
       target = ltb-true _ _ (and-left (ltb (trWord m t 3) (stateCount m)) _ q);
-      next = next-word m t (and-right (ltb (trWord m t 3) (stateCount m)) _ q);
+      next = rw (and-right (ltb (trWord m t 3) (stateCount m)) _ q);
     }
 
 mark-form : (m : List ℕ) → marksOk m ≡ true → (on : MatchType) → sideMarkOk (sideMark on m) (sorted on (machineOf m)) ≡ true

@@ -1,8 +1,9 @@
--- Machines that are well formed, and malformed machines, each one word away from a well-formed one; products of weights. Each table under one theorem.
+-- Machines that are well formed, and malformed machines, each one word away from a well-formed one; settings in and out of their ranges; products of weights; starts.
+-- Each table under one theorem.
 use mathlib.Core.Path.{_≡_, refl}
-use mathlib.Core.Bool.{Bool, true, false, not}
+use mathlib.Core.Bool.{true, false, not}
 use mathlib.Core.List.{List, [], _∷_, _++_, List·Memᴰ as In}
-use mathlib.Core.Option.{none, some}
+use mathlib.Core.Option.{Option, none, some}
 use Prim.Native.Nat.{ℕ}
 use lib.ListN.{set, take}
 use borrow.Author.Tests.{not-true}
@@ -10,7 +11,10 @@ use Rattle.lists.specs.Lists.{every, interval}
 use Rattle.lists.proofs.Members.{every-in}
 use Rattle.words.specs.Labels.{MAX}
 use Rattle.words.specs.Weights.{cost, count, times}
-use Rattle.words.specs.Machines.{stateCount, trCount, startWord, sideMark, acceptorMark, stateWord, trWord, firstOf, nextOf, listBy, listFrom, listOf, noFall, sorted, stateOk, nextOk, trOk, acceptor, marksOk, sizeOk, wellFormed}
+use Rattle.words.specs.Machines.{stateCount, trCount, startWord, sideMark, acceptorMark, stateWord, trWord, firstOk, nextOk, firstOf, nextOf, listBy, listFrom, listOf, noFall, sorted, stateOk, trOk, acceptor, marksOk, sizeOk, wellFormed}
+use Rattle.words.specs.Sides.{both}
+use Rattle.words.specs.Steps.{Triple, startAt}
+use Rattle.words.specs.Settings.{Settings, settingsOk, compositionOf}
 
 -- Two states and three transitions. State 0 has the list 1, 3 and state 1 the list 2, 3, final with weight 4: the lists share a tail. Inputs rise in both lists, outputs fall in one.
 abbrev sound : List ℕ
@@ -75,11 +79,11 @@ malformedOnes =
     ∷ []
 
 well-formed-hold : every wellFormed wellFormedOnes ≡ true
-unfolding wellFormedOnes wellFormed sizeOk stateOk trOk nextOk marksOk acceptor every interval sorted noFall sideMark acceptorMark stateCount trCount startWord stateWord trWord firstOf nextOf listBy listFrom listOf
+unfolding wellFormedOnes wellFormed sizeOk stateOk trOk marksOk acceptor every interval sorted noFall sideMark acceptorMark stateCount trCount startWord stateWord trWord firstOk nextOk firstOf nextOf listBy listFrom listOf
 well-formed-hold = refl
 
 malformed-hold : every (λ m. not (wellFormed m)) malformedOnes ≡ true
-unfolding malformedOnes wellFormed sizeOk stateOk trOk nextOk marksOk acceptor every interval sorted noFall sideMark acceptorMark stateCount trCount startWord stateWord trWord firstOf nextOf listBy listFrom listOf
+unfolding malformedOnes wellFormed sizeOk stateOk trOk marksOk acceptor every interval sorted noFall sideMark acceptorMark stateCount trCount startWord stateWord trWord firstOk nextOk firstOf nextOf listBy listFrom listOf
 malformed-hold = refl
 
 pub well-formed-ones : (m : List ℕ) → In m wellFormedOnes → wellFormed m ≡ true
@@ -100,3 +104,28 @@ pub products :
     × (times count 0 MAX ≡ some 0)
 unfolding times
 products = (refl, refl, refl, refl, refl, refl, refl, refl)
+
+abbrev settings : ℕ → ℕ → ℕ → ℕ → Settings
+settings kind filter mode1 mode2 = record { kind = kind; filter = filter; sigma1 = MAX; mode1 = mode1; sigma2 = MAX; mode2 = mode2 }
+
+-- "kind, filter or rewrite mode outside its range"
+pub ranges :
+    (settingsOk (settings 1 2 2 2) ≡ true)
+    × (settingsOk (settings 2 0 0 0) ≡ false)
+    × (settingsOk (settings 0 3 0 0) ≡ false)
+    × (settingsOk (settings 0 0 3 0) ≡ false)
+    × (settingsOk (settings 0 0 0 3) ≡ false)
+unfolding settingsOk
+ranges = (refl, refl, refl, refl, refl)
+
+-- the start of the composition of two machines
+abbrev startOfWords : List ℕ → List ℕ → Option Triple
+startOfWords m1 m2 = startAt (compositionOf (settings 0 0 0 0) (record { m1 = m1; m2 = m2; allowed1 = none; allowed2 = none }) both)
+
+-- start plus one: the pair of starts with f = 0, or none where a machine has no start
+pub starts :
+    (startOfWords (set sound 2 2) sound ≡ some (record { s1 = 1; s2 = 0; f = 0 }))
+    × (startOfWords (set sound 2 0) sound ≡ none)
+    × (startOfWords sound (set sound 2 0) ≡ none)
+unfolding startAt startWord
+starts = (refl, refl, refl)

@@ -1,15 +1,15 @@
 -- Lists along links: a turn, the end, the length; the records of a list rise, so that none stands in it twice.
 use mathlib.Core.Path.{_≡_, refl, ap}
-use mathlib.Core.Bool.{Bool, true, false, _&&_}
+use mathlib.Core.Bool.{Bool, true, false}
 use mathlib.Core.List.{List, [], _∷_, List·Memᴰ as In, List·Memᴰ·not-nil, List·Memᴰ·cases-cons}
 use mathlib.Core.Logic.{⊎-elim}
 use Prim.Native.Nat.{ℕ, zero, suc, _+_, _<_, _≤_}
 use native.Mathlib.Omega.{arith}
-use lib.Dec.{ltb, leb}
+use lib.Dec.{eqb, ltb, leb}
 use lib.ListN.{length}
-use borrow.Author.Tests.{ltb-true, leb-true}
+use borrow.Author.Tests.{eqb-true, ltb-true, leb-true}
 use Rattle.lists.specs.Lists.{Distinct}
-use Rattle.words.specs.Machines.{trCount, stateWord, trWord, firstOf, nextOf, listBy, listFrom, listOf}
+use Rattle.words.specs.Machines.{trCount, stateWord, trWord, firstOk, nextOk, firstOf, nextOf, listBy, listFrom, listOf}
 
 -- a link is 0, or rises and leads to a record
 pub record Link (at n last : ℕ) : Type 0 where
@@ -17,17 +17,18 @@ pub record Link (at n last : ℕ) : Type 0 where
   pub inside : n ≤ last
 
 pub link : (m : List ℕ) (t : ℕ) → Link t (nextOf m t) (trCount m)
-unfolding nextOf
-link m t = go (ltb t (trWord m t 4)) (leb (trWord m t 4) (trCount m)) refl refl
+unfolding nextOf nextOk
+link m t = go (eqb (trWord m t 4) 0) (ltb t (trWord m t 4)) (leb (trWord m t 4) (trCount m)) refl refl refl
   where
-    go : (a b : Bool) → ltb t (trWord m t 4) ≡ a → leb (trWord m t 4) (trCount m) ≡ b → Link t (nextOf m t) (trCount m)
-    go false b p q = rw p (record { rises = λ e. absurd (e refl); inside = omega arith })
-    go true false p q = rw (p, q) (record { rises = λ e. absurd (e refl); inside = omega arith })
-    go true true p q = rw (p, q) (record { rises = λ e. ltb-true _ _ p; inside = leb-true _ _ q })
+    go : (z a b : Bool) → eqb (trWord m t 4) 0 ≡ z → ltb t (trWord m t 4) ≡ a → leb (trWord m t 4) (trCount m) ≡ b → Link t (nextOf m t) (trCount m)
+    go true a b o p q = let e = eqb-true _ _ o in rw o (record { rises = λ d. absurd (d e); inside = omega arith })
+    go false false b o p q = rw (o, p) (record { rises = λ e. absurd (e refl); inside = omega arith })
+    go false true false o p q = rw (o, p, q) (record { rises = λ e. absurd (e refl); inside = omega arith })
+    go false true true o p q = rw (o, p, q) (record { rises = λ e. ltb-true _ _ p; inside = leb-true _ _ q })
 
 -- the first record of a state is one of the records
 pub first-inside : (m : List ℕ) (s : ℕ) → firstOf m s ≤ trCount m
-unfolding firstOf
+unfolding firstOf firstOk
 first-inside m s = go (leb (stateWord m s 0) (trCount m)) refl
   where
     go : (b : Bool) → leb (stateWord m s 0) (trCount m) ≡ b → firstOf m s ≤ trCount m

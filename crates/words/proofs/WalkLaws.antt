@@ -1,14 +1,14 @@
 -- The second paragraph of "Choosing the side", word for word, follows from the look-ups of which the walk is made.
-use mathlib.Core.Path.{_≡_, refl, sym, _∙_, ap, ap₂}
+use mathlib.Core.Path.{_≡_, refl, sym, ap, ap₂}
 use mathlib.Core.Bool.{Bool, true, false, not, _&&_, and-false, cond}
 use mathlib.Core.List.{List, [], _∷_, _++_, map, map-map, flatMap}
 use Prim.Native.Nat.{ℕ}
 use lib.Dec.{eqb}
-use borrow.Author.Tests.{eqb-true, eqb-false, eq-eqb, ne-eqb}
-use Rattle.words.specs.Labels.{epsLabel, noLabel, Checked, good, refused}
+use borrow.Author.Tests.{eqb-true, eqb-false, ne-eqb}
+use Rattle.words.specs.Labels.{epsLabel, noLabel, Checked, good}
 use Rattle.words.specs.Matches.{MatchType, Match, loop, own, labelled, sortedMatches}
-use Rattle.words.specs.Sigmas.{Sigma, Operand, inner, isSet, restMatches, otherwise, lookup}
-use Rattle.words.specs.Steps.{Move, walked, asks, moveOf, movesOf, walk}
+use Rattle.words.specs.Sigmas.{Operand, inner, restMatches, otherwise, lookup}
+use Rattle.words.specs.Steps.{Move, asks, moveOf, movesOf, walk}
 
 -- the epsilon transitions of a state on the inner side
 abbrev pub epsilons : Operand → ℕ → List ℕ

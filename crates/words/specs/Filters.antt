@@ -4,7 +4,7 @@ use mathlib.Core.Option.{Option, none, some}
 use Prim.Native.Nat.{ℕ, zero, suc}
 use lib.Dec.{eqb}
 use Rattle.lists.specs.Lists.{every}
-use Rattle.papers.specs.Filter.{MoveKind, lone1, lone2, bothEpsilon, aLabel, Facts, Filter}
+use Rattle.papers.specs.Filter.{lone1, lone2, bothEpsilon, aLabel, Facts, Filter}
 use Rattle.words.specs.Labels.{epsLabel}
 use Rattle.words.specs.Sigmas.{Operand, inner}
 
@@ -16,16 +16,17 @@ noneAt o s = every (λ t. not (eqb (inner o t) epsLabel)) (o .machine .list s)
 unfoldable pub allAt : Operand → ℕ → Bool
 allAt o s = every (λ t. eqb (inner o t) epsLabel) (o .machine .list s) && not (o .machine .isFinal s)
 
+-- "For machine i", in the present pair of states
 abbrev pub factsAt : Operand → Operand → ℕ → ℕ → Facts
 factsAt A B s1 s2 = record { none1 = noneAt A s1; all1 = allAt A s1; none2 = noneAt B s2; all2 = allAt B s2 }
 
--- "Order within a cell counts.": "all drop; none 0; else g"
+-- "Order within a cell counts." "all1 drop; none1 0; else 1", "all2 drop; none2 0; else 1": g is that 1
 abbrev pub allFirst : Bool → Bool → ℕ → Option ℕ
 allFirst true none? g = none
 allFirst false true g = some 0
 allFirst false false g = some g
 
--- "none 0, all drop, else g"
+-- "none2 0, all2 drop, else 1", "none1 0, all1 drop, else 2": g is that 1 or 2
 abbrev pub noneFirst : Bool → Bool → ℕ → Option ℕ
 noneFirst true all? g = some 0
 noneFirst false true g = none

@@ -1,10 +1,10 @@
--- Document 01 in its own order, as definitions that compute.
--- Opening and "Answers": words, labels, numbered refusals.
+-- Document 01 in its own order, as definitions that compute: machines, and one state of the composition. Memory, session, calls and the listing come above.
+-- First paragraph, and "Answers": words, labels, numbered refusals.
 pub mod Labels
 -- "From the leaves upward": weights; matches and the sorted look-up.
 pub mod Weights
 pub mod Matches
--- "A machine in words".
+-- "A machine in words", but for its last sentence (accepting paths and their exact weight: the papers' layer)
 pub mod Machines
 -- "Choosing the side", first paragraph.
 pub mod Sides
@@ -14,5 +14,5 @@ pub mod Filters
 pub mod Sigmas
 -- "Choosing the side", second paragraph: the moves of a triple in their order, its final weight.
 pub mod Steps
--- "Session and memory": the six settings.
+-- "Session and memory": the six settings, the machines and lists that every call is lent.
 pub mod Settings

@@ -39,13 +39,21 @@ stateWord m s k = getD m (6 + 3 * s + k) 0
 unfoldable pub trWord : List ℕ → ℕ → ℕ → ℕ
 trWord m t k = getD m (1 + 3 * stateCount m + 5 * t + k) 0
 
--- The first record of a state's list, and the record after t in its list; 0 ends the list. Read so that every list ends, whatever the words are: a first above T
--- and a next that does not rise, or is above T, are read as 0. Both are malformed below.
+-- "a first at most T"
+unfoldable pub firstOk : List ℕ → ℕ → Bool
+firstOk m s = leb (stateWord m s 0) (trCount m)
+
+-- "next is 0 or above its own number, up to T"
+unfoldable pub nextOk : List ℕ → ℕ → Bool
+nextOk m t = eqb (trWord m t 4) 0 || (ltb t (trWord m t 4) && leb (trWord m t 4) (trCount m))
+
+-- The first record of a state's list, and the record after t in its list; "0 ends the list". Where the word breaks the rule, which makes the machine malformed, it is read
+-- as 0: so every list ends, whatever the words are.
 unfoldable pub firstOf : List ℕ → ℕ → ℕ
-firstOf m s = cond (leb (stateWord m s 0) (trCount m)) (stateWord m s 0) 0
+firstOf m s = cond (firstOk m s) (stateWord m s 0) 0
 
 unfoldable pub nextOf : List ℕ → ℕ → ℕ
-nextOf m t = cond (ltb t (trWord m t 4) && leb (trWord m t 4) (trCount m)) (trWord m t 4) 0
+nextOf m t = cond (nextOk m t) (trWord m t 4) 0
 
 -- the list that begins with record t, at most k records of it
 unfoldable pub listBy : List ℕ → ℕ → ℕ → List ℕ
@@ -57,9 +65,11 @@ listBy m (suc k) (suc t) = suc t ∷ listBy m k (nextOf m (suc t))
 unfoldable pub listFrom : List ℕ → ℕ → List ℕ
 listFrom m t = listBy m (trCount m) t
 
+-- the list of state s, by record numbers
 unfoldable pub listOf : List ℕ → ℕ → List ℕ
 listOf m s = listFrom m (firstOf m s)
 
+-- "start plus one (0: no start)"
 abbrev pub lessOne : ℕ → Option ℕ
 lessOne zero = none
 lessOne (suc s) = some s
@@ -93,15 +103,11 @@ finalOk zero w = eqb w 0
 finalOk (suc zero) w = true
 finalOk (suc (suc n)) w = false
 
--- "a first at most T"
+-- the record of state s
 unfoldable pub stateOk : List ℕ → ℕ → Bool
-stateOk m s = leb (stateWord m s 0) (trCount m) && finalOk (stateWord m s 1) (stateWord m s 2)
+stateOk m s = firstOk m s && finalOk (stateWord m s 1) (stateWord m s 2)
 
--- "next is 0 or above its own number, up to T"
-unfoldable pub nextOk : List ℕ → ℕ → Bool
-nextOk m t = eqb (trWord m t 4) 0 || (ltb t (trWord m t 4) && leb (trWord m t 4) (trCount m))
-
--- "a target below S", no "label MAX"
+-- the record of transition t: no "label MAX", "a target below S"
 unfoldable pub trOk : List ℕ → ℕ → Bool
 trOk m t = ltb (trWord m t 0) noLabel && (ltb (trWord m t 1) noLabel && (ltb (trWord m t 3) (stateCount m) && nextOk m t))
 
@@ -122,6 +128,7 @@ acceptorMarkOk (suc (suc n)) fact = false
 unfoldable pub acceptor : List ℕ → Bool
 acceptor m = every (λ t. eqb (trWord m t 0) (trWord m t 1)) (interval 1 (trCount m))
 
+-- no "false mark"
 unfoldable pub marksOk : List ℕ → Bool
 marksOk m =
     sideMarkOk (sideMark inputs m) (sorted inputs (machineOf m))

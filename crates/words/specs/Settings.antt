@@ -4,12 +4,11 @@ use mathlib.Core.List.{List}
 use mathlib.Core.Option.{Option}
 use Prim.Native.Nat.{ℕ}
 use lib.Dec.{leb}
-use Rattle.words.specs.Labels.{Checked}
 use Rattle.words.specs.Weights.{kindOf}
 use Rattle.words.specs.Matches.{MatchType, inputs, outputs}
-use Rattle.words.specs.Machines.{acceptorMark, machineOf}
+use Rattle.words.specs.Machines.{sideMark, acceptorMark, machineOf}
 use Rattle.words.specs.Sigmas.{rewritesBoth, Operand}
-use Rattle.words.specs.Sides.{Side, sideOf}
+use Rattle.words.specs.Sides.{Side}
 use Rattle.words.specs.Filters.{filterOf}
 use Rattle.words.specs.Steps.{Composition}
 
@@ -36,7 +35,7 @@ lastMode = 2
 unfoldable pub settingsOk : Settings → Bool
 settingsOk s = leb (s .kind) lastKind && (leb (s .filter) lastFilter && (leb (s .mode1) lastMode && leb (s .mode2) lastMode))
 
--- the two machines and their allowed lists, lent at every call
+-- the two machines, and their allowed lists, "lent at every call and counted among the settings"
 pub record Lent : Type 0 where
   pub m1 : List ℕ
   pub m2 : List ℕ
@@ -46,18 +45,26 @@ pub record Lent : Type 0 where
 -- a machine's words as an operand
 abbrev pub operandOf : MatchType → List ℕ → ℕ → ℕ → Option (List ℕ) → Operand
 operandOf on m sigma mode allowed =
-    record { machine = machineOf m; on = on; sigma = record { label = sigma; rewriteBoth = rewritesBoth mode (acceptorMark m); allowed = allowed } }
+    record {
+      machine = machineOf m;
+      on = on;
+      mark = sideMark on m;
+      sigma = record { label = sigma; rewriteBoth = rewritesBoth mode (acceptorMark m); allowed = allowed };
+    }
 
 -- "Machine 1 is matched on outputs, 2 on inputs."
+abbrev pub operand1 : Settings → Lent → Operand
+operand1 s l = operandOf outputs (l .m1) (s .sigma1) (s .mode1) (l .allowed1)
+
+abbrev pub operand2 : Settings → Lent → Operand
+operand2 s l = operandOf inputs (l .m2) (s .sigma2) (s .mode2) (l .allowed2)
+
+-- the composition of two machines on a side
 abbrev pub compositionOf : Settings → Lent → Side → Composition
 compositionOf s l side = record {
   kind = kindOf (s .kind);
   filter = filterOf (s .filter);
   side = side;
-  operand1 = operandOf outputs (l .m1) (s .sigma1) (s .mode1) (l .allowed1);
-  operand2 = operandOf inputs (l .m2) (s .sigma2) (s .mode2) (l .allowed2);
+  operand1 = operand1 s l;
+  operand2 = operand2 s l;
 }
-
--- refusals 4 to 7, or the side
-abbrev pub chosenSide : Settings → Lent → Checked Side
-chosenSide s l = sideOf (s .sigma1) (s .sigma2) (l .m1) (l .m2)

@@ -4,10 +4,10 @@ use mathlib.Core.List.{List, [], _∷_}
 use Prim.Native.Nat.{ℕ}
 use lib.Dec.{eqb, leb}
 use lib.ListN.{length}
-use Rattle.words.specs.Labels.{epsLabel, noLabel, Checked, good, refused, refuseIf}
+use Rattle.words.specs.Labels.{epsLabel, Checked, good, refused, refuseIf}
 use Rattle.words.specs.Matches.{MatchType, inputs, outputs}
-use Rattle.words.specs.Machines.{sideMark, machineOf, sorted}
-use Rattle.words.specs.Sigmas.{Operand, sigmaTrs}
+use Rattle.words.specs.Machines.{sorted}
+use Rattle.words.specs.Sigmas.{Operand, isSet, sigmaTrs}
 
 -- the side of a composition: one direction in every state, or "both"
 pub data Side : Type 0 where
@@ -24,15 +24,19 @@ sideBy false false true fact2 = good (only outputs)
 sideBy false false false true = good (only inputs)
 sideBy false false false false = refused 7
 
--- Refusals 4 to 7 in their order: "a sigma label 0", "sigma on 1, outputs unsorted", "sigma on 2, inputs unsorted", "no side to match"; else the side.
-unfoldable pub sideOf : ℕ → ℕ → List ℕ → List ℕ → Checked Side
-sideOf sigma1 sigma2 m1 m2 =
-    refuseIf (eqb sigma1 epsLabel || eqb sigma2 epsLabel) 4
-    (refuseIf (not (eqb sigma1 noLabel) && not (sorted outputs (machineOf m1))) 5
-    (refuseIf (not (eqb sigma2 noLabel) && not (sorted inputs (machineOf m2))) 6
-    (sideBy (eqb (sideMark outputs m1) 1) (eqb (sideMark inputs m2) 1) (sorted outputs (machineOf m1)) (sorted inputs (machineOf m2)))))
+-- no label falls on the side on which the machine is matched
+abbrev pub inOrder : Operand → Bool
+inOrder o = sorted (o .on) (o .machine)
 
--- the state has a sigma transition
+-- Refusals 4 to 7 in their order: "a sigma label 0", "sigma on 1, outputs unsorted", "sigma on 2, inputs unsorted", "no side to match"; else the side.
+unfoldable pub sideOf : Operand → Operand → Checked Side
+sideOf A B =
+    refuseIf (eqb (A .sigma .label) epsLabel || eqb (B .sigma .label) epsLabel) 4
+    (refuseIf (isSet (A .sigma) && not (inOrder A)) 5
+    (refuseIf (isSet (B .sigma) && not (inOrder B)) 6
+    (sideBy (eqb (A .mark) 1) (eqb (B .mark) 1) (inOrder A) (inOrder B))))
+
+-- whether anything stands in the list
 abbrev pub nonEmpty : {A : Type 0} → List A → Bool
 nonEmpty [] = false
 nonEmpty (x ∷ xs) = true

@@ -15,16 +15,18 @@ pub record Sigma : Type 0 where
   pub rewriteBoth : Bool
   pub allowed : Option (List ℕ)
 
--- "Rewrite mode 1 replaces sigma on each side that holds it, 2 on the matched side alone, 0 as 1 if the acceptor mark is 1, else as 2."
+-- "Rewrite mode 1 replaces sigma on each side that holds it, 2 on the matched side alone, 0 as 1 if the acceptor mark is 1, else as 2."; another number is refused before it
+-- is read
 abbrev pub rewritesBoth : ℕ → ℕ → Bool
 rewritesBoth zero mark = eqb mark 1
 rewritesBoth (suc zero) mark = true
 rewritesBoth (suc (suc n)) mark = false
 
--- a machine of the composition: its words' meaning, the side on which it is matched, its sigma
+-- a machine of the composition: what its words hold, the side on which it is matched, its mark of that side, its sigma
 pub record Operand : Type 0 where
   pub machine : Machine
   pub on : MatchType
+  pub mark : ℕ
   pub sigma : Sigma
 
 -- the inner label of transition t
@@ -49,7 +51,7 @@ isSet σ = not (eqb (σ .label) noLabel)
 unfoldable pub sigmaTrs : Operand → ℕ → List ℕ
 sigmaTrs o s = cond (isSet (o .sigma)) (labelled (o .on) (o .machine) s (o .sigma .label)) []
 
--- "for a label neither 0 nor MAX and in the allowed list .., each sigma transition"
+-- "for a label neither 0 nor MAX and in the allowed list (no list: all; empty list: none), each sigma transition is given rewritten"
 unfoldable pub restMatches : Operand → ℕ → ℕ → List Match
 restMatches o s x = cond (not (eqb x epsLabel) && (not (eqb x noLabel) && isAllowed (o .sigma .allowed) x)) (map viaSigma (sigmaTrs o s)) []
 

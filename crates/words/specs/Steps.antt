@@ -1,10 +1,9 @@
 -- 01, "Choosing the side", second paragraph: the kept moves of a composed state in their order; and its final weight.
-use mathlib.Core.Bool.{Bool, true, false, _&&_, cond}
+use mathlib.Core.Bool.{_&&_, cond}
 use mathlib.Core.List.{List, [], _∷_, map, flatMap}
 use mathlib.Core.Option.{Option, none, some}
 use Prim.Native.Nat.{ℕ}
 use lib.Dec.{eqb}
-use Rattle.papers.specs.Machine.{Machine}
 use Rattle.papers.specs.Filter.{MoveKind, lone1, lone2, bothEpsilon, aLabel, Facts, Filter}
 use Rattle.words.specs.Labels.{epsLabel, noLabel, Checked, good, refused, andThen}
 use Rattle.words.specs.Weights.{Kind, times, isZero}
@@ -13,7 +12,7 @@ use Rattle.words.specs.Sigmas.{Operand, inner, lookup, given}
 use Rattle.words.specs.Sides.{Side, directionAt}
 use Rattle.words.specs.Filters.{factsAt}
 
--- what stays the same through a composition; machine 1 is matched on outputs, machine 2 on inputs
+-- what stays the same through a composition
 pub record Composition : Type 0 where
   pub kind : Kind
   pub filter : Filter
@@ -36,7 +35,7 @@ pub record Move : Type 0 where
 abbrev pub walked : Operand → ℕ → List Match
 walked o s = loop ∷ map own (o .machine .list s)
 
--- the label that the other machine is asked for: its epsilon transitions alone while this one rests, else the inner label
+-- The label that is asked of the other machine: MAX while this one rests, else this one's inner label. A walked machine has no sigma match: the last clause serves no walk.
 abbrev pub asks : Operand → Match → ℕ
 asks o loop = noLabel
 asks o (own t) = inner o t
@@ -61,21 +60,22 @@ abbrev pub movesAt : MatchType → Operand → Operand → ℕ → ℕ → List 
 movesAt inputs A B s1 s2 = walk inputs A s1 B s2
 movesAt outputs A B s1 s2 = walk outputs B s2 A s1
 
--- the row of the filters' table
-abbrev pub kindOfMove : Operand → Match → Match → MoveKind
-kindOfMove A a loop = lone1
-kindOfMove A loop (own u) = lone2
-kindOfMove A loop (viaSigma u) = lone2
-kindOfMove A (own t) (own u) = cond (eqb (inner A t) epsLabel) bothEpsilon aLabel
-kindOfMove A (own t) (viaSigma u) = aLabel
-kindOfMove A (viaSigma t) (own u) = aLabel
-kindOfMove A (viaSigma t) (viaSigma u) = aLabel
+-- The row of the filters' table. Two machines at rest, and two sigma matches, never meet: one machine is walked.
+abbrev pub moveKind : Operand → Match → Match → MoveKind
+moveKind A a loop = lone1
+moveKind A loop (own u) = lone2
+moveKind A loop (viaSigma u) = lone2
+moveKind A (own t) (own u) = cond (eqb (inner A t) epsLabel) bothEpsilon aLabel
+moveKind A (own t) (viaSigma u) = aLabel
+moveKind A (viaSigma t) (own u) = aLabel
+moveKind A (viaSigma t) (viaSigma u) = aLabel
 
 -- a move that the filter keeps, with the next f
 pub record Kept : Type 0 where
   pub move : Move
   pub next : ℕ
 
+-- the cell of the filters' table: a move is kept with the next f, or dropped
 abbrev pub keptBy : Move → Option ℕ → List (Checked Kept)
 keptBy v none = []
 keptBy v (some g) = good (record { move = v; next = g }) ∷ []
@@ -83,17 +83,18 @@ keptBy v (some g) = good (record { move = v; next = g }) ∷ []
 -- a refusal stays at its place; a dropped move is left out
 abbrev pub keep : Filter → Operand → Facts → ℕ → Checked Move → List (Checked Kept)
 keep filter A φ f (refused n) = refused n ∷ []
-keep filter A φ f (good v) = keptBy v (filter (kindOfMove A (v .first) (v .second)) φ f)
+keep filter A φ f (good v) = keptBy v (filter (moveKind A (v .first) (v .second)) φ f)
 
 -- the kept moves of a composed state, in the direction given
 unfoldable pub keptAlong : Composition → Triple → MatchType → List (Checked Kept)
 keptAlong c s d = flatMap (keep (c .filter) (c .operand1) (factsAt (c .operand1) (c .operand2) (s .s1) (s .s2)) (s .f)) (movesAt d (c .operand1) (c .operand2) (s .s1) (s .s2))
 
--- refusal 10 alone, or the kept moves with each refusal 11 at its place; nothing after a refusal counts
+-- refusal 10 alone, or the kept moves with each refusal 11 at its place
 abbrev pub keptIn : Composition → Triple → Checked MatchType → List (Checked Kept)
 keptIn c s (refused n) = refused n ∷ []
 keptIn c s (good d) = keptAlong c s d
 
+-- the kept moves of a composed state
 unfoldable pub keptAt : Composition → Triple → List (Checked Kept)
 keptAt c s = keptIn c s (directionAt (c .side) (c .operand1) (c .operand2) (s .s1) (s .s2))
 
@@ -109,14 +110,15 @@ abbrev pub weighed : Tr → Tr → ℕ → Option ℕ → Checked Step
 weighed a b g none = refused 12
 weighed a b g (some w) = good (record { input = a .input; output = b .output; weight = w; to = record { s1 = a .target; s2 = b .target; f = g } })
 
--- a sigma transition serves the label that the other machine asks for
+-- a sigma match is rewritten for the label that the other machine asked for; no other match looks at that label
 unfoldable pub stepOf : Composition → Triple → Kept → Checked Step
 stepOf c s k =
     let a = given (c .kind) (c .operand1) (s .s1) (asks (c .operand2) (k .move .second)) (k .move .first) in
     let b = given (c .kind) (c .operand2) (s .s2) (asks (c .operand1) (k .move .first)) (k .move .second) in
     weighed a b (k .next) (times (c .kind) (a .weight) (b .weight))
 
--- The composed transitions of a state in 01's order. A refusal stands at its place: 10 alone, 11 before a walked label's matches, 12 for a kept move.
+-- The composed transitions of a state in 01's order. A refusal stands at its place: 10 alone, 11 before a walked label's matches, 12 for a kept move. The expansion is refused
+-- by the first of them (`collect`), unless a record is lacking before it.
 unfoldable pub stepsAt : Composition → Triple → List (Checked Step)
 stepsAt c s = map (λ k. andThen k (stepOf c s)) (keptAt c s)
 
