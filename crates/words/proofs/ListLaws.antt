@@ -1,6 +1,6 @@
 -- Lists along links: a turn, the end, the length; the records of a list rise, so that none stands in it twice.
 use mathlib.Core.Path.{_≡_, refl, ap}
-use mathlib.Core.Bool.{Bool, true, false}
+use mathlib.Core.Bool.{Bool, true, false, _&&_, _||_, cond}
 use mathlib.Core.List.{List, [], _∷_, List·Memᴰ as In, List·Memᴰ·not-nil, List·Memᴰ·cases-cons}
 use mathlib.Core.Logic.{⊎-elim}
 use Prim.Native.Nat.{ℕ, zero, suc, _+_, _<_, _≤_}
@@ -16,15 +16,23 @@ pub record Link (at n last : ℕ) : Type 0 where
   pub rises : (n ≡ 0 → ⊥) → at < n
   pub inside : n ≤ last
 
-pub link : (m : List ℕ) (t : ℕ) → Link t (nextOf m t) (trCount m)
+-- the handy form of a link for code: one that does not rise, or leads past the last record, is 0
+pub next-guarded : (m : List ℕ) (t : ℕ) → nextOf m t ≡ cond (ltb t (trWord m t 4) && leb (trWord m t 4) (trCount m)) (trWord m t 4) 0
 unfolding nextOf nextOk
-link m t = go (eqb (trWord m t 4) 0) (ltb t (trWord m t 4)) (leb (trWord m t 4) (trCount m)) refl refl refl
+next-guarded m t = go (eqb (trWord m t 4) 0) (ltb t (trWord m t 4) && leb (trWord m t 4) (trCount m)) refl
   where
-    go : (z a b : Bool) → eqb (trWord m t 4) 0 ≡ z → ltb t (trWord m t 4) ≡ a → leb (trWord m t 4) (trCount m) ≡ b → Link t (nextOf m t) (trCount m)
-    go true a b o p q = let e = eqb-true _ _ o in rw o (record { rises = λ d. absurd (d e); inside = omega arith })
-    go false false b o p q = rw (o, p) (record { rises = λ e. absurd (e refl); inside = omega arith })
-    go false true false o p q = rw (o, p, q) (record { rises = λ e. absurd (e refl); inside = omega arith })
-    go false true true o p q = rw (o, p, q) (record { rises = λ e. ltb-true _ _ p; inside = leb-true _ _ q })
+    go : (z b : Bool) → eqb (trWord m t 4) 0 ≡ z → cond (z || b) (trWord m t 4) 0 ≡ cond b (trWord m t 4) 0
+    go false b o = refl
+    go true true o = refl
+    go true false o = eqb-true _ _ o
+
+pub link : (m : List ℕ) (t : ℕ) → Link t (nextOf m t) (trCount m)
+link m t = rw next-guarded (go (ltb t (trWord m t 4)) (leb (trWord m t 4) (trCount m)) refl refl)
+  where
+    go : (a b : Bool) → ltb t (trWord m t 4) ≡ a → leb (trWord m t 4) (trCount m) ≡ b → Link t (cond (a && b) (trWord m t 4) 0) (trCount m)
+    go false b p q = record { rises = λ e. absurd (e refl); inside = omega arith }
+    go true false p q = record { rises = λ e. absurd (e refl); inside = omega arith }
+    go true true p q = record { rises = λ e. ltb-true _ _ p; inside = leb-true _ _ q }
 
 -- the first record of a state is one of the records
 pub first-inside : (m : List ℕ) (s : ℕ) → firstOf m s ≤ trCount m
