@@ -1,6 +1,6 @@
 -- What is in a list that was joined or kept from, and what holds for every one of a list. Of _++_ and map the library has it.
 use mathlib.Core.Path.{_≡_, refl, _∙_, ap}
-use mathlib.Core.Bool.{Bool, true, false, _&&_}
+use mathlib.Core.Bool.{Bool, true, false, _&&_, and-eq-true-iff}
 use mathlib.Core.List.{List, [], _∷_, flatMap, List·Memᴰ as In, List·Memᴰ·head as here, List·Memᴰ·tail as there, Memᴰ·append-left, Memᴰ·append-right, List·Memᴰ·append-cases, List·Memᴰ·not-nil, List·Memᴰ·cases-cons}
 use mathlib.Core.Logic.{⊎-elim}
 use Prim.Native.Nat.{ℕ, zero, suc, _+_, _≤_, _<_}
@@ -8,17 +8,12 @@ use native.Mathlib.Omega.{arith}
 use native.Mathlib.Decide.{ℕ-discrete}
 use Rattle.lists.specs.Lists.{putIf, keepIf, every, interval}
 
+-- the halves of an `&&` that is true, by the library's `and-eq-true-iff`
 pub and-left : (a b : Bool) → a && b ≡ true → a ≡ true
-and-left true b e = refl
-and-left false b e = e
+and-left a b e = and-eq-true-iff a b .0 e .0
 
 pub and-right : (a b : Bool) → a && b ≡ true → b ≡ true
-and-right true b e = e
-and-right false b e = cc
-
-pub and-true : (a b : Bool) → a ≡ true → b ≡ true → a && b ≡ true
-and-true true b p q = q
-and-true false b p q = p
+and-right a b e = and-eq-true-iff a b .0 e .1
 
 pub in-flat : {A B : Type 0} (g : A → List B) {l : List A} {a : A} {b : B} → In a l → In b (g a) → In b (flatMap g l)
 unfolding flatMap
@@ -59,7 +54,7 @@ every-in P h (there {x = x} i) = every-in P (and-right (P x) _ h) i
 pub every-of : {A : Type 0} (P : A → Bool) (l : List A) → ((a : A) → In a l → P a ≡ true) → every P l ≡ true
 unfolding every
 every-of P [] h = refl
-every-of P (x ∷ xs) h = and-true (P x) _ (h x (here refl)) (every-of P xs (λ a i. h a (there i)))
+every-of P (x ∷ xs) h = and-eq-true-iff (P x) (every P xs) .1 (h x (here refl), every-of P xs (λ a i. h a (there i)))
 
 -- the numbers of an interval are those from s up to s + n
 pub in-interval : (s n i : ℕ) → s ≤ i → i < s + n → In i (interval s n)

@@ -16,9 +16,6 @@ pub in-at : {A : Type 0} {l : List A} {a : A} → In a l → (k : ℕ) × At l k
 in-at (here e) = (0, ap some (sym e))
 in-at (there h) = let r = in-at h in (suc (r .0), r .1)
 
-pub at-one : {A : Type 0} (l : List A) (k : ℕ) {a b : A} → At l k a → At l k b → a ≡ b
-at-one l k h i = cc
-
 pub at-length : {A : Type 0} (l : List A) (k : ℕ) {a : A} → At l k a → k < length l
 at-length [] k h = absurd (Option·none-ne-some _ h)
 at-length (x ∷ xs) zero h = omega arith

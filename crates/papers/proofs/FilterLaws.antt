@@ -1,5 +1,5 @@
--- What a filter must satisfy so that it leaves exactly one composed path for each pair of paths: a test that the checker computes, and the laws that follow
--- from it. Of a path from a state, all that the laws look at is whether its first transition has ε on the inner side ("begins with ε").
+-- The laws of a filter, from which it is to follow that it leaves exactly one composed path for each pair of paths: a test that the checker computes, and the laws that
+-- follow from the test. Of a path from a state, all that the laws look at is whether its first transition has ε on the inner side ("begins with ε").
 use mathlib.Core.Path.{_≡_, refl, sym, _∙_, ap₂}
 use mathlib.Core.Bool.{Bool, true, false, not, Bool·beq, false≢true}
 use mathlib.Core.Option.{Option, none, some}

@@ -5,4 +5,4 @@ pub mod WalkLaws
 pub mod Cases
 pub mod RustCases
 pub mod Tables
-pub mod Formed
+pub mod ClosedCases
