@@ -2,7 +2,7 @@
 use mathlib.Core.Path.{_≡_}
 use mathlib.Core.Bool.{Bool, true, false, _&&_}
 use mathlib.Core.List.{List, [], _∷_, List·Memᴰ}
-use mathlib.Core.Option.{some}
+use mathlib.Core.Option.{Option, none, some}
 use Prim.Native.Nat.{ℕ, zero, suc}
 use lib.ListN.{getElem?}
 use lib.Seq.{sets}
@@ -39,3 +39,18 @@ interval s (suc n) = s ∷ interval (suc s) n
 -- s with the words of r written from index `at` on; what does not fit is not written. The library's `sets`, shut, so that a proof finds its arguments.
 unfoldable pub put : List ℕ → ℕ → List ℕ → List ℕ
 put s at r = sets s at r
+
+-- the first of l for which P holds
+abbrev pub firstIf : {A : Type 0} → Bool → A → Option A → Option A
+firstIf true x others = some x
+firstIf false x others = others
+
+unfoldable pub first : {A : Type 0} → (A → Bool) → List A → Option A
+first P [] = none
+first P (x ∷ xs) = firstIf (P x) x (first P xs)
+
+-- The places along links: the link n + 1 leads to place n, whose own link is `next n`, and 0 ends; at most k places.
+unfoldable pub linked : (ℕ → ℕ) → ℕ → ℕ → List ℕ
+linked next zero link = []
+linked next (suc k) zero = []
+linked next (suc k) (suc n) = n ∷ linked next k (next n)

@@ -1,0 +1,6 @@
+pub mod Store
+pub mod Forms
+pub mod Checks
+pub mod Calls
+pub mod Sequences
+pub mod Listing
