@@ -4,3 +4,4 @@ pub mod Places
 pub mod Once
 pub mod Put
 pub mod Compare
+pub mod Links

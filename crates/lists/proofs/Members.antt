@@ -1,8 +1,8 @@
 -- What is in a list that was joined or kept from, and what holds for every one of a list. Of _++_ and map the library has it.
 use mathlib.Core.Path.{_≡_, refl, _∙_, ap}
-use mathlib.Core.Bool.{Bool, true, false, _&&_, and-eq-true-iff}
+use mathlib.Core.Bool.{Bool, true, false, _&&_, _||_, and-eq-true-iff}
 use mathlib.Core.List.{List, [], _∷_, flatMap, List·Memᴰ as In, List·Memᴰ·head as here, List·Memᴰ·tail as there, Memᴰ·append-left, Memᴰ·append-right, List·Memᴰ·append-cases, List·Memᴰ·not-nil, List·Memᴰ·cases-cons}
-use mathlib.Core.Logic.{⊎-elim}
+use mathlib.Core.Logic.{_⊎_, inl, inr, ⊎-elim}
 use Prim.Native.Nat.{ℕ, zero, suc, _+_, _≤_, _<_}
 use native.Mathlib.Omega.{arith}
 use native.Mathlib.Decide.{ℕ-discrete}
@@ -14,6 +14,19 @@ and-left a b e = and-eq-true-iff a b .0 e .0
 
 pub and-right : (a b : Bool) → a && b ≡ true → b ≡ true
 and-right a b e = and-eq-true-iff a b .0 e .1
+
+-- the halves of an `||` that is true; the library's `or-eq-true-iff` does not say which
+pub or-cases : (a b : Bool) → a || b ≡ true → (a ≡ true) ⊎ (b ≡ true)
+or-cases true b e = inl refl
+or-cases false b e = inr e
+
+pub or-left : (a b : Bool) → a ≡ true → a || b ≡ true
+or-left true b e = refl
+or-left false b e = cc
+
+pub or-right : (a b : Bool) → b ≡ true → a || b ≡ true
+or-right true b e = refl
+or-right false b e = e
 
 pub in-flat : {A B : Type 0} (g : A → List B) {l : List A} {a : A} {b : B} → In a l → In b (g a) → In b (flatMap g l)
 unfolding flatMap

@@ -1,11 +1,13 @@
 -- Places in a list.
 use mathlib.Core.Path.{_≡_, refl, sym, ap}
+use mathlib.Core.Bool.{Bool, true, _&&_, and-eq-true-iff}
 use mathlib.Core.List.{List, [], _∷_, _++_, map, List·Memᴰ as In, List·Memᴰ·head as here, List·Memᴰ·tail as there}
 use mathlib.Core.Option.{some, Option·none-ne-some, Option·some-injective}
 use Prim.Native.Nat.{ℕ, zero, suc, _<_}
 use native.Mathlib.Omega.{arith}
-use lib.ListN.{length}
-use Rattle.lists.specs.Lists.{At}
+use lib.ListN.{length, getD}
+use Rattle.lists.specs.Lists.{At, every}
+use Rattle.lists.proofs.Members.{and-left, and-right}
 
 pub at-in : {A : Type 0} (l : List A) (k : ℕ) {a : A} → At l k a → In a l
 at-in [] k h = absurd (Option·none-ne-some _ h)
@@ -39,3 +41,15 @@ at-left (x ∷ xs) ys (suc k) h = at-left xs ys k h
 pub at-end : {A : Type 0} (xs : List A) (a : A) → At (xs ++ (a ∷ [])) (length xs) a
 at-end [] a = refl
 at-end (x ∷ xs) a = at-end xs a
+
+-- what holds for all of a list, by places
+pub every-get : {A : Type 0} (P : A → Bool) (l : List A) (k : ℕ) (d : A) → every P l ≡ true → k < length l → P (getD l k d) ≡ true
+unfolding every
+every-get P [] k d e h = absurd (omega arith)
+every-get P (x ∷ xs) zero d e h = and-left (P x) _ e
+every-get P (x ∷ xs) (suc k) d e h = every-get P xs k d (and-right (P x) _ e) (omega arith)
+
+pub every-by : {A : Type 0} (P : A → Bool) (l : List A) (d : A) → ((k : ℕ) → k < length l → P (getD l k d) ≡ true) → every P l ≡ true
+unfolding every
+every-by P [] d h = refl
+every-by P (x ∷ xs) d h = and-eq-true-iff (P x) (every P xs) .1 (h 0 (omega arith), every-by P xs d (λ k i. h (suc k) (omega arith)))

@@ -6,3 +6,4 @@ pub mod Cases
 pub mod RustCases
 pub mod Tables
 pub mod ClosedCases
+pub mod CheckedLaws

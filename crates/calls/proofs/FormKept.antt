@@ -1,0 +1,159 @@
+-- An accepted expansion keeps form, on any memory in form: a new state, a new transition and the mark each keep it, and every target of a kept move is in range.
+use mathlib.Core.Path.{_≡_, refl, sym, _∙_, ap, subst}
+use mathlib.Core.Bool.{Bool, true, false}
+use mathlib.Core.List.{List, [], _∷_}
+use mathlib.Core.Logic.{_⊎_, inl, inr, ⊎-elim, _≢_}
+use Prim.Native.Nat.{ℕ, zero, suc, _+_, _*_, _≤_, _<_}
+use native.Mathlib.Nat.{add-zero}
+use native.Mathlib.Omega.{arith}
+use native.Mathlib.Decide.{ℕ-discrete, decLt}
+use lib.ListN.{length, getD, set, length-set}
+use lib.Seq.{getD-set-same, getD-set-other}
+use Rattle.lists.specs.Lists.{put}
+use Rattle.lists.proofs.Put.{length-put, put-before, put-after, put-in}
+use Rattle.words.specs.Steps.{Triple, Step}
+use Rattle.calls.specs.Store.{Memory, Used, Store, roomOf, stateRoom, trRoom, stateField, tripleAt, expandedAt, firstAt, nextAt, trField, targetAt, trNextAt, slot, headOf, stateRecord, add, trRecord, append, mark}
+use Rattle.calls.proofs.RecordLaws.{room-words, room-same}
+use Rattle.calls.proofs.StoreForms.{InRange, StateForm, TrForm, Form}
+use Rattle.calls.proofs.ChainLaws.{add-field, add-new, add-triple, add-holds, slot-in}
+
+-- the words of a state's record that form looks at, taken over from a record with the same ones
+moved : {S1 S2 : ℕ} (ss rr : List ℕ) (trs more n : ℕ) → trs ≤ more → ((k : ℕ) → k < 5 → stateField rr n k ≡ stateField ss n k) → StateForm S1 S2 ss trs n → StateForm S1 S2 rr more n
+unfolding tripleAt expandedAt firstAt nextAt
+moved ss rr trs more n h e s = record {
+  triple = rw (e 0 (omega arith), e 1 (omega arith)) (s .triple);
+  expanded = rw (e 2 (omega arith)) (s .expanded);
+  unexpanded = rw (e 2 (omega arith), e 3 (omega arith)) (s .unexpanded);
+  first = rw (e 3 (omega arith)) (omega (arith, s .first));
+  next = rw (e 4 (omega arith)) (s .next);
+}
+
+module _ {S1 S2 : ℕ} (narrow : S2 ≤ 65535) (d : Store) {last : ℕ} (form : Form S1 S2 d last) where
+  abbrev U : ℕ
+  U = d .used .states
+
+  -- a new state: its record and its head are in form, the others stay
+  module _ (t : Triple) (ok : InRange S1 S2 t) (room : U < stateRoom (d .memory)) (headed : 0 < length (d .memory .heads)) where
+    abbrev few : t .s2 < 65536
+    few = omega (arith, narrow, ok .s2)
+
+    abbrev ss : List ℕ
+    ss = add d t .memory .states
+
+    new-head : (h : ℕ) → Dec (h ≡ slot (d .memory .heads) t) → getD (add d t .memory .heads) h 0 ≤ U + 1
+    unfolding add
+    new-head h (yes e) = rw (e, getD-set-same (d .memory .heads) (slot (d .memory .heads) t) (U + 1) 0 (slot-in (d .memory .heads) t headed)) (omega arith)
+    new-head h (no e) = let l = form .head h in rw (getD-set-other (d .memory .heads) (slot (d .memory .heads) t) h (U + 1) 0 e) (omega arith)
+
+    new-state : StateForm S1 S2 ss (d .used .trs) U
+    unfolding expandedAt firstAt nextAt headOf
+    new-state = record {
+      triple = rw (add-holds d form t few room headed) ok;
+      expanded = rw (add-new d form t few room headed 2 (omega arith)) (omega arith);
+      unexpanded = inr (add-new d form t few room headed 3 (omega arith));
+      first = rw (add-new d form t few room headed 3 (omega arith)) (omega arith);
+      next = rw (add-new d form t few room headed 4 (omega arith)) (form .head (slot (d .memory .heads) t));
+    }
+
+    each-state : (n : ℕ) → n < U + 1 → Dec (n < U) → StateForm S1 S2 ss (d .used .trs) n
+    each-state n h (yes l) = moved (d .memory .states) ss (d .used .trs) (d .used .trs) n (omega arith) (λ k i. add-field d form t few room headed n k l i) (form .state n l)
+    each-state n h (no l) = let e : n ≡ U = omega arith in rw e new-state
+
+    pub add-form : Form S1 S2 (add d t) last
+    unfolding add stateRoom trRoom
+    add-form = record {
+      states-fit = rw (room-same 5 (d .memory .states) (add d t .memory .states) (length-put (d .memory .states) (5 * U) (stateRecord t (headOf (d .memory .heads) t)))) (omega (arith, room));
+      trs-fit = form .trs-fit;
+      head = λ h. new-head h (ℕ-discrete h (slot (d .memory .heads) t));
+      headed = λ _. rw length-set headed;
+      state = λ n h. each-state n h (decLt n U);
+      tr = λ i h. let r = form .tr i h in record { target = omega (arith, r .target); next = r .next };
+    }
+
+  -- a new transition: the others' words stay
+  module _ (st : Step) (target next : ℕ) (used : target < U) (room : d .used .trs < trRoom (d .memory)) (linked : (next ≡ 0) ⊎ ((next ≡ d .used .trs + 2) × (d .used .trs + 1 < last))) where
+    abbrev T : ℕ
+    T = d .used .trs
+
+    abbrev ts : List ℕ
+    ts = append d st target next .memory .trs
+
+    old-tr : (i k : ℕ) → i < T → k < 5 → trField ts i k ≡ trField (d .memory .trs) i k
+    unfolding append trField
+    old-tr i k h l = put-before (d .memory .trs) (5 * T) (trRecord st target next) (5 * i + k) 0 (omega arith)
+
+    pub append-new : (k : ℕ) → k < 5 → trField ts T k ≡ getD (trRecord st target next) k 0
+    unfolding append trField trRoom
+    append-new k h = let r = room-words (d .memory .trs) (suc T) room in put-in (d .memory .trs) (5 * T) (trRecord st target next) k 0 h (omega (arith, r .1))
+
+    each-tr : (i : ℕ) → i < T + 1 → Dec (i < T) → TrForm ts U last i
+    unfolding targetAt trNextAt
+    each-tr i h (yes l) = let r = form .tr i l in record { target = rw (old-tr i 3 l (omega arith)) (r .target); next = rw (old-tr i 4 l (omega arith)) (r .next) }
+    each-tr i h (no l) = let e : i ≡ T = omega arith in rw e (record { target = rw (append-new 3 (omega arith)) used; next = rw (append-new 4 (omega arith)) linked })
+
+    pub append-form : Form S1 S2 (append d st target next) last
+    unfolding append stateRoom trRoom
+    append-form = record {
+      states-fit = form .states-fit;
+      trs-fit = rw (room-same 5 (d .memory .trs) (append d st target next .memory .trs) (length-put (d .memory .trs) (5 * T) (trRecord st target next))) (omega (arith, room));
+      head = form .head;
+      headed = form .headed;
+      state = λ n h. moved (d .memory .states) (d .memory .states) T (T + 1) n (omega arith) (λ k l. refl) (form .state n h);
+      tr = λ i h. each-tr i h (decLt i T);
+    }
+
+  -- the mark of an expanded state: its other words and all other records stay
+  module _ (n first : ℕ) (found : n < U) (within : first ≤ d .used .trs) where
+    abbrev ms : List ℕ
+    ms = mark d n first .memory .states
+
+    fit : 5 * n + 5 ≤ length (d .memory .states)
+    unfolding stateRoom
+    fit = let r = room-words (d .memory .states) U (form .states-fit) in omega (arith, r .1)
+
+    pub mark-other : (m k : ℕ) → m ≢ n → k < 5 → stateField ms m k ≡ stateField (d .memory .states) m k
+    unfolding mark stateField
+    mark-other m k e h = go (decLt m n)
+      where
+        go : Dec (m < n) → getD (put (d .memory .states) (5 * n + 2) (1 ∷ first ∷ [])) (5 * m + k) 0 ≡ getD (d .memory .states) (5 * m + k) 0
+        go (yes l) = put-before (d .memory .states) (5 * n + 2) (1 ∷ first ∷ []) (5 * m + k) 0 (omega arith)
+        go (no l) = let g : n < m = omega (arith, e) in put-after (d .memory .states) (5 * n + 2) (1 ∷ first ∷ []) (5 * m + k) 0 (omega arith)
+
+    pub mark-triple : tripleAt ms n ≡ tripleAt (d .memory .states) n
+    unfolding mark tripleAt stateField
+    mark-triple = rw (put-before (d .memory .states) (5 * n + 2) (1 ∷ first ∷ []) (5 * n + 0) 0 (omega arith), put-before (d .memory .states) (5 * n + 2) (1 ∷ first ∷ []) (5 * n + 1) 0 (omega arith))
+
+    pub mark-next : nextAt ms n ≡ nextAt (d .memory .states) n
+    unfolding mark nextAt stateField
+    mark-next = put-after (d .memory .states) (5 * n + 2) (1 ∷ first ∷ []) (5 * n + 4) 0 (omega arith)
+
+    pub mark-expanded : expandedAt ms n ≡ 1
+    unfolding mark expandedAt stateField
+    mark-expanded = ap (λ i. getD ms i 0) (omega arith) ∙ put-in (d .memory .states) (5 * n + 2) (1 ∷ first ∷ []) 0 0 (omega arith) (omega (arith, fit))
+
+    pub mark-first : firstAt ms n ≡ first
+    unfolding mark firstAt stateField
+    mark-first = ap (λ i. getD ms i 0) (omega arith) ∙ put-in (d .memory .states) (5 * n + 2) (1 ∷ first ∷ []) 1 0 (omega arith) (omega (arith, fit))
+
+    marked-state : (m : ℕ) → m < U → Dec (m ≡ n) → StateForm S1 S2 ms (d .used .trs) m
+    marked-state m h (no e) = moved (d .memory .states) ms (d .used .trs) (d .used .trs) m (omega arith) (λ k l. mark-other m k e l) (form .state m h)
+    marked-state m h (yes e) =
+        let s = form .state n found in
+        rw e (record {
+          triple = rw mark-triple (s .triple);
+          expanded = rw mark-expanded (omega arith);
+          unexpanded = inl mark-expanded;
+          first = rw mark-first within;
+          next = rw mark-next (s .next);
+        })
+
+    pub mark-form : Form S1 S2 (mark d n first) last
+    unfolding mark stateRoom trRoom
+    mark-form = record {
+      states-fit = rw (room-same 5 (d .memory .states) (mark d n first .memory .states) (length-put (d .memory .states) (5 * n + 2) (1 ∷ first ∷ []))) (form .states-fit);
+      trs-fit = form .trs-fit;
+      head = form .head;
+      headed = form .headed;
+      state = λ m h. marked-state m h (ℕ-discrete m n);
+      tr = form .tr;
+    }
