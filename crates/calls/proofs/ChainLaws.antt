@@ -113,7 +113,7 @@ module _ {S1 S2 : ℕ} (d : Store) {last : ℕ} (form : Form S1 S2 d last) where
     add-chain-same u e =
         let hs = d .memory .heads in
         let hd : getD (set hs (slot hs t) (U + 1)) (slot (set hs (slot hs t) (U + 1)) u) 0 ≡ suc U
-            = rw (slot-same, e) (getD-set-same hs (slot hs t) (U + 1) 0 (slot-in hs t headed) ∙ add-one U) in
+        = rw (slot-same, e) (getD-set-same hs (slot hs t) (U + 1) 0 (slot-in hs t headed) ∙ add-one U) in
         let nx : nextAt ss U ≡ headOf hs u = add-new 4 (omega arith) ∙ ap (λ i. getD hs i 0) (sym e) in
         rw (hd, add-one)
         (ap (λ (l : List ℕ). U ∷ l)
@@ -125,7 +125,7 @@ module _ {S1 S2 : ℕ} (d : Store) {last : ℕ} (form : Form S1 S2 d last) where
     add-chain-other u e =
         let hs = d .memory .heads in
         let hd : getD (set hs (slot hs t) (U + 1)) (slot (set hs (slot hs t) (U + 1)) u) 0 ≡ headOf hs u
-            = rw slot-same (getD-set-other hs (slot hs t) (slot hs u) (U + 1) 0 e) in
+        = rw slot-same (getD-set-other hs (slot hs t) (slot hs u) (U + 1) 0 e) in
         let low = head-low u in
         ap (linked (nextAt ss) (U + 1)) hd ∙ linked-same (nextAt (d .memory .states)) (nextAt ss) U (U + 1) U (headOf hs u) falls next-old low (omega (arith, low)) low
 

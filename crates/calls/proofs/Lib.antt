@@ -1,8 +1,13 @@
 pub mod Cases
 pub mod StarCases
+pub mod CallCases
+pub mod Refusals
 pub mod RecordLaws
 pub mod StoreForms
 pub mod ChainLaws
 pub mod FormKept
 pub mod StepsKept
 pub mod ExpandKept
+pub mod OpenKept
+pub mod RunLaws
+pub mod StepsStay

@@ -48,7 +48,7 @@ pub record Form (S1 S2 : ℕ) (d : Store) (last : ℕ) : Type 0 where
 join : {a b : Bool} → a ≡ true → b ≡ true → a && b ≡ true
 join {a} {b} p q = and-eq-true-iff a b .1 (p, q)
 
-some-head : (l : List ℕ) → nonEmpty l ≡ true → 0 < length l
+pub some-head : (l : List ℕ) → nonEmpty l ≡ true → 0 < length l
 some-head [] e = absurd (false≢true e)
 some-head (x ∷ xs) e = omega arith
 
@@ -105,8 +105,8 @@ module _ (S1 S2 : ℕ) (d : Store) where
       record {
         target = ltb-true _ _ (and-left (ltb (targetAt ts i) U) _ e);
         next =
-          ⊎-elim (λ p. inl (eqb-true _ _ p)) (λ p. inr (eqb-true _ _ (and-left (eqb (trNextAt ts i) (i + 2)) _ p), ltb-true _ _ (and-right (eqb (trNextAt ts i) (i + 2)) _ p)))
-          (or-cases (eqb (trNextAt ts i) 0) (eqb (trNextAt ts i) (i + 2) && ltb (i + 1) V′) o);
+            ⊎-elim (λ p. inl (eqb-true _ _ p)) (λ p. inr (eqb-true _ _ (and-left (eqb (trNextAt ts i) (i + 2)) _ p), ltb-true _ _ (and-right (eqb (trNextAt ts i) (i + 2)) _ p)))
+            (or-cases (eqb (trNextAt ts i) 0) (eqb (trNextAt ts i) (i + 2) && ltb (i + 1) V′) o);
       }
 
   of-tr-form : (i : ℕ) → TrForm ts U V′ i → trFormOk d i ≡ true
@@ -159,6 +159,6 @@ module _ (S1 S2 : ℕ) (d : Store) where
   of-form h = (
     join (le-leb _ _ (h .states-fit)) (le-leb _ _ (h .trs-fit)),
     join (heads-ok h)
-    (join (every-of (stateFormOk S1 S2 d) (interval 0 U) (λ n i. let b = of-interval 0 U i in of-state-form n (h .state n (omega (arith, b .1)))))
-    (every-of (trFormOk d) (interval 0 V′) (λ n i. let b = of-interval 0 V′ i in of-tr-form n (h .tr n (omega (arith, b .1)))))),
+        (join (every-of (stateFormOk S1 S2 d) (interval 0 U) (λ n i. let b = of-interval 0 U i in of-state-form n (h .state n (omega (arith, b .1)))))
+        (every-of (trFormOk d) (interval 0 V′) (λ n i. let b = of-interval 0 V′ i in of-tr-form n (h .tr n (omega (arith, b .1)))))),
   )
