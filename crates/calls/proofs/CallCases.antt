@@ -9,9 +9,9 @@ use Rattle.words.specs.Settings.{Settings, Lent}
 use Rattle.calls.specs.Store.{Part}
 use Rattle.calls.specs.Checks.{Session}
 use Rattle.calls.specs.Sequences.{World, Call, opening, expand, finalWeight, records, run, Said, refusal, accepted, weight, Reply, answered, handed}
-use Rattle.calls.specs.Listing.{settingsOf}
-use Rattle.calls.proofs.Cases.{Case, calling, Holds, AllHold, each-holds}
-use Rattle.calls.proofs.StarCases.{plain, lend, session, world, listPart, example1, example2, marked1, marked2}
+use Rattle.calls.specs.Listing.{Line, sideLine, stateLine, trLine, endLine, settingsOf}
+use Rattle.calls.proofs.Cases.{Case, printing, calling, Holds, AllHold, each-holds}
+use Rattle.calls.proofs.StarCases.{plain, lend, triple, session, world, listPart, example1, example2, marked1, marked2}
 
 -- the machines of case 1, sequence filter, and the sessions of their composition
 abbrev both : Lent
@@ -126,6 +126,9 @@ callCases =
     (opening (settingsOf w) l ∷ expand 0 ∷ run ∷ finalWeight 0 ∷ [])
     (answered accepted (session w 2 1 0) ∷ answered (refusal 10) (session w 2 1 0) ∷ answered (refusal 10) (session w 2 1 0) ∷ answered (weight none) (session w 2 1 0) ∷ [])
     (world (session w 2 1 0) (1 ∷ []) (replicate 5 0) []))
+    -- side input, by the mark of machine 2 alone: machine 1, whose labels fall, is walked
+    ∷ printing (plain 0 0) (1 ∷ 2 ∷ 1 ∷ 0 ∷ 0 ∷ 0 ∷ 1 ∷ 0 ∷ 0 ∷ 3 ∷ 3 ∷ 0 ∷ 0 ∷ 2 ∷ 2 ∷ 2 ∷ 0 ∷ 0 ∷ 0 ∷ []) (1 ∷ 2 ∷ 1 ∷ 1 ∷ 0 ∷ 0 ∷ 1 ∷ 1 ∷ 6 ∷ 2 ∷ 7 ∷ 1 ∷ 0 ∷ 2 ∷ 3 ∷ 8 ∷ 2 ∷ 0 ∷ 0 ∷ [])
+    (sideLine 0 ∷ stateLine 0 (triple 0 0 0) none ∷ trLine 3 8 2 0 ∷ trLine 2 7 1 0 ∷ endLine 1 2 ∷ [])
     -- an opening refused changes nothing and hands back the session that it got, also in the middle of a list
     ∷ calling both (before (0 ∷ []) (replicate 10 0) (replicate 5 0))
     (opens ∷ expand 0 ∷ opening (settingsOf (plain 2 0)) both ∷ opening (settingsOf (plain 0 0)) (lend [] []) ∷ expand 0 ∷ [])
@@ -135,7 +138,7 @@ callCases =
 
 call-cases : AllHold callCases
 unfolding AllHold Holds callCases
-call-cases = ((refl, refl), ((refl, refl), ((refl, refl), ((refl, refl), ((refl, refl), ((refl, refl), ((refl, refl), ((refl, refl), ((refl, refl), ((refl, refl), ((refl, refl), ((refl, refl), tt))))))))))))
+call-cases = ((refl, refl), ((refl, refl), ((refl, refl), ((refl, refl), ((refl, refl), ((refl, refl), ((refl, refl), ((refl, refl), ((refl, refl), ((refl, refl), ((refl, refl), (refl, ((refl, refl), tt)))))))))))))
 
 -- each case of the table holds
 pub call-case : (c : Case) → In c callCases → Holds c
