@@ -5,3 +5,5 @@ pub mod Once
 pub mod Put
 pub mod Compare
 pub mod Links
+pub mod Apart
+pub mod Rising

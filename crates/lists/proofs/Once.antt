@@ -5,9 +5,10 @@ use mathlib.Core.List.{List, [], _∷_, _++_, map, flatMap, List·Memᴰ as In, 
 use mathlib.Core.Logic.{⊎-elim}
 use mathlib.Core.Option.{Option·none-ne-some}
 use Prim.Native.Nat.{ℕ, zero, suc}
+use native.Mathlib.Omega.{arith}
 use Rattle.lists.specs.Lists.{At, Distinct, putIf, keepIf}
 use Rattle.lists.proofs.Members.{of-flat, of-keep}
-use Rattle.lists.proofs.Places.{at-in}
+use Rattle.lists.proofs.Places.{in-at, at-in}
 
 pub one-place : {A : Type 0} (l : List A) → Distinct l → (j k : ℕ) {a : A} → At l j a → At l k a → j ≡ k
 one-place [] d j k h i = absurd (Option·none-ne-some _ h)
@@ -41,3 +42,11 @@ distinct-flat g [] d e n = tt
 distinct-flat g (x ∷ xs) d e n =
     distinct-append (g x) (flatMap g xs) (e x) (distinct-flat g xs (d .1) e n)
     (λ b i j. let r = of-flat g xs j in d .0 (Memᴰ·cast (n x (r .0) b i (r .2)) (r .1)))
+
+-- what stands at one place alone stands there once
+pub distinct-of : {A : Type 0} (l : List A) → ((j k : ℕ) (a : A) → At l j a → At l k a → j ≡ k) → Distinct l
+distinct-of [] h = tt
+distinct-of (x ∷ xs) h = (
+  λ i. let p = in-at i in let z : 0 ≡ suc (p .0) = h 0 (suc (p .0)) x refl (p .1) in absurd (omega arith),
+  distinct-of xs (λ j k a u v. let z : suc j ≡ suc k = h (suc j) (suc k) a u v in omega arith),
+)

@@ -1,6 +1,6 @@
 -- Places in a list.
 use mathlib.Core.Path.{_≡_, refl, sym, ap}
-use mathlib.Core.Bool.{Bool, true, _&&_, and-eq-true-iff}
+use mathlib.Core.Bool.{Bool, true, and-eq-true-iff}
 use mathlib.Core.List.{List, [], _∷_, _++_, map, List·Memᴰ as In, List·Memᴰ·head as here, List·Memᴰ·tail as there}
 use mathlib.Core.Option.{some, Option·none-ne-some, Option·some-injective}
 use Prim.Native.Nat.{ℕ, zero, suc, _<_}
@@ -41,6 +41,12 @@ at-left (x ∷ xs) ys (suc k) h = at-left xs ys k h
 pub at-end : {A : Type 0} (xs : List A) (a : A) → At (xs ++ (a ∷ [])) (length xs) a
 at-end [] a = refl
 at-end (x ∷ xs) a = at-end xs a
+
+-- every place of a list is taken
+pub at-place : {A : Type 0} (l : List A) (k : ℕ) → k < length l → (a : A) × At l k a
+at-place [] k h = absurd (omega arith)
+at-place (x ∷ xs) zero h = (x, refl)
+at-place (x ∷ xs) (suc k) h = at-place xs k (omega arith)
 
 -- what holds for all of a list, by places
 pub every-get : {A : Type 0} (P : A → Bool) (l : List A) (k : ℕ) (d : A) → every P l ≡ true → k < length l → P (getD l k d) ≡ true
