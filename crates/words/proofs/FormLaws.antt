@@ -1,7 +1,7 @@
 -- What a well-formed machine says of its size, states, records and marks.
 use mathlib.Core.Path.{_≡_, ap}
 use mathlib.Core.Bool.{true}
-use mathlib.Core.List.{List, map}
+use mathlib.Core.List.{List}
 use Prim.Native.Nat.{ℕ, suc, _+_, _*_, _<_, _≤_}
 use native.Mathlib.Omega.{arith}
 use lib.Dec.{ltb, leb}
@@ -9,10 +9,9 @@ use lib.ListN.{length, getD}
 use borrow.Author.Tests.{ltb-true, leb-true, eqb-true}
 use Rattle.lists.specs.Lists.{every, interval}
 use Rattle.lists.proofs.Members.{and-left, and-right, every-in, in-interval}
-use Rattle.papers.specs.Machine.{Machine}
 use Rattle.words.specs.Labels.{MAX}
-use Rattle.words.specs.Matches.{MatchType, inputs, outputs, labelOn}
-use Rattle.words.specs.Machines.{limit, stateCount, trCount, startWord, sideMark, acceptorMark, stateWord, trWord, firstOk, firstOf, nextOf, machineOf, noFall, sorted, finalOk, stateOk, trOk, sideMarkOk, acceptorMarkOk, acceptor, marksOk, sizeOk, wellFormed}
+use Rattle.words.specs.Matches.{MatchType, inputs, outputs}
+use Rattle.words.specs.Machines.{limit, stateCount, trCount, startWord, sideMark, acceptorMark, stateWord, trWord, firstOk, firstOf, nextOf, machineOf, sorted, finalOk, stateOk, trOk, sideMarkOk, acceptorMarkOk, acceptor, marksOk, sizeOk, wellFormed}
 
 -- the place of a record: "the length is exactly 6 + 3S + 5T", and records count from 1
 pub tr-place : (m : List ℕ) (t k : ℕ) → trWord m (suc t) k ≡ getD m (6 + 3 * stateCount m + 5 * t + k) 0
@@ -88,8 +87,3 @@ form m e =
       mark = mark-form m marks;
       accepts = accepts-form m marks;
     }
-
--- the labels of each state's list do not fall where the machine is sorted
-pub sorted-list : (on : MatchType) (M : Machine) (s : ℕ) → sorted on M ≡ true → s < M .states → noFall 0 (map (labelOn on M) (M .list s)) ≡ true
-unfolding sorted
-sorted-list on M s e h = every-in (λ (q : ℕ). noFall 0 (map (labelOn on M) (M .list q))) e (in-interval 0 (M .states) s (omega arith) (omega arith))

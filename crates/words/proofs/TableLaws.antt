@@ -1,21 +1,15 @@
--- 01's three filters satisfy the laws of a filter: computed at f = 0, 1 and every larger f.
+-- 01's three filters satisfy the laws of a filter: computed at f = 0, 1 and every larger f, with the papers' `live` and `pick` but where a state above 1 differs. Without
+-- "none" and "all" they are the papers' three.
 use mathlib.Core.Path.{_≡_, refl}
 use mathlib.Core.Bool.{Bool, true, false, not}
-use Prim.Native.Nat.{ℕ, zero, suc}
+use Prim.Native.Nat.{ℕ, zero, suc, _≤_}
+use native.Mathlib.Omega.{arith}
 use Rattle.lists.proofs.Finite.{both, implies, allB}
-use Rattle.papers.specs.Filter.{MoveKind, lone1, lone2, bothEpsilon, aLabel}
+use Rattle.papers.specs.Filter.{MoveKind, lone1, lone2, bothEpsilon, aLabel, Facts, epsilonSequencing, epsilonSequencingMirrored, epsilonMatching}
 use Rattle.papers.proofs.FilterLaws.{allK, sameK, lawful, Lawful, laws}
+pub use Rattle.papers.specs.Pick.{sequencePick, alternatePick, matchingPick}
+pub use Rattle.papers.proofs.PaperFilters.{sequenceLive, matchingLive}
 use Rattle.words.specs.Filters.{sequence, alternate, matching}
-
--- sequence: in f = 1 no epsilon of machine 1 may follow; machine 1 goes first
-abbrev pub sequenceLive : ℕ → Bool → Bool → Bool
-sequenceLive zero x y = true
-sequenceLive (suc f) x y = not x
-
-abbrev pub sequencePick : Bool → Bool → MoveKind
-sequencePick true y = lone1
-sequencePick false true = lone2
-sequencePick false false = aLabel
 
 sequence-lawful : (f : ℕ) → lawful sequence sequenceLive sequencePick f ≡ true
 unfolding lawful both implies allB allK sameK
@@ -25,16 +19,11 @@ sequence-lawful (suc f) = refl
 pub sequence-laws : Lawful sequence sequenceLive sequencePick
 sequence-laws = laws _ _ _ sequence-lawful
 
--- alternate: in f = 1 no epsilon of machine 2 may follow; machine 2 goes first
+-- alternate: in f = 1 no epsilon of machine 2 may follow; a state above 1, which it never gives, is as 0
 abbrev pub alternateLive : ℕ → Bool → Bool → Bool
 alternateLive zero x y = true
 alternateLive (suc zero) x y = not y
 alternateLive (suc (suc f)) x y = true
-
-abbrev pub alternatePick : Bool → Bool → MoveKind
-alternatePick x true = lone2
-alternatePick true false = lone1
-alternatePick false false = aLabel
 
 alternate-lawful : (f : ℕ) → lawful alternate alternateLive alternatePick f ≡ true
 unfolding lawful both implies allB allK sameK
@@ -45,18 +34,6 @@ alternate-lawful (suc (suc f)) = refl
 pub alternate-laws : Lawful alternate alternateLive alternatePick
 alternate-laws = laws _ _ _ alternate-lawful
 
--- match: in f = 1 no epsilon of machine 2 may follow, in f = 2 none of machine 1; two epsilons go together
-abbrev pub matchingLive : ℕ → Bool → Bool → Bool
-matchingLive zero x y = true
-matchingLive (suc zero) x y = not y
-matchingLive (suc (suc f)) x y = not x
-
-abbrev pub matchingPick : Bool → Bool → MoveKind
-matchingPick true true = bothEpsilon
-matchingPick true false = lone1
-matchingPick false true = lone2
-matchingPick false false = aLabel
-
 matching-lawful : (f : ℕ) → lawful matching matchingLive matchingPick f ≡ true
 unfolding lawful both implies allB allK sameK
 matching-lawful zero = refl
@@ -65,3 +42,33 @@ matching-lawful (suc (suc f)) = refl
 
 pub matching-laws : Lawful matching matchingLive matchingPick
 matching-laws = laws _ _ _ matching-lawful
+
+-- Where neither "none" nor "all" holds of a machine, 01's filters are the papers'. (Alternate differs in states above 1, which neither gives.)
+abbrev neither : Facts
+neither = record { none1 = false; all1 = false; none2 = false; all2 = false }
+
+pub sequence-bare : (k : MoveKind) (φ : Facts) (f : ℕ) → sequence k neither f ≡ epsilonSequencing k φ f
+sequence-bare lone1 φ zero = refl
+sequence-bare lone1 φ (suc f) = refl
+sequence-bare lone2 φ f = refl
+sequence-bare bothEpsilon φ f = refl
+sequence-bare aLabel φ f = refl
+
+pub alternate-bare : (k : MoveKind) (φ : Facts) (f : ℕ) → f ≤ 1 → alternate k neither f ≡ epsilonSequencingMirrored k φ f
+alternate-bare lone1 φ f h = refl
+alternate-bare lone2 φ zero h = refl
+alternate-bare lone2 φ (suc zero) h = refl
+alternate-bare lone2 φ (suc (suc f)) h = absurd (omega arith)
+alternate-bare bothEpsilon φ f h = refl
+alternate-bare aLabel φ f h = refl
+
+pub matching-bare : (k : MoveKind) (φ : Facts) (f : ℕ) → matching k neither f ≡ epsilonMatching k φ f
+matching-bare lone1 φ zero = refl
+matching-bare lone1 φ (suc zero) = refl
+matching-bare lone1 φ (suc (suc f)) = refl
+matching-bare lone2 φ zero = refl
+matching-bare lone2 φ (suc zero) = refl
+matching-bare lone2 φ (suc (suc f)) = refl
+matching-bare bothEpsilon φ zero = refl
+matching-bare bothEpsilon φ (suc f) = refl
+matching-bare aLabel φ f = refl

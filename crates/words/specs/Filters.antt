@@ -1,20 +1,19 @@
 -- 01, "Filters": the table, cell by cell.
-use mathlib.Core.Bool.{Bool, true, false, not, _&&_}
+use mathlib.Core.Bool.{Bool, true, false}
 use mathlib.Core.Option.{Option, none, some}
 use Prim.Native.Nat.{ℕ, zero, suc}
-use lib.Dec.{eqb}
-use Rattle.lists.specs.Lists.{every}
-use Rattle.papers.specs.Filter.{lone1, lone2, bothEpsilon, aLabel, Facts, Filter}
-use Rattle.words.specs.Labels.{epsLabel}
+use Rattle.papers.specs.Filter.{lone1, lone2, bothEpsilon, aLabel, Facts, Filter, noEpsilon, onlyEpsilons}
 use Rattle.words.specs.Sigmas.{Operand, inner}
 
 -- ""none" means no epsilon on its inner side in the present state"
 unfoldable pub noneAt : Operand → ℕ → Bool
-noneAt o s = every (λ t. not (eqb (inner o t) epsLabel)) (o .machine .list s)
+unfolding noEpsilon
+noneAt o s = noEpsilon (inner o) (o .machine) s
 
 -- ""all" means only epsilons there and not final"
 unfoldable pub allAt : Operand → ℕ → Bool
-allAt o s = every (λ t. eqb (inner o t) epsLabel) (o .machine .list s) && not (o .machine .isFinal s)
+unfolding onlyEpsilons
+allAt o s = onlyEpsilons (inner o) (o .machine) s
 
 -- "For machine i", in the present pair of states
 abbrev pub factsAt : Operand → Operand → ℕ → ℕ → Facts

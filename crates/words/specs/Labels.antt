@@ -2,6 +2,7 @@
 use mathlib.Core.Bool.{Bool, true, false}
 use mathlib.Core.List.{List, [], _∷_}
 use Prim.Native.Nat.{ℕ}
+use Rattle.papers.specs.Machine.{ε}
 
 -- "All words are unsigned 32-bit. MAX is 4294967295." That each number of a list is a word comes from the slices' type; no definition asks it.
 abbrev pub MAX : ℕ
@@ -9,7 +10,7 @@ MAX = 4294967295
 
 -- "Label 0 is epsilon (`EPS_LABEL`)"
 abbrev pub epsLabel : ℕ
-epsLabel = 0
+epsLabel = ε
 
 -- "MAX is `NO_LABEL`, never a label of a machine."
 abbrev pub noLabel : ℕ

@@ -4,7 +4,7 @@ pub mod Labels
 -- "From the leaves upward": weights; matches and the sorted look-up.
 pub mod Weights
 pub mod Matches
--- "A machine in words", but for its last sentence (accepting paths and their exact weight: the papers' layer)
+-- "A machine in words", but for its last sentence (accepting paths and their exact weight: crate papers, and AsPapers below)
 pub mod Machines
 -- "Choosing the side", first paragraph.
 pub mod Sides
@@ -16,3 +16,5 @@ pub mod Sigmas
 pub mod Steps
 -- "Session and memory": the six settings, the machines and lists that every call is lent.
 pub mod Settings
+-- "A machine in words", last sentence, exact weights; and the composition above as the papers' one.
+pub mod AsPapers

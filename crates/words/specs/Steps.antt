@@ -11,6 +11,8 @@ use Rattle.words.specs.Matches.{MatchType, inputs, outputs, Match, loop,
 use Rattle.words.specs.Sigmas.{Operand, inner, lookup, given}
 use Rattle.words.specs.Sides.{Side, directionAt}
 use Rattle.words.specs.Filters.{factsAt}
+-- a composed state (compose_state_tuple.rs)
+pub use Rattle.papers.specs.Composition.{Triple}
 
 -- what stays the same through a composition
 pub record Composition : Type 0 where
@@ -19,12 +21,6 @@ pub record Composition : Type 0 where
   pub side : Side
   pub operand1 : Operand
   pub operand2 : Operand
-
--- a composed state (compose_state_tuple.rs)
-pub record Triple : Type 0 where
-  pub s1 : ℕ
-  pub s2 : ℕ
-  pub f : ℕ
 
 -- what each machine does in a move
 pub record Move : Type 0 where

@@ -4,9 +4,8 @@ use mathlib.Core.Option.{Option, none, some}
 use Prim.Native.Nat.{ℕ, zero, suc, _+_, _*_}
 use lib.Dec.{eqb, ltb, leb}
 use Rattle.words.specs.Labels.{MAX}
-
-pub data Kind : Type 0 where
-  cost count : Kind
+-- the two semirings; what 01 adds is the limit
+pub use Rattle.papers.specs.Weight.{Kind, cost, count}
 
 -- "Cost (0)", "Count (1)"; another number is refused before it is read
 abbrev pub kindOf : ℕ → Kind

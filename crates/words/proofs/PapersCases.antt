@@ -1,0 +1,132 @@
+-- Closed instances, so that nothing above is empty: the machines of 01's listing are an accepted opening and have an accepting list of moves of the papers; a sigma transition serves
+-- for a label without a match of its own, and for no other.
+use mathlib.Core.Path.{_≡_, refl}
+use mathlib.Core.List.{List, [], _∷_, List·Memᴰ as In, List·Memᴰ·head as here, List·Memᴰ·tail as there, List·Memᴰ·not-nil, List·Memᴰ·cases-cons}
+use mathlib.Core.Logic.{_≢_, _⊎_, inl, inr, ⊎-elim}
+use mathlib.Core.Option.{none}
+use Prim.Native.Nat.{ℕ}
+use native.Mathlib.Omega.{arith}
+use Rattle.lists.specs.Lists.{every, interval}
+use Rattle.papers.specs.Weight.{finite, semiring}
+use Rattle.papers.specs.Machine.{Machine}
+use Rattle.papers.specs.Filter.{MoveKind, lone1, lone2, aLabel, noEpsilon, onlyEpsilons}
+use Rattle.papers.specs.Composition.{Edge, rest, along, Triple, Move as Edges, Kept as KeptMove}
+use Rattle.papers.specs.Paths.{AcceptingRun, movesWeight}
+use Rattle.papers.proofs.Closed.{finite≢infinite}
+use Rattle.papers.proofs.Forms.{Meeting, pair-meets}
+use Rattle.words.specs.Labels.{MAX}
+use Rattle.words.specs.Weights.{cost}
+use Rattle.words.specs.Matches.{inputs, outputs}
+use Rattle.words.specs.Machines.{stateCount, trCount, startWord, sideMark, acceptorMark, stateWord, trWord, firstOk, nextOk, firstOf, nextOf, listBy, listFrom, listOf, noFall, sorted, stateOk, trOk, acceptor, marksOk, sizeOk, wellFormed}
+use Rattle.words.specs.Sides.{only, sideOf, directionAt}
+use Rattle.words.specs.Sigmas.{inner}
+use Rattle.words.specs.Steps.{Composition}
+use Rattle.words.specs.Settings.{Settings, Lent, operand1, operand2, compositionOf}
+use Rattle.words.specs.AsPapers.{exact, composedOf}
+use Rattle.words.proofs.PapersMoves.{Sound}
+use Rattle.words.proofs.PapersOpened.{sound-of}
+
+abbrev settings : ℕ → Settings
+settings sigma2 = record { kind = 0; filter = 0; sigma1 = MAX; mode1 = 0; sigma2 = sigma2; mode2 = 0 }
+
+abbrev lent : List ℕ → List ℕ → Lent
+lent m1 m2 = record { m1 = m1; m2 = m2; allowed1 = none; allowed2 = none }
+
+abbrev pair : Edge → Edge → Edges
+pair e d = record { first = e; second = d }
+
+-- "The listing": machine 1 has 1:0 and then 2:5, machine 2 has 0:7 and then 5:8
+abbrev listed1 : List ℕ
+listed1 = 3 ∷ 2 ∷ 1 ∷ 0 ∷ 0 ∷ 0 ∷ 1 ∷ 0 ∷ 0 ∷ 2 ∷ 0 ∷ 0 ∷ 0 ∷ 1 ∷ 0 ∷ 1 ∷ 0 ∷ 1 ∷ 1 ∷ 0 ∷ 2 ∷ 5 ∷ 2 ∷ 2 ∷ 0 ∷ []
+
+abbrev listed2 : List ℕ
+listed2 = 3 ∷ 2 ∷ 1 ∷ 0 ∷ 0 ∷ 0 ∷ 1 ∷ 0 ∷ 0 ∷ 2 ∷ 0 ∷ 0 ∷ 0 ∷ 1 ∷ 3 ∷ 0 ∷ 7 ∷ 4 ∷ 1 ∷ 0 ∷ 5 ∷ 8 ∷ 1 ∷ 2 ∷ 0 ∷ []
+
+abbrev pub listing : Composition
+listing = compositionOf (settings MAX) (lent listed1 listed2) (only outputs)
+
+pub listing-sound : Sound listing
+unfolding sideOf wellFormed sizeOk stateOk trOk marksOk acceptor every interval sorted noFall sideMark acceptorMark stateCount trCount startWord stateWord trWord firstOk nextOk firstOf nextOf listBy listFrom listOf
+listing-sound = sound-of (settings MAX) (lent listed1 listed2) (only outputs) refl refl refl
+
+-- the four states of the listing: 1 alone, 2 alone, the label 5
+abbrev pub moves : List Edges
+moves = pair (along 1) rest ∷ pair rest (along 1) ∷ pair (along 2) (along 2) ∷ []
+
+pub listing-run : AcceptingRun (semiring cost) (exact cost) (composedOf listing) moves
+unfolding directionAt noEpsilon onlyEpsilons every stateCount trCount startWord stateWord trWord firstOk nextOk firstOf nextOf listBy listFrom listOf
+listing-run = (
+  record { s1 = 0; s2 = 0; f = 0 },
+  (refl, refl, refl),
+  (
+    0,
+    (lone1, (here refl, tt, (refl, refl)), refl),
+    (
+      0,
+      (lone2, (tt, here refl, (refl, refl)), refl),
+      (0, (aLabel, (here refl, here refl, (5, 5, refl, refl, λ e. omega arith, λ e. omega arith, (λ e. omega arith, inl refl))), refl), ((refl, refl), finite≢infinite)),
+    ),
+  ),
+)
+
+-- "t 1 0 1 1", "t 0 7 4 2", "t 2 8 3 3", "s 3 2 2 0 3": 1 + 4 + 3 + 3
+pub listing-weight : movesWeight (semiring cost) (exact cost) (composedOf listing) 0 0 moves ≡ finite 11
+unfolding stateCount trWord stateWord
+listing-weight = refl
+
+-- machine 1 has 1:3 and 1:4; machine 2 has 3:6 and, with sigma 9, 9:7
+abbrev served : Lent
+served =
+    lent (1 ∷ 2 ∷ 1 ∷ 0 ∷ 0 ∷ 0 ∷ 1 ∷ 1 ∷ 0 ∷ 1 ∷ 3 ∷ 0 ∷ 0 ∷ 2 ∷ 1 ∷ 4 ∷ 0 ∷ 0 ∷ 0 ∷ []) (1 ∷ 2 ∷ 1 ∷ 1 ∷ 0 ∷ 0 ∷ 1 ∷ 1 ∷ 0 ∷ 3 ∷ 6 ∷ 0 ∷ 0 ∷ 2 ∷ 9 ∷ 7 ∷ 0 ∷ 0 ∷ 0 ∷ [])
+
+abbrev pub sigmas : Composition
+sigmas = compositionOf (settings 9) served (only inputs)
+
+pub sigmas-sound : Sound sigmas
+unfolding sideOf wellFormed sizeOk stateOk trOk marksOk acceptor every interval sorted noFall sideMark acceptorMark stateCount trCount startWord stateWord trWord firstOk nextOk firstOf nextOf listBy listFrom listOf
+sigmas-sound = sound-of (settings 9) served (only inputs) refl refl refl
+
+abbrev origin : Triple
+origin = record { s1 = 0; s2 = 0; f = 0 }
+
+-- 3 has a match of its own; 4 has none, and 9:7 serves for it
+pub own-kept : KeptMove (composedOf sigmas) origin (pair (along 1) (along 1)) 0
+unfolding directionAt stateCount trCount stateWord trWord firstOk nextOk firstOf nextOf listBy listFrom listOf
+own-kept = (aLabel, (here refl, here refl, (3, 3, refl, refl, λ e. omega arith, λ e. omega arith, (λ e. omega arith, inl refl))), refl)
+
+pub sigma-kept : KeptMove (composedOf sigmas) origin (pair (along 2) (along 2)) 0
+unfolding directionAt stateCount trCount stateWord trWord firstOk nextOk firstOf nextOf listBy listFrom listOf
+sigma-kept = (aLabel, (there (here refl), there (here refl), (4, 9, refl, refl, λ e. omega arith, λ e. omega arith, (λ e. omega arith, inr (refl, refl, no-four)))), refl)
+  where
+    no-four : (t : ℕ) → In t (1 ∷ 2 ∷ []) → inner (sigmas .operand2) t ≡ 4 → ⊥
+    no-four t i e =
+        ⊎-elim
+        (λ h. let z : _≡_ {A = ℕ} 3 4 = rw h at e in omega arith)
+        (λ j. ⊎-elim (λ h. let z : _≡_ {A = ℕ} 9 4 = rw h at e in omega arith) List·Memᴰ·not-nil (List·Memᴰ·cases-cons j))
+        (List·Memᴰ·cases-cons i)
+
+-- so 9:7 does not serve for 3, nor 3:6 for 4
+pub sigma-not-kept : (g : ℕ) → (KeptMove (composedOf sigmas) origin (pair (along 1) (along 2)) g → ⊥) × (KeptMove (composedOf sigmas) origin (pair (along 2) (along 1)) g → ⊥)
+unfolding directionAt stateCount trCount stateWord trWord firstOk nextOk firstOf nextOf listBy listFrom listOf
+sigma-not-kept g = (
+  λ h.
+      ⊎-elim
+      (λ e. let z : _≡_ {A = ℕ} 3 0 = e .0 in omega arith)
+      (λ e. ⊎-elim (λ y. let z : _≡_ {A = ℕ} 9 3 = y in omega arith) (λ r. r .2 1 (here refl) refl) (e .2 .1))
+      (pairs (h .0) 1 2 (h .1)),
+  λ h.
+      ⊎-elim
+      (λ e. let z : _≡_ {A = ℕ} 4 0 = e .0 in omega arith)
+      (λ e. ⊎-elim (λ y. let z : _≡_ {A = ℕ} 3 4 = y in omega arith) (λ r. let z : _≡_ {A = ℕ} 3 9 = r .0 in omega arith) (e .2 .1))
+      (pairs (h .0) 2 1 (h .1)),
+)
+  where
+    A : Machine
+    A = sigmas .operand1 .machine
+
+    B : Machine
+    B = sigmas .operand2 .machine
+
+    pairs : (k : MoveKind) (t u : ℕ) → Meeting A B (A .output) (B .input) (composedOf sigmas .meets) 0 0 k (along t) (along u)
+        → ((A .output t ≡ 0) × (B .input u ≡ 0)) ⊎ ((A .output t ≢ 0) × (B .input u ≢ 0) × composedOf sigmas .meets 0 0 (A .output t) (B .input u))
+    pairs k t u m = pair-meets A B (A .output) (B .input) (composedOf sigmas .meets) 0 0 k t u m
