@@ -1,15 +1,14 @@
 -- Lists of calls that refuse the wrong programs of 01, "A reviewer will try", and the slips near them, in one table under one theorem.
 use mathlib.Core.Path.{refl}
-use mathlib.Core.List.{List, [], _∷_, _++_, List·Memᴰ as In}
-use mathlib.Core.Option.{Option, none, some}
+use mathlib.Core.List.{List, [], _∷_, List·Memᴰ as In}
+use mathlib.Core.Option.{none, some}
 use Prim.Native.Nat.{ℕ}
 use lib.ListN.{replicate, set}
 use Rattle.words.specs.Labels.{MAX}
-use Rattle.words.specs.Settings.{Settings, Lent}
-use Rattle.calls.specs.Store.{Part}
+use Rattle.words.specs.Settings.{Lent}
 use Rattle.calls.specs.Checks.{Session}
-use Rattle.calls.specs.Sequences.{World, Call, opening, expand, finalWeight, records, run, Said, refusal, accepted, weight, Reply, answered, handed}
-use Rattle.calls.specs.Listing.{Line, sideLine, stateLine, trLine, endLine, settingsOf}
+use Rattle.calls.specs.Sequences.{World, Call, opening, expand, finalWeight, records, run, refusal, accepted, weight, answered, handed}
+use Rattle.calls.specs.Listing.{sideLine, stateLine, trLine, endLine, settingsOf}
 use Rattle.calls.proofs.Cases.{Case, printing, calling, Holds, AllHold, each-holds}
 use Rattle.calls.proofs.StarCases.{plain, lend, triple, session, world, listPart, example1, example2, marked1, marked2}
 

@@ -12,7 +12,7 @@ use Rattle.words.specs.Sides.{sideOf, directionAt}
 use Rattle.words.specs.Filters.{noneAt, allAt}
 use Rattle.words.specs.Sigmas.{has, sigmaTrs, restMatches, lookup, given}
 use Rattle.words.specs.Steps.{walk, keptAlong, keptAt, stepOf, stepsAt, startAt, finalAt}
-use Rattle.words.specs.Settings.{Settings, settingsOk, Lent}
+use Rattle.words.specs.Settings.{settingsOk, Lent}
 use Rattle.calls.specs.Store.{roomOf, stateRoom, trRoom, stateField, tripleAt, expandedAt, firstAt, nextAt, trField, targetAt, trNextAt, slot, headOf, chainOf, sameTriple, find, add, append, mark, partAt}
 use Rattle.calls.specs.Forms.{fits, headsOk, tripleOk, expandedOk, stateFormOk, trFormOk, formOk}
 use Rattle.calls.specs.Checks.{sideFor, sessionOk, entered, enteredAt}

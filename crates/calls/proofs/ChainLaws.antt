@@ -1,12 +1,12 @@
 -- Chains and the table of states, on any memory in form: a state found is a used one with its triple; a state just added stands at the head of its chain and is found;
 -- every other triple is found as before.
-use mathlib.Core.Path.{_≡_, refl, sym, _∙_, ap, subst}
-use mathlib.Core.Bool.{Bool, true, false, _&&_}
-use mathlib.Core.List.{List, [], _∷_, List·Memᴰ as In, List·Memᴰ·cases-cons}
-use mathlib.Core.Logic.{_⊎_, inl, inr, ⊎-elim, _≢_}
-use mathlib.Core.Option.{Option, none, some}
-use Prim.Native.Nat.{ℕ, zero, suc, _+_, _*_, _/_, _%_, _≤_, _<_}
-use native.Mathlib.Nat.{mod-lt, add-zero}
+use mathlib.Core.Path.{_≡_, refl, sym, _∙_, ap}
+use mathlib.Core.Bool.{true, false}
+use mathlib.Core.List.{List, _∷_, List·Memᴰ as In}
+use mathlib.Core.Logic.{_≢_}
+use mathlib.Core.Option.{some}
+use Prim.Native.Nat.{ℕ, suc, _+_, _*_, _/_, _%_, _≤_, _<_}
+use native.Mathlib.Nat.{mod-lt}
 use native.Mathlib.Numerals.{add-one}
 use native.Mathlib.Omega.{arith}
 use native.Mathlib.Decide.{ℕ-discrete}
@@ -14,12 +14,11 @@ use lib.Dec.{eqb}
 use lib.ListN.{length, getD, set, length-set}
 use lib.Seq.{getD-set-same, getD-set-other}
 use borrow.Author.Tests.{eqb-true, eq-eqb}
-use Rattle.lists.specs.Lists.{put, firstIf, first, linked}
+use Rattle.lists.specs.Lists.{first, linked}
 use Rattle.lists.proofs.Members.{and-left, and-right}
-use Rattle.lists.proofs.Put.{length-put}
 use Rattle.lists.proofs.Links.{first-sound, first-same, Falls, linked-below, linked-same}
 use Rattle.words.specs.Steps.{Triple}
-use Rattle.calls.specs.Store.{Memory, Used, Store, roomOf, stateRoom, stateField, tripleAt, nextAt, slot, headOf, chainOf, sameTriple, find, stateRecord, add}
+use Rattle.calls.specs.Store.{Store, stateRoom, stateField, tripleAt, nextAt, slot, headOf, chainOf, sameTriple, find, stateRecord, add}
 use Rattle.calls.proofs.RecordLaws.{room-words, field-before, field-new, triple-before}
 use Rattle.calls.proofs.StoreForms.{Form}
 

@@ -1,21 +1,20 @@
 -- An accepted expansion keeps form, on any memory in form: a new state, a new transition and the mark each keep it, and every target of a kept move is in range.
-use mathlib.Core.Path.{_≡_, refl, sym, _∙_, ap, subst}
-use mathlib.Core.Bool.{Bool, true, false}
+use mathlib.Core.Path.{_≡_, refl, _∙_, ap}
 use mathlib.Core.List.{List, [], _∷_}
-use mathlib.Core.Logic.{_⊎_, inl, inr, ⊎-elim, _≢_}
-use Prim.Native.Nat.{ℕ, zero, suc, _+_, _*_, _≤_, _<_}
-use native.Mathlib.Nat.{add-zero}
+use mathlib.Core.Logic.{_⊎_, inl, inr, _≢_}
+use Prim.Native.Nat.{ℕ, suc, _+_, _*_, _≤_, _<_}
 use native.Mathlib.Omega.{arith}
 use native.Mathlib.Decide.{ℕ-discrete, decLt}
-use lib.ListN.{length, getD, set, length-set}
+use lib.ListN.{length, getD, length-set}
 use lib.Seq.{getD-set-same, getD-set-other}
 use Rattle.lists.specs.Lists.{put}
 use Rattle.lists.proofs.Put.{length-put, put-before, put-after, put-in}
 use Rattle.words.specs.Steps.{Triple, Step}
-use Rattle.calls.specs.Store.{Memory, Used, Store, roomOf, stateRoom, trRoom, stateField, tripleAt, expandedAt, firstAt, nextAt, trField, targetAt, trNextAt, slot, headOf, stateRecord, add, trRecord, append, mark}
+use Rattle.words.proofs.StepRange.{InRange}
+use Rattle.calls.specs.Store.{Store, stateRoom, trRoom, stateField, tripleAt, expandedAt, firstAt, nextAt, trField, targetAt, trNextAt, slot, headOf, stateRecord, add, trRecord, append, mark}
 use Rattle.calls.proofs.RecordLaws.{room-words, room-same}
-use Rattle.calls.proofs.StoreForms.{InRange, StateForm, TrForm, Form}
-use Rattle.calls.proofs.ChainLaws.{add-field, add-new, add-triple, add-holds, slot-in}
+use Rattle.calls.proofs.StoreForms.{StateForm, TrForm, Form}
+use Rattle.calls.proofs.ChainLaws.{add-field, add-new, add-holds, slot-in}
 
 -- the words of a state's record that form looks at, taken over from a record with the same ones
 moved : {S1 S2 : ℕ} (ss rr : List ℕ) (trs more n : ℕ) → trs ≤ more → ((k : ℕ) → k < 5 → stateField rr n k ≡ stateField ss n k) → StateForm S1 S2 ss trs n → StateForm S1 S2 rr more n

@@ -2,6 +2,7 @@ pub mod Cases
 pub mod StarCases
 pub mod CallCases
 pub mod Refusals
+pub mod ListingLaws
 pub mod RecordLaws
 pub mod StoreForms
 pub mod ChainLaws
@@ -11,3 +12,9 @@ pub mod ExpandKept
 pub mod OpenKept
 pub mod RunLaws
 pub mod StepsStay
+pub mod FindLaws
+pub mod StepsMade
+pub mod Parts
+pub mod ExpandCases
+pub mod OpenCases
+pub mod TwoStores

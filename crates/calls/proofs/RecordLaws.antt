@@ -1,14 +1,12 @@
 -- Records written into a slice of words: what a record's fields are afterwards, and that the others' stay.
-use mathlib.Core.Path.{_≡_, refl, _∙_, ap, ap₂}
-use mathlib.Core.List.{List, [], _∷_}
-use Prim.Native.Nat.{ℕ, suc, _+_, _*_, _/_, _%_, _≤_, _<_}
-use native.Mathlib.Nat.{add-zero}
+use mathlib.Core.Path.{_≡_}
+use mathlib.Core.List.{List}
+use Prim.Native.Nat.{ℕ, _+_, _*_, _≤_, _<_}
 use native.Mathlib.Omega.{arith}
 use lib.ListN.{length, getD}
 use Rattle.lists.specs.Lists.{put}
-use Rattle.lists.proofs.Put.{length-put, put-before, put-after, put-in}
-use Rattle.words.specs.Steps.{Triple, Step}
-use Rattle.calls.specs.Store.{roomOf, stateField, tripleAt, expandedAt, firstAt, nextAt, trField, targetAt, trNextAt, stateRecord, trRecord}
+use Rattle.lists.proofs.Put.{put-before, put-in}
+use Rattle.calls.specs.Store.{roomOf, stateField, tripleAt}
 
 -- room for n records is five words for each
 pub room-words : (l : List ℕ) (n : ℕ) → n ≤ roomOf 5 l → (n ≤ 65535) × (5 * n ≤ length l)

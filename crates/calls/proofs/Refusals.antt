@@ -1,8 +1,7 @@
 -- The order of the checks, and every condition of form, each by a session or memory one word away from a sound one.
 use mathlib.Core.Path.{_≡_, refl}
-use mathlib.Core.Bool.{Bool, true, _&&_}
-use mathlib.Core.List.{List, [], _∷_, _++_, map, List·Memᴰ as In}
-use mathlib.Core.Option.{Option, none, some}
+use mathlib.Core.Bool.{true}
+use mathlib.Core.List.{List, [], _∷_, List·Memᴰ as In}
 use Prim.Native.Nat.{ℕ}
 use lib.Dec.{eqb}
 use lib.ListN.{set, replicate}
@@ -11,14 +10,13 @@ use Rattle.lists.proofs.Members.{every-in}
 use borrow.Author.Tests.{eqb-true}
 use Rattle.lists.proofs.Compare.{eqList, eqList-eq}
 use Rattle.words.specs.Labels.{MAX, Checked, good, refused}
-use Rattle.words.specs.Settings.{Settings, Lent}
-use Rattle.calls.specs.Store.{Memory}
-use Rattle.calls.specs.Checks.{Session, entered}
-use Rattle.calls.specs.Calls.{Outcome, openOf, expandOf, finalWeightOf, runOf, recordsOf}
+use Rattle.words.specs.Settings.{Lent}
+use Rattle.calls.specs.Checks.{entered}
+use Rattle.calls.specs.Calls.{openOf, expandOf, finalWeightOf, runOf, recordsOf}
 use Rattle.calls.specs.Sequences.{World}
 use Rattle.calls.specs.Listing.{settingsOf}
 use Rattle.calls.proofs.Cases.{Holds}
-use Rattle.calls.proofs.StarCases.{plain, lend, session, world, example1, example2, marked1, marked2}
+use Rattle.calls.proofs.StarCases.{plain, lend, session, world, example1, example2}
 
 -- the number of a refusal, 0 where there is none
 abbrev pub refusalOf : {A : Type 0} → Checked A → ℕ

@@ -1,15 +1,15 @@
 -- A run need check once: the checks 1 to 8 pass again after each accepted expansion, and 9 cannot stand.
-use mathlib.Core.Path.{_≡_, refl, sym, _∙_, ap}
+use mathlib.Core.Path.{_≡_, refl, _∙_, ap}
 use mathlib.Core.Bool.{Bool, true, false}
 use Prim.Native.Nat.{ℕ, zero, suc}
 use lib.Dec.{eqb, leb}
-use Rattle.words.specs.Labels.{Checked, good, refused, refuseIf, andThen}
+use Rattle.words.specs.Labels.{Checked, good, refused}
 use Rattle.words.specs.Steps.{Composition}
 use Rattle.words.specs.Settings.{Lent}
 use Rattle.calls.specs.Store.{Memory, expandedAt, Part}
 use Rattle.calls.specs.Checks.{Session, entered, enteredAt}
 use Rattle.calls.specs.Calls.{Outcome, settle, expandBy, expandOf, onward, ended, runBy, runFrom}
-use Rattle.calls.proofs.ExpandKept.{StepsInRange, expand-kept}
+use Rattle.calls.proofs.ExpandKept.{expand-kept}
 
 -- a run that does not check
 unfoldable pub runUnder : Composition → ℕ → ℕ → Session → Memory → Outcome (Unit {0})
@@ -23,24 +23,24 @@ pub expand-under : (l : Lent) (s : Session) (m : Memory) (n : ℕ) (c : Composit
 unfolding expandOf enteredAt
 expand-under l s m n c e h = rw (e, h)
 
-module _ (l : Lent) (ranged : StepsInRange l) where
-  pub run-once : (k n : ℕ) (s : Session) (m : Memory) (c : Composition) → entered l s m ≡ good c → runFrom l k n s m ≡ runUnder c k n s m
-  unfolding runFrom runUnder
-  run-once zero n s m c e = refl
-  run-once (suc k) n s m c e = go (leb (s .used .states) n) refl (λ s′ m′ h. run-once k (suc n) s′ m′ c h)
-    where
-      next : Outcome Part
-      next = settle s m (expandBy c s m n (eqb (expandedAt (m .states) n) 1))
+-- a run, where the checks 1 to 8 pass, is one that does not check
+pub run-once : (l : Lent) (k n : ℕ) (s : Session) (m : Memory) (c : Composition) → entered l s m ≡ good c → runFrom l k n s m ≡ runUnder c k n s m
+unfolding runFrom runUnder
+run-once l zero n s m c e = refl
+run-once l (suc k) n s m c e = go (leb (s .used .states) n) refl (λ s′ m′ h. run-once l k (suc n) s′ m′ c h)
+  where
+    next : Outcome Part
+    next = settle s m (expandBy c s m n (eqb (expandedAt (m .states) n) 1))
 
-      on : (a : Checked Part) → next .answer ≡ a → ((s′ : Session) (m′ : Memory) → entered l s′ m′ ≡ good c → runFrom l k (suc n) s′ m′ ≡ runUnder c k (suc n) s′ m′) → leb (s .used .states) n ≡ false
-          → onward a (next .session) (next .memory) (runFrom l k (suc n)) ≡ onward a (next .session) (next .memory) (runUnder c k (suc n))
-      on (refused j) p rec b = refl
-      on (good p) q rec b =
-          let f = expand-under l s m n c e b in
-          let h : expandOf l s m n .answer ≡ good p = ap (λ (o : Outcome Part). o .answer) f ∙ q in
-          rec (next .session) (next .memory) (rw f at (expand-kept l ranged s m n c p e h))
+    on : (a : Checked Part) → next .answer ≡ a → ((s′ : Session) (m′ : Memory) → entered l s′ m′ ≡ good c → runFrom l k (suc n) s′ m′ ≡ runUnder c k (suc n) s′ m′) → leb (s .used .states) n ≡ false
+        → onward a (next .session) (next .memory) (runFrom l k (suc n)) ≡ onward a (next .session) (next .memory) (runUnder c k (suc n))
+    on (refused j) p rec b = refl
+    on (good p) q rec b =
+        let f = expand-under l s m n c e b in
+        let h : expandOf l s m n .answer ≡ good p = ap (λ (o : Outcome Part). o .answer) f ∙ q in
+        rec (next .session) (next .memory) (rw f at (expand-kept l s m n c p e h))
 
-      go : (b : Bool) → leb (s .used .states) n ≡ b → ((s′ : Session) (m′ : Memory) → entered l s′ m′ ≡ good c → runFrom l k (suc n) s′ m′ ≡ runUnder c k (suc n) s′ m′)
-          → runBy b s m (expandOf l s m n) (runFrom l k (suc n)) ≡ runBy b s m next (runUnder c k (suc n))
-      go true b rec = refl
-      go false b rec = ap (λ (o : Outcome Part). onward (o .answer) (o .session) (o .memory) (runFrom l k (suc n))) (expand-under l s m n c e b) ∙ on (next .answer) refl rec b
+    go : (b : Bool) → leb (s .used .states) n ≡ b → ((s′ : Session) (m′ : Memory) → entered l s′ m′ ≡ good c → runFrom l k (suc n) s′ m′ ≡ runUnder c k (suc n) s′ m′)
+        → runBy b s m (expandOf l s m n) (runFrom l k (suc n)) ≡ runBy b s m next (runUnder c k (suc n))
+    go true b rec = refl
+    go false b rec = ap (λ (o : Outcome Part). onward (o .answer) (o .session) (o .memory) (runFrom l k (suc n))) (expand-under l s m n c e b) ∙ on (next .answer) refl rec b

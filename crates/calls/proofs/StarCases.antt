@@ -1,16 +1,15 @@
 -- 01, "The listing", proved cases (★) 1 to 10, in one table under one theorem.
 use mathlib.Core.Path.{refl}
 use mathlib.Core.List.{List, [], _∷_, List·Memᴰ as In}
-use mathlib.Core.Option.{Option, none, some}
+use mathlib.Core.Option.{none, some}
 use Prim.Native.Nat.{ℕ}
 use lib.ListN.{replicate, set}
 use Rattle.words.specs.Labels.{MAX}
 use Rattle.words.specs.Steps.{Triple}
-use Rattle.words.specs.Settings.{Settings, Lent}
-use Rattle.calls.specs.Store.{Memory, Part}
+use Rattle.words.specs.Settings.{Lent}
 use Rattle.calls.specs.Checks.{Session}
-use Rattle.calls.specs.Sequences.{World, Call, opening, expand, finalWeight, records, run, Said, refusal, accepted, part, weight, Reply, answered, handed}
-use Rattle.calls.specs.Listing.{Line, sideLine, stateLine, trLine, endLine, settingsOf}
+use Rattle.calls.specs.Sequences.{World, opening, expand, finalWeight, records, run, Said, refusal, accepted, part, weight, answered, handed}
+use Rattle.calls.specs.Listing.{sideLine, stateLine, trLine, endLine, settingsOf}
 use Rattle.calls.proofs.Cases.{Case, printing, calling, Holds, AllHold, each-holds}
 
 -- kind, filter; no sigma

@@ -1,21 +1,21 @@
 -- The steps of an expansion, stored one after the other, keep form; while the chain is being written its last record is still to come.
-use mathlib.Core.Path.{_≡_, refl, sym, _∙_, ap, subst}
-use mathlib.Core.Bool.{Bool, true, false}
+use mathlib.Core.Path.{_≡_, refl, sym, ap, subst}
 use mathlib.Core.List.{List, [], _∷_, List·Memᴰ as In, List·Memᴰ·head as here, List·Memᴰ·tail as there}
-use mathlib.Core.Logic.{_⊎_, inl, inr, ⊎-elim, _≢_}
+use mathlib.Core.Logic.{_⊎_, inl, inr, ⊎-elim}
 use mathlib.Core.Option.{Option, none, some}
-use Prim.Native.Nat.{ℕ, zero, suc, _+_, _*_, _≤_, _<_}
+use Prim.Native.Nat.{ℕ, suc, _+_, _≤_, _<_}
 use native.Mathlib.Omega.{arith}
 use lib.Dec.{leb}
 use lib.ListN.{length}
 use borrow.Author.Tests.{leb-false}
-use Rattle.words.specs.Labels.{Checked, good, refused, refuseIf, andThen}
+use Rattle.words.specs.Labels.{Checked, good, refused}
 use Rattle.words.specs.Sides.{nonEmpty}
 use Rattle.words.specs.Steps.{Triple, Step}
-use Rattle.words.proofs.CheckedLaws.{not-good, good-inj, past-check, past-then}
-use Rattle.calls.specs.Store.{Memory, Used, Store, stateRoom, trRoom, find, add, append}
+use Rattle.words.proofs.CheckedLaws.{good≢refused, good-is, past-check, past-then}
+use Rattle.words.proofs.StepRange.{InRange}
+use Rattle.calls.specs.Store.{Store, stateRoom, trRoom, find, add, append}
 use Rattle.calls.specs.Calls.{Reached, reachedBy, reach, storeStep, nextFor, storeSteps}
-use Rattle.calls.proofs.StoreForms.{InRange, TrForm, Form}
+use Rattle.calls.proofs.StoreForms.{Form}
 use Rattle.calls.proofs.ChainLaws.{find-sound}
 use Rattle.calls.proofs.FormKept.{add-form, append-form}
 
@@ -40,10 +40,10 @@ pub record StepsKept (S1 S2 : ℕ) (d : Store) (count : ℕ) (e : Store) : Type 
   pub trs : e .used .trs ≡ d .used .trs + count
 
 -- the link that a step's record gets
-abbrev LinkOk : Store → ℕ → ℕ → Type 0
+abbrev pub LinkOk : Store → ℕ → ℕ → Type 0
 LinkOk d last next = (next ≡ 0) ⊎ ((next ≡ d .used .trs + 2) × (d .used .trs + 1 < last))
 
-link-ok : (d : Store) (last : ℕ) (others : List (Checked Step)) → d .used .trs + suc (length others) ≡ last → LinkOk d last (nextFor d (nonEmpty others))
+pub link-ok : {A : Type 0} (d : Store) (last : ℕ) (others : List A) → d .used .trs + suc (length others) ≤ last → LinkOk d last (nextFor d (nonEmpty others))
 link-ok d last [] h = inl refl
 link-ok d last (x ∷ xs) h = inr (refl, omega arith)
 
@@ -57,10 +57,10 @@ module _ {S1 S2 : ℕ} (narrow : S2 ≤ 65535) where
   reached-by : (d : Store) (last : ℕ) (t : Triple) (r : Reached) (o : Option ℕ) → Form S1 S2 d last → InRange S1 S2 t → 0 < d .used .states → find d t ≡ o → reachedBy d t o ≡ good r
       → ReachKept S1 S2 d last r
   reached-by d last t r (some n) form ok any e g =
-      subst (ReachKept S1 S2 d last) (good-inj _ _ g) (record { form = form; inside = find-sound d form t n e .0; states = omega arith; trs = refl; room = refl })
+      subst (ReachKept S1 S2 d last) (good-is g) (record { form = form; inside = find-sound d form t n e .0; states = omega arith; trs = refl; room = refl })
   reached-by d last t r none form ok any e g =
       let c = past-check (leb (stateRoom (d .memory)) (d .used .states)) 13 _ r g in
-      subst (ReachKept S1 S2 d last) (good-inj _ _ (c .1)) (new-reached d last t form ok any (leb-false _ _ (c .0)))
+      subst (ReachKept S1 S2 d last) (good-is (c .1)) (new-reached d last t form ok any (leb-false _ _ (c .0)))
 
   reach-kept : (d : Store) (last : ℕ) (t : Triple) (r : Reached) → Form S1 S2 d last → InRange S1 S2 t → 0 < d .used .states → reach d t ≡ good r → ReachKept S1 S2 d last r
   unfolding reach
@@ -81,20 +81,20 @@ module _ {S1 S2 : ℕ} (narrow : S2 ≤ 65535) where
   step-kept d last next st e form ok any link g =
       let c = past-check (leb (trRoom (d .memory)) (d .used .trs)) 13 _ e g in
       let r = past-then (reach d (st .to)) _ e (c .1) in
-      subst (StepKept S1 S2 d last) (good-inj _ _ (r .2)) (appended d last next st (r .0) link (leb-false _ _ (c .0)) (reach-kept d last (st .to) (r .0) form ok any (r .1)))
+      subst (StepKept S1 S2 d last) (good-is (r .2)) (appended d last next st (r .0) link (leb-false _ _ (c .0)) (reach-kept d last (st .to) (r .0) form ok any (r .1)))
 
   -- every target in range, and `last` the number of records when all steps are stored
   pub steps-kept : (d : Store) (last : ℕ) (steps : List (Checked Step)) (e : Store) → Form S1 S2 d last → ((st : Step) → In (good st) steps → InRange S1 S2 (st .to)) → 0 < d .used .states
       → d .used .trs + length steps ≡ last → storeSteps d steps ≡ good e → StepsKept S1 S2 d (length steps) e
   unfolding storeSteps
   steps-kept d last [] e form ok any h g =
-      let z = good-inj _ _ g in
+      let z = good-is g in
       let l : last ≡ d .used .trs = omega arith in
       subst (StepsKept S1 S2 d 0) z (record { form = rw l at form; states = omega arith; trs = omega arith })
-  steps-kept d last (refused n ∷ others) e form ok any h g = absurd (not-good n e g)
+  steps-kept d last (refused n ∷ others) e form ok any h g = absurd (good≢refused (sym g))
   steps-kept d last (good st ∷ others) e form ok any h g =
       let m = past-then (storeStep d (nextFor d (nonEmpty others)) st) _ e g in
-      let k = step-kept d last (nextFor d (nonEmpty others)) st (m .0) form (ok st (here refl)) any (link-ok d last others h) (m .1) in
+      let k = step-kept d last (nextFor d (nonEmpty others)) st (m .0) form (ok st (here refl)) any (link-ok d last others (omega arith)) (m .1) in
       let r = steps-kept (m .0) last others e (k .form) (λ s i. ok s (there i)) (omega (arith, k .states)) (omega (arith, k .trs)) (m .2) in
       record { form = r .form; states = omega (arith, r .states, k .states); trs = omega (arith, r .trs, k .trs) }
 

@@ -1,19 +1,19 @@
 -- What an expansion does not touch: the words of the records used before it, but for the mark of its own state, and all words past the records used after it.
-use mathlib.Core.Path.{_≡_, refl, sym, _∙_, ap, subst}
+use mathlib.Core.Path.{_≡_, refl, sym, _∙_, subst}
 use mathlib.Core.List.{List, [], _∷_}
 use mathlib.Core.Logic.{_⊎_, inl, inr, ⊎-elim}
 use mathlib.Core.Option.{Option, none, some}
 use Prim.Native.Nat.{ℕ, _+_, _*_, _≤_, _<_}
 use native.Mathlib.Omega.{arith}
 use lib.Dec.{leb}
-use lib.ListN.{length, getD, set, length-set}
+use lib.ListN.{length, getD, length-set}
 use Rattle.lists.specs.Lists.{put}
 use Rattle.lists.proofs.Put.{length-put, put-before, put-after}
-use Rattle.words.specs.Labels.{Checked, good, refused, refuseIf, andThen}
+use Rattle.words.specs.Labels.{Checked, good, refused}
 use Rattle.words.specs.Sides.{nonEmpty}
 use Rattle.words.specs.Steps.{Triple, Step}
-use Rattle.words.proofs.CheckedLaws.{not-good, good-inj, past-check, past-then}
-use Rattle.calls.specs.Store.{Memory, Used, Store, stateRoom, trRoom, slot, headOf, find, stateRecord, add, trRecord, append, mark}
+use Rattle.words.proofs.CheckedLaws.{good≢refused, good-is, past-check, past-then}
+use Rattle.calls.specs.Store.{Store, stateRoom, trRoom, slot, headOf, find, stateRecord, add, trRecord, append, mark}
 use Rattle.calls.specs.Calls.{Reached, reachedBy, reach, storeStep, nextFor, storeSteps}
 
 -- a word of the records used before, or past the records used after
@@ -80,10 +80,10 @@ append-stays d st target next = record {
 }
 
 reached-stays : (d : Store) (t : Triple) (o : Option ℕ) (r : Reached) → reachedBy d t o ≡ good r → Stays d (r .store)
-reached-stays d t (some n) r e = subst (λ (q : Reached). Stays d (q .store)) (good-inj _ _ e) (stays d)
+reached-stays d t (some n) r e = subst (λ (q : Reached). Stays d (q .store)) (good-is e) (stays d)
 reached-stays d t none r e =
     let c = past-check (leb (stateRoom (d .memory)) (d .used .states)) 13 _ r e in
-    subst (λ (q : Reached). Stays d (q .store)) (good-inj _ _ (c .1)) (add-stays d t)
+    subst (λ (q : Reached). Stays d (q .store)) (good-is (c .1)) (add-stays d t)
 
 step-stays : (d : Store) (next : ℕ) (st : Step) (e : Store) → storeStep d next st ≡ good e → Stays d e
 unfolding storeStep reach
@@ -91,13 +91,13 @@ step-stays d next st e g =
     let c = past-check (leb (trRoom (d .memory)) (d .used .trs)) 13 _ e g in
     let r = past-then (reach d (st .to)) _ e (c .1) in
     let f = append (r .0 .store) st (r .0 .state) next in
-    subst (Stays d) (good-inj _ _ (r .2)) (onward d (r .0 .store) f (reached-stays d (st .to) (find d (st .to)) (r .0) (r .1)) (append-stays (r .0 .store) st (r .0 .state) next))
+    subst (Stays d) (good-is (r .2)) (onward d (r .0 .store) f (reached-stays d (st .to) (find d (st .to)) (r .0) (r .1)) (append-stays (r .0 .store) st (r .0 .state) next))
 
 -- all steps of an expansion
 pub steps-stay : (d : Store) (steps : List (Checked Step)) (e : Store) → storeSteps d steps ≡ good e → Stays d e
 unfolding storeSteps
-steps-stay d [] e g = subst (Stays d) (good-inj _ _ g) (stays d)
-steps-stay d (refused n ∷ others) e g = absurd (not-good n e g)
+steps-stay d [] e g = subst (Stays d) (good-is g) (stays d)
+steps-stay d (refused n ∷ others) e g = absurd (good≢refused (sym g))
 steps-stay d (good st ∷ others) e g =
     let m = past-then (storeStep d (nextFor d (nonEmpty others)) st) _ e g in
     onward d (m .0) e (step-stays d (nextFor d (nonEmpty others)) st (m .0) (m .1)) (steps-stay (m .0) others e (m .2))

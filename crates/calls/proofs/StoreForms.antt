@@ -1,6 +1,6 @@
 -- What form says, fact by fact, and back: the test is true just where the facts hold.
-use mathlib.Core.Path.{_≡_, refl, sym, _∙_, ap}
-use mathlib.Core.Bool.{Bool, true, false, _&&_, _||_, and-eq-true-iff, false≢true}
+use mathlib.Core.Path.{_≡_, refl}
+use mathlib.Core.Bool.{Bool, true, _&&_, _||_, and-eq-true-iff, false≢true}
 use mathlib.Core.List.{List, [], _∷_}
 use mathlib.Core.Logic.{_⊎_, inl, inr, ⊎-elim}
 use Prim.Native.Nat.{ℕ, zero, suc, _+_, _≤_, _<_}
@@ -8,20 +8,14 @@ use native.Mathlib.Omega.{arith}
 use native.Mathlib.Decide.{decLt}
 use lib.Dec.{eqb, ltb, leb}
 use lib.ListN.{length, getD, List·getD-eq-default}
-use borrow.Author.Tests.{eqb-true, eqb-false, ltb-true, leb-true, eq-eqb, lt-ltb, le-leb}
+use borrow.Author.Tests.{eqb-true, ltb-true, leb-true, eq-eqb, lt-ltb, le-leb}
 use Rattle.lists.specs.Lists.{every, interval}
 use Rattle.lists.proofs.Members.{and-left, and-right, or-cases, or-left, or-right, every-in, every-of, in-interval, of-interval}
 use Rattle.lists.proofs.Places.{every-get, every-by}
 use Rattle.words.specs.Sides.{nonEmpty}
-use Rattle.words.specs.Steps.{Triple}
-use Rattle.calls.specs.Store.{Memory, Used, Store, stateRoom, trRoom, tripleAt, expandedAt, firstAt, nextAt, targetAt, trNextAt}
+use Rattle.words.proofs.StepRange.{InRange}
+use Rattle.calls.specs.Store.{Store, stateRoom, trRoom, tripleAt, expandedAt, firstAt, nextAt, targetAt, trNextAt}
 use Rattle.calls.specs.Forms.{fits, headsOk, tripleOk, expandedOk, stateFormOk, trFormOk, formOk}
-
--- a triple whose pair is in range: S1 and S2 are the machines' numbers of states
-pub record InRange (S1 S2 : ℕ) (t : Triple) : Type 0 where
-  pub s1 : t .s1 < S1
-  pub s2 : t .s2 < S2
-  pub f : t .f ≤ 2
 
 -- the record of state n, where `trs` transition records are used
 pub record StateForm (S1 S2 : ℕ) (states : List ℕ) (trs n : ℕ) : Type 0 where

@@ -2,7 +2,7 @@
 use mathlib.Core.Bool.{Bool, _&&_, not}
 use Prim.Native.Nat.{ℕ}
 use lib.Dec.{eqb, leb}
-use Rattle.words.specs.Labels.{Checked, good, refused, refuseIf, andThen}
+use Rattle.words.specs.Labels.{Checked, good, refuseIf, andThen}
 use Rattle.words.specs.Matches.{inputs, outputs}
 use Rattle.words.specs.Machines.{stateCount, wellFormed}
 use Rattle.words.specs.Sides.{Side, only, both, sideOf}

@@ -1,11 +1,11 @@
 -- 01, "Session and memory": form, judged on whatever memory holds.
-use mathlib.Core.Bool.{Bool, _&&_, _||_, not}
+use mathlib.Core.Bool.{Bool, _&&_, _||_}
 use mathlib.Core.List.{List}
 use Prim.Native.Nat.{ℕ, _+_}
 use lib.Dec.{eqb, ltb, leb}
 use Rattle.lists.specs.Lists.{every, interval}
 use Rattle.words.specs.Sides.{nonEmpty}
-use Rattle.calls.specs.Store.{Memory, Used, Store, stateRoom, trRoom, tripleAt, expandedAt, firstAt, nextAt, targetAt, trNextAt}
+use Rattle.calls.specs.Store.{Store, stateRoom, trRoom, tripleAt, expandedAt, firstAt, nextAt, targetAt, trNextAt}
 
 -- not "used above room"
 unfoldable pub fits : Store → Bool

@@ -9,9 +9,9 @@ use Rattle.lists.specs.Lists.{interval}
 use Rattle.words.specs.Labels.{Checked, good, refused, andThen, collect}
 use Rattle.words.specs.Steps.{Triple}
 use Rattle.words.specs.Settings.{Settings, Lent}
-use Rattle.calls.specs.Store.{Memory, Used, stateSize, trSize, tripleAt, trField}
+use Rattle.calls.specs.Store.{Memory, stateSize, trSize, tripleAt, trField}
 use Rattle.calls.specs.Checks.{Session}
-use Rattle.calls.specs.Calls.{Outcome, openOf, runOf, finalWeightOf, recordsOf}
+use Rattle.calls.specs.Calls.{openOf, runOf, finalWeightOf, recordsOf}
 
 -- "side: input, output or both; s: state, s1, s2, f, final or -; t: input, output, weight, target; end: counts"; a side by its number in the session
 pub data Line : Type 0 where
