@@ -1,0 +1,53 @@
+-- Lists of calls: what each call keeps, every list keeps; so every world of a list is sound, and what it gave is given again at the end.
+use mathlib.Core.Path.{_≡_, refl, sym, subst}
+use mathlib.Core.List.{List, [], _∷_, _++_, append-nil}
+use Rattle.words.specs.Steps.{Composition}
+use Rattle.words.specs.Settings.{Settings, Lent}
+use Rattle.calls.specs.Calls.{Outcome, openOf}
+use Rattle.calls.specs.Sequences.{World, Call, opening, expand, finalWeight, records, run, callOf, after}
+use Rattle.calls.proofs.OpenCases.{by-open}
+use Rattle.readings.specs.Demands.{worldOf, Refused, OpeningsRefused, Sound, Leaves, Again}
+use Rattle.readings.proofs.Grows.{Kept}
+use Rattle.readings.proofs.CallsKept.{Onto, onto-none, onto-on, expand-onto, final-stays, run-onto, leaves, again-onto}
+
+-- a refused opening leaves all as it was
+pub open-stays : (s : Settings) (k : Lent) (w : World) → Refused (openOf s k (w .session) (w .memory) .answer) → worldOf (openOf s k (w .session) (w .memory)) ≡ w
+open-stays s k w =
+    by-open s k (w .session) (w .memory) (λ (o : Outcome (Unit {0})). Refused (o .answer) → worldOf o ≡ w)
+    (λ n e r. refl) (λ side e h r. absurd r) (λ side t e h r. refl) (λ side t e h b r. absurd r)
+
+module _ (l : Lent) (c : Composition) where
+  -- one call, and what is asked of the openings after it
+  pub one-call : (w : World) (x : Call) (cs : List Call) → Kept l c w → OpeningsRefused l w (x ∷ cs) → Onto l c w (callOf l w x .world) × OpeningsRefused l (callOf l w x .world) cs
+  unfolding callOf
+  one-call w (opening s k) cs h r = (subst (Onto l c w) (sym (open-stays s k w (r .0))) (onto-none l c w h), r .1)
+  one-call w (expand n) cs h r = (expand-onto l c w h n, r)
+  one-call w (finalWeight n) cs h r = (subst (Onto l c w) (sym (final-stays l c w n)) (onto-none l c w h), r)
+  one-call w (records n) cs h r = (onto-none l c w h, r)
+  one-call w run cs h r = (run-onto l c w h .onto, r)
+
+  -- the calls before a point of the list
+  pub calls-onto : (w : World) (before later : List Call) → Kept l c w → OpeningsRefused l w (before ++ later) → Onto l c w (after l w before) × OpeningsRefused l (after l w before) later
+  unfolding after
+  calls-onto w [] later h r = (onto-none l c w h, r)
+  calls-onto w (x ∷ before) later h r =
+      let a = one-call w x (before ++ later) h r in
+      let b = calls-onto (callOf l w x .world) before later (a .0 .kept) (a .1) in
+      (onto-on l c w (callOf l w x .world) (after l (callOf l w x .world) before) (a .0) (b .0), b .1)
+
+  after-append : (w : World) (before later : List Call) → after l (after l w before) later ≡ after l w (before ++ later)
+  unfolding after
+  after-append w [] later = refl
+  after-append w (x ∷ before) later = after-append (callOf l w x .world) before later
+
+  pub calls-sound : (w : World) (cs : List Call) → Kept l c w → OpeningsRefused l w cs → (before later : List Call) → before ++ later ≡ cs → Sound l c (after l w before) × Leaves l (after l w before)
+  calls-sound w cs h r before later e =
+      let a = calls-onto w before later h (subst (OpeningsRefused l w) (sym e) r) in
+      (a .0 .kept .sound, leaves l c (after l w before) (a .0 .kept))
+
+  pub calls-again : (w : World) (cs : List Call) → Kept l c w → OpeningsRefused l w cs → (before later : List Call) → before ++ later ≡ cs → Again l (after l w before) (after l w cs)
+  calls-again w cs h r before later e =
+      let a = calls-onto w before later h (subst (OpeningsRefused l w) (sym e) r) in
+      let v = after l w before in
+      let b = calls-onto v later [] (a .0 .kept) (subst (OpeningsRefused l v) (sym (append-nil later)) (a .1)) in
+      subst (Again l v) (subst (λ (q : List Call). after l v later ≡ after l w q) e (after-append w before later)) (again-onto l c v (after l v later) (a .0 .kept) (b .0))

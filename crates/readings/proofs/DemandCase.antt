@@ -1,0 +1,135 @@
+-- A closed instance, so that the claim is seen to speak of something: 01's listing in memory full of words without meaning, with a refused opening, an expansion, a run, handing back
+-- and a final weight. In a memory of one state record less the run is refused by 13, and there the answers part.
+use mathlib.Core.Path.{_≡_, refl, sym, _∙_, subst}
+use mathlib.Core.List.{List, [], _∷_}
+use mathlib.Core.Option.{some}
+use Prim.Native.Nat.{ℕ}
+use native.Mathlib.Omega.{arith}
+use lib.ListN.{replicate}
+use Rattle.words.specs.Labels.{good, refused}
+use Rattle.words.specs.Matches.{outputs}
+use Rattle.words.specs.Sides.{only}
+use Rattle.words.specs.Steps.{Composition}
+use Rattle.words.specs.Settings.{Settings, Lent, compositionOf}
+use Rattle.words.proofs.CheckedLaws.{good-is}
+use Rattle.calls.specs.Store.{Memory}
+use Rattle.calls.specs.Checks.{Session, sideFor}
+use Rattle.calls.specs.Calls.{openOf, recordsOf}
+use Rattle.calls.specs.Sequences.{World, Call, opening, expand, finalWeight, records, run, Reply, refusal, accepted, weight, answered, handed, replies, after}
+use Rattle.calls.specs.Listing.{settingsOf}
+use Rattle.calls.proofs.Cases.{Holds}
+use Rattle.calls.proofs.StarCases.{plain, lend, session, listPart, example1, example2}
+use Rattle.readings.specs.Demands.{worldOf, OpeningsRefused, SameUntil, Sound, Demand3}
+use Rattle.readings.proofs.Openings.{open-keeps}
+use Rattle.readings.proofs.CallLists.{calls-sound, calls-again}
+use Rattle.readings.proofs.LargerMemory.{larger}
+use Rattle.readings.proofs.Demands.{demand-3}
+
+abbrev both : Lent
+both = lend example1 example2
+
+abbrev set : Settings
+set = settingsOf (plain 0 0)
+
+-- the session that the opening gets is unread
+abbrev got : Session
+got = session (1 ∷ 2 ∷ 3 ∷ 4 ∷ 5 ∷ 6 ∷ []) 7 8 9
+
+-- room for the four states and three transitions that are found; three heads
+abbrev large : Memory
+large = record { heads = 9 ∷ 9 ∷ 9 ∷ []; states = replicate 24 8; trs = replicate 17 6 }
+
+-- room for three states; two heads
+abbrev small : Memory
+small = record { heads = 7 ∷ 7 ∷ []; states = replicate 19 5; trs = replicate 15 4 }
+
+abbrev from : Memory → World
+from m = worldOf (openOf set both got m)
+
+-- expand, an opening with the kind 2, which is refused by 1, run, handing back, expand again, final weight
+abbrev calls : List Call
+calls = expand 0 ∷ opening (settingsOf (plain 2 0)) both ∷ run ∷ records 1 ∷ expand 0 ∷ finalWeight 3 ∷ []
+
+abbrev with : ℕ → ℕ → Session
+with states trs = session (plain 0 0) 1 states trs
+
+-- what the list returns in the larger memory, and in the smaller
+abbrev said : List Reply
+said =
+    answered (listPart 1 1) (with 2 1)
+    ∷ answered (refusal 1) (with 2 1)
+    ∷ answered accepted (with 4 3)
+    ∷ handed (0 ∷ 7 ∷ 4 ∷ 2 ∷ 0 ∷ [])
+    ∷ answered (listPart 1 1) (with 4 3)
+    ∷ answered (weight (some 3)) (with 4 3)
+    ∷ []
+
+abbrev saidSmall : List Reply
+saidSmall =
+    answered (listPart 1 1) (with 2 1)
+    ∷ answered (refusal 1) (with 2 1)
+    ∷ answered (refusal 13) (with 3 2)
+    ∷ handed (0 ∷ 7 ∷ 4 ∷ 2 ∷ 0 ∷ [])
+    ∷ answered (listPart 1 1) (with 3 2)
+    ∷ answered (refusal 9) (with 3 2)
+    ∷ []
+
+pub opens-large : openOf set both got large .answer ≡ good tt
+unfolding Holds
+opens-large = refl
+
+pub opens-small : openOf set both got small .answer ≡ good tt
+unfolding Holds
+opens-small = refl
+
+pub replies-large : replies both (from large) calls ≡ said
+unfolding Holds
+replies-large = refl
+
+pub replies-small : replies both (from small) calls ≡ saidSmall
+unfolding Holds
+replies-small = refl
+
+refused-large : OpeningsRefused both (from large) calls
+unfolding Holds
+refused-large = (tt, tt)
+
+refused-small : OpeningsRefused both (from small) calls
+unfolding Holds
+refused-small = (tt, tt)
+
+rule : sideFor set both ≡ good (only outputs)
+unfolding Holds
+rule = refl
+
+abbrev c : Composition
+c = compositionOf set both (only outputs)
+
+-- the claim holds of this list
+pub claimed : Demand3 set both large c (from large) calls
+claimed =
+    let r = demand-3 set both got large opens-large in
+    subst (λ x. Demand3 set both large (compositionOf set both x) (from large) calls) (good-is (sym (r .1) ∙ rule)) (r .2 calls refused-large)
+
+-- its world at the end is sound
+pub sound-there : Sound both c (after both (from large) calls)
+sound-there = calls-sound both c (from large) calls (open-keeps set both got large opens-large (only outputs) rule) refused-large calls [] refl .0
+
+-- state 1, expanded in the run, has its words again at the end
+pub again-there : recordsOf both (after both (from large) calls .session) (after both (from large) calls .memory) 1 ≡ 0 ∷ 7 ∷ 4 ∷ 2 ∷ 0 ∷ []
+unfolding Holds
+again-there =
+    calls-again both c (from large) calls (open-keeps set both got large opens-large (only outputs) rule) refused-large
+    (expand 0 ∷ opening (settingsOf (plain 2 0)) both ∷ run ∷ []) (records 1 ∷ expand 0 ∷ finalWeight 3 ∷ []) refl .words 1 (omega arith, refl)
+
+-- the smaller memory's answers, up to its 13, are the larger one's
+pub same-there : SameUntil saidSmall said
+same-there =
+    subst (λ x. SameUntil x said) replies-small
+    (subst (SameUntil (replies both (from small) calls)) replies-large
+    (larger set both got got small large (record { heads = omega arith; states = omega arith; trs = omega arith }) opens-small (only outputs) rule calls refused-small .same))
+
+-- a memory without heads is shorter: its opening is refused
+pub no-heads : openOf set both got (record { heads = []; states = replicate 24 8; trs = replicate 17 6 }) .answer ≡ refused 13
+unfolding Holds
+no-heads = refl

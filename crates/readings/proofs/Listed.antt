@@ -1,0 +1,112 @@
+-- 01's lists hold the kept moves of the papers' composition, each once, in whichever direction each state is walked: so accepting paths as places in 01's lists correspond one to
+-- one with the pairs of accepting paths (demand 3c, but for the store).
+use mathlib.Core.Path.{_≡_, refl, sym, _∙_, ap, subst}
+use mathlib.Core.Bool.{true}
+use mathlib.Core.List.{List, [], _∷_, map, List·Memᴰ as In, List·Memᴰ·head as here, List·Memᴰ·tail as there}
+use mathlib.Core.Logic.{_↔_}
+use Prim.Native.Nat.{ℕ, zero, suc}
+use Rattle.lists.specs.Lists.{At, Distinct}
+use Rattle.lists.proofs.Places.{at-in, in-at, at-map, of-at-map}
+use Rattle.lists.proofs.Once.{distinct-of}
+use Rattle.papers.specs.Weight.{semiring}
+use Rattle.papers.specs.Composition.{Triple, Move as Edges, Kept as KeptMove}
+use Rattle.words.specs.Labels.{noLabel, Checked, good, refused}
+use Rattle.words.specs.Matches.{MatchType, inputs, outputs}
+use Rattle.words.specs.Machines.{wellFormed}
+use Rattle.words.specs.Sides.{Side, sideOf}
+use Rattle.words.specs.Filters.{filterOf}
+use Rattle.words.specs.Steps.{Composition, Kept, keptAt}
+use Rattle.words.specs.Settings.{Settings, Lent, operand1, operand2, compositionOf}
+use Rattle.words.specs.AsPapers.{exact, edgesOf, plain, WalkedSigma}
+use Rattle.words.proofs.TableLaws.{sequenceLive, sequence-laws, alternateLive, alternate-laws, matchingLive, matching-laws}
+use Rattle.words.proofs.CheckedLaws.{good-is}
+use Rattle.words.proofs.PapersMoves.{Sound, Exactly}
+use Rattle.words.proofs.PapersOpened.{kept-as-papers, no-sigma, directed, sound-of}
+use Rattle.readings.specs.Correspondence.{OneToOne}
+use Rattle.readings.specs.Merge.{merge}
+use Rattle.readings.specs.Readings.{at, pairOf, PairFrom, Readings}
+use Rattle.readings.specs.Places.{Lists, movesAt, placesOf, AcceptingPlaces}
+use Rattle.readings.specs.Listed.{goods, entryOf, listedAt, pickOf}
+use Rattle.readings.proofs.Filters.{ReadingsOf, equal-readings}
+use Rattle.readings.proofs.Placed.{placed-readings}
+
+-- a list without refusals is its values
+all-good : {A : Type 0} (l : List (Checked A)) → ((n : ℕ) → In (refused n) l → ⊥) → l ≡ map good (goods l)
+unfolding goods
+all-good [] h = refl
+all-good (good a ∷ l) h = ap (λ r. good a ∷ r) (all-good l (λ n i. h n (there i)))
+all-good (refused n ∷ l) h = absurd (h n (here refl))
+
+module _ (c : Composition) (S : Sound c) (none1 : c .operand1 .sigma .label ≡ noLabel) (none2 : c .operand2 .sigma .label ≡ noLabel) (s : Triple) where
+  exact-list : (d : MatchType) × Exactly d c s (keptAt c s)
+  exact-list = let r = directed c s none1 in (r .0, kept-as-papers c S s (r .0) (r .1))
+
+  no-walked : (d : MatchType) → WalkedSigma d (c .operand1) (c .operand2) (s .s1) (s .s2) → ⊥
+  no-walked inputs w = S .labels1 (s .s1) (w .0) (w .1) (w .2 ∙ none2)
+  no-walked outputs w = S .labels2 (s .s2) (w .0) (w .1) (w .2 ∙ none1)
+
+  -- no kept move is refused
+  pub kept-good : keptAt c s ≡ map good (goods (keptAt c s))
+  kept-good = let E = exact-list in all-good (keptAt c s) (λ n i. no-walked (E .0) (E .1 .refusals n .0 i .1))
+
+  -- a place of the one list is the place of the other
+  pub listed-places : (k : ℕ) (m : Edges) (g : ℕ) → At (listedAt c s) k (m, g) ↔ ((v : Kept) × At (keptAt c s) k (good v) × ((m, g) ≡ entryOf v))
+  unfolding listedAt
+  listed-places k m g = (
+    λ h. let r = of-at-map entryOf (goods (keptAt c s)) k h in (r .0, subst (λ l. At l k (good (r .0))) (sym kept-good) (at-map good (goods (keptAt c s)) k (r .1)), r .2),
+    λ h.
+        let r = of-at-map good (goods (keptAt c s)) k (subst (λ l. At l k (good (h .0))) kept-good (h .1)) in
+        let e : h .0 ≡ r .0 = good-is (r .2) in
+        subst (At (listedAt c s) k) (sym (h .2 ∙ ap entryOf e)) (at-map entryOf (goods (keptAt c s)) k (r .1)),
+  )
+
+  pub exactly-listed : (m : Edges) (g : ℕ) → In (m, g) (listedAt c s) ↔ KeptMove (plain c) s m g
+  exactly-listed m g = (
+    λ i.
+        let p = in-at i in
+        let r = listed-places (p .0) m g .0 (p .1) in
+        subst (λ (e : Edges × ℕ). KeptMove (plain c) s (e .0) (e .1)) (sym (r .2))
+        (no-sigma c S none1 none2 s (E .0) (edgesOf (r .0 .move)) (r .0 .next) .0 (E .1 .sound (r .0) (at-in (keptAt c s) (p .0) (r .1)))),
+    λ h.
+        let p = in-at (E .1 .complete m g (no-sigma c S none1 none2 s (E .0) m g .1 h)) in
+        at-in (listedAt c s) (p .0) (listed-places (p .0) m g .1 (_, p .1, λ i. (sym (E .1 .itself m) i, g))),
+  )
+    where
+      E : (d : MatchType) × Exactly d c s (keptAt c s)
+      E = exact-list
+
+  once-listed : Distinct (listedAt c s)
+  once-listed =
+      distinct-of (listedAt c s)
+      (λ j k a u v.
+      let x = listed-places j (a .0) (a .1) .0 u in
+      let y = listed-places k (a .0) (a .1) .0 v in
+      exact-list .1 .once j k (x .0) (y .0) (x .1) (y .1) (ap (λ (e : Edges × ℕ). e .0) (sym (x .2) ∙ y .2)))
+
+-- at every triple
+pub words-lists : (c : Composition) → Sound c → c .operand1 .sigma .label ≡ noLabel → c .operand2 .sigma .label ≡ noLabel → Lists (plain c) (λ s. Unit {0}) (listedAt c)
+words-lists c S none1 none2 = record {
+  exactly = λ s f. exactly-listed c S none1 none2 s;
+  once = λ s f. once-listed c S none1 none2 s;
+  onward = λ s f m g h. tt;
+}
+
+-- whichever of the three filters a composition has
+pub readings-of : (c : Composition) (n : ℕ) → c .filter ≡ filterOf n → Readings (semiring (c .kind)) (exact (c .kind)) _≡_ (plain c) (merge (pickOf n) (c .operand1 .machine) (c .operand2 .machine))
+readings-of c n e = subst (λ F. ReadingsOf (c .kind) (exact (c .kind)) (c .operand1 .machine) (c .operand2 .machine) F (pickOf n)) (sym e) (go n)
+  where
+    go : (n : ℕ) → ReadingsOf (c .kind) (exact (c .kind)) (c .operand1 .machine) (c .operand2 .machine) (filterOf n) (pickOf n)
+    go zero = equal-readings (c .kind) (exact (c .kind)) (c .operand1 .machine) (c .operand2 .machine) _ sequenceLive _ sequence-laws
+    go (suc zero) = equal-readings (c .kind) (exact (c .kind)) (c .operand1 .machine) (c .operand2 .machine) _ alternateLive _ alternate-laws
+    go (suc (suc m)) = equal-readings (c .kind) (exact (c .kind)) (c .operand1 .machine) (c .operand2 .machine) _ matchingLive _ matching-laws
+
+-- 3c, but for the store: of an opening with well-formed machines, an accepted side and no sigma label set, from any two states
+pub opened-readings : (s : Settings) (l : Lent) (side : Side) → wellFormed (l .m1) ≡ true → wellFormed (l .m2) ≡ true → sideOf (operand1 s l) (operand2 s l) ≡ good side
+    → s .sigma1 ≡ noLabel → s .sigma2 ≡ noLabel → (q1 q2 : ℕ)
+    → let c = compositionOf s l side in
+    OneToOne (AcceptingPlaces (plain c) (listedAt c) (semiring (c .kind)) (exact (c .kind)) (at q1 q2)) (PairFrom (semiring (c .kind)) (exact (c .kind)) _≡_ (plain c) q1 q2)
+    (λ ks. pairOf (movesAt (plain c) (listedAt c) (at q1 q2) ks))
+    (λ p. placesOf (plain c) (listedAt c) (at q1 q2) (merge (pickOf (s .filter)) (c .operand1 .machine) (c .operand2 .machine) (p .0) (p .1)))
+opened-readings s l side w1 w2 e n1 n2 q1 q2 =
+    let c = compositionOf s l side in
+    placed-readings (plain c) (λ s. Unit {0}) (listedAt c) (words-lists c (sound-of s l side w1 w2 e) n1 n2) (semiring (c .kind)) (exact (c .kind)) _≡_ _ (readings-of c (s .filter) refl) q1 q2 tt

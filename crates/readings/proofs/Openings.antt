@@ -1,0 +1,91 @@
+-- Whatever memory held, an accepted opening establishes what every call keeps: state 0 is the start, nothing is expanded, no transition is used.
+use mathlib.Core.Path.{_≡_, sym, _∙_, ap, subst}
+use mathlib.Core.Option.{none, some, Option·none-ne-some, Option·some-injective}
+use Prim.Native.Nat.{ℕ, _<_}
+use native.Mathlib.Omega.{arith}
+use Rattle.words.specs.Labels.{good}
+use Rattle.words.specs.Sides.{Side}
+use Rattle.words.specs.Steps.{Composition, Triple, startAt}
+use Rattle.words.specs.Settings.{Settings, Lent, compositionOf}
+use Rattle.words.proofs.CheckedLaws.{good≢refused, good-is}
+use Rattle.calls.specs.Store.{Memory, expandedAt, add}
+use Rattle.calls.specs.Checks.{Session, sideFor, entered}
+use Rattle.calls.specs.Calls.{Outcome, cleared, openOf}
+use Rattle.calls.specs.Sequences.{World}
+use Rattle.calls.proofs.FindLaws.{whole-distinct}
+use Rattle.calls.proofs.OpenKept.{open-kept}
+use Rattle.calls.proofs.OpenCases.{openedAs, Begins, by-open, begun-triple, begun-field, begun-whole}
+use Rattle.readings.specs.Demands.{worldOf, Expanded, Found, at-start, as-target}
+use Rattle.readings.proofs.Grows.{Kept}
+
+module _ (s : Settings) (l : Lent) (side : Side) (rule : sideFor s l ≡ good side) (m : Memory) where
+  abbrev c : Composition
+  c = compositionOf s l side
+
+  -- without a start no state is found
+  empty-kept : startAt c ≡ none → entered l (openedAs s side (cleared m) .session) (openedAs s side (cleared m) .memory) ≡ good c → Kept l c (worldOf (openedAs s side (cleared m)))
+  unfolding cleared
+  empty-kept h e = record {
+    whole = λ n i. absurd (omega arith);
+    sound = record {
+      enters = e;
+      found = λ n. (λ i. absurd (omega arith), none-found n);
+      listed = λ r. (λ i. absurd (omega (arith, i .0, i .1)), λ a. absurd (omega (arith, a .1 .0)));
+      alone = λ r j k x y a b. absurd (omega (arith, x .0));
+      distinct = λ i j p q z. absurd (omega arith);
+      start = λ t z. absurd (Option·none-ne-some _ (sym h ∙ z));
+      lists = λ n x. absurd (omega (arith, x .0));
+    };
+  }
+    where
+      none-found : (n : ℕ) → Found c (worldOf (openedAs s side (cleared m))) n → n < 0
+      none-found n (at-start _ t z k) = absurd (Option·none-ne-some _ (sym h ∙ z))
+      none-found n (as-target _ k r f x i z) = absurd (omega (arith, x .0))
+
+  module _ (t : Triple) (h : startAt c ≡ some t) (begins : Begins m) where
+    abbrev w : World
+    w = worldOf (openedAs s side (add (cleared m) t))
+
+    bare : (n : ℕ) → Expanded w n → ⊥
+    unfolding cleared add expandedAt
+    bare n x =
+        let z : n ≡ 0 = omega (arith, x .0) in
+        let a = begun-field s l side t rule h m begins 2 (omega arith) in
+        let b = subst (λ k. expandedAt (w .memory .states) k ≡ 1) z (x .1) in
+        omega (arith, a, b)
+
+    start-kept : entered l (w .session) (w .memory) ≡ good c → Kept l c w
+    unfolding cleared add
+    start-kept e =
+        let whole = begun-whole s l side t rule h m begins in
+        record {
+          whole = whole;
+          sound = record {
+            enters = e;
+            found = λ n. (λ i. at-start n t h (omega arith), only-start n);
+            listed = λ r. (λ i. absurd (omega (arith, i .0, i .1)), λ a. absurd (bare (a .0) (a .1)));
+            alone = λ r j k x y a b. absurd (bare j x);
+            distinct = whole-distinct (add (cleared m) t) whole;
+            start = λ u z. begun-triple s l side t rule h m begins ∙ Option·some-injective t u (sym h ∙ z);
+            lists = λ n x. absurd (bare n x);
+          };
+        }
+      where
+        only-start : (n : ℕ) → Found c w n → n < w .session .used .states
+        only-start n (at-start _ u z k) = omega (arith, k)
+        only-start n (as-target _ k r f x i z) = absurd (bare k x)
+
+-- the side is the one that the rule gives
+pub open-keeps : (s : Settings) (l : Lent) (got : Session) (m : Memory) → openOf s l got m .answer ≡ good tt → (side : Side) → sideFor s l ≡ good side
+    → Kept l (compositionOf s l side) (worldOf (openOf s l got m))
+open-keeps s l got m e side rule =
+    let o = open-kept s l got m tt e in
+    let q : entered l (openOf s l got m .session) (openOf s l got m .memory) ≡ good (compositionOf s l side) = o .kept ∙ ap (λ x. good (compositionOf s l x)) (good-is (sym (o .rule) ∙ rule)) in
+    let r =
+    by-open s l got m (λ (o : Outcome (Unit {0})). o .answer ≡ good tt → (x : Side) × (sideFor s l ≡ good x) × (entered l (o .session) (o .memory) ≡ good (compositionOf s l x) → Kept l (compositionOf s l x) (worldOf o)))
+    (λ k r z. absurd (good≢refused (sym z)))
+    (λ x r h z. (x, r, empty-kept s l x r m h))
+    (λ x t r h z. absurd (good≢refused (sym z)))
+    (λ x t r h b z. (x, r, start-kept s l x r m t h b))
+    e in
+    subst (λ x. entered l (openOf s l got m .session) (openOf s l got m .memory) ≡ good (compositionOf s l x) → Kept l (compositionOf s l x) (worldOf (openOf s l got m))) (good-is (sym (r .1) ∙ rule)) (r .2) q

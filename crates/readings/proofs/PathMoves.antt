@@ -1,0 +1,52 @@
+-- A composed state all of whose kept moves have a step, without sigma labels: its k-th step is that of the k-th listed move, and nothing is rewritten.
+use mathlib.Core.Path.{_≡_, refl, sym, _∙_, ap, subst}
+use mathlib.Core.Bool.{Bool, true, false, cond}
+use mathlib.Core.List.{List, map, List·Memᴰ as In}
+use mathlib.Core.Logic.{_≢_}
+use Prim.Native.Nat.{ℕ}
+use lib.ListN.{length, length-map}
+use borrow.Author.Tests.{ne-eqb}
+use Rattle.lists.specs.Lists.{At}
+use Rattle.lists.proofs.Places.{at-map, of-at-map}
+use Rattle.papers.specs.Composition.{Leaves, outer, Triple}
+use Rattle.papers.specs.Machine.{Machine}
+use Rattle.words.specs.Labels.{noLabel, good, andThen}
+use Rattle.words.specs.Matches.{Match, loop, own, viaSigma}
+use Rattle.words.specs.Sigmas.{Sigma, replace}
+use Rattle.words.specs.Steps.{Composition, Kept, Step, keptAt, stepOf, stepsAt}
+use Rattle.words.specs.AsPapers.{edgeOf, rewritten}
+use Rattle.words.proofs.PapersMoves.{Sound}
+use Rattle.words.proofs.PapersSteps.{IsStep, step-good}
+use Rattle.readings.specs.Listed.{goods, entryOf, listedAt}
+use Rattle.readings.proofs.Listed.{kept-good}
+
+-- without a sigma label nothing is rewritten
+pub unwritten : (σ : Sigma) (M : Machine) (q x : ℕ) (label : ℕ → ℕ) (m : Match) → σ .label ≡ noLabel → ((t : ℕ) → In t (M .list q) → label t ≢ noLabel) → Leaves M q (edgeOf m)
+    → rewritten σ x m (outer label (edgeOf m)) ≡ outer label (edgeOf m)
+unwritten σ M q x label loop e n i = refl
+unwritten σ M q x label (own t) e n i = refl
+unwritten σ M q x label (viaSigma t) e n i = go (σ .rewriteBoth)
+  where
+    go : (b : Bool) → cond b (replace (σ .label) x (label t)) (label t) ≡ label t
+    go true = rw (e, ne-eqb (label t) noLabel (n t i))
+    go false = refl
+
+-- where each kept move has a step
+module _ (c : Composition) (P : Sound c) (t : Triple) (steps : List Step) (all : stepsAt c t ≡ map good steps) where
+  -- the step of the move at a place
+  pub listed-step : (k : ℕ) (v : Kept) → At (keptAt c t) k (good v) → (step : Step) × At steps k step × IsStep c t v step
+  unfolding stepsAt
+  listed-step k v h =
+      let r = of-at-map good steps k (subst (λ l. At l k (stepOf c t v)) all (at-map (λ x. andThen x (stepOf c t)) (keptAt c t) k h)) in
+      (r .0, r .1, step-good c P t v (r .0) (r .2))
+
+  -- as many moves as steps
+  pub listed-length : c .operand1 .sigma .label ≡ noLabel → c .operand2 .sigma .label ≡ noLabel → length (listedAt c t) ≡ length steps
+  unfolding stepsAt listedAt
+  listed-length none1 none2 =
+      length-map (goods (keptAt c t)) entryOf
+      ∙ sym (length-map (goods (keptAt c t)) good)
+      ∙ sym (ap length (kept-good c P none1 none2 t))
+      ∙ sym (length-map (keptAt c t) (λ k. andThen k (stepOf c t)))
+      ∙ ap length all
+      ∙ length-map steps good

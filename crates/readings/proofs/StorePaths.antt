@@ -1,0 +1,106 @@
+-- Demand 3c of a store: its accepting paths, as lists of record numbers, correspond one to one with the pairs of accepting paths that match. The records of a state are its moves
+-- (PathRecords, PathFollows), and the moves are read by the theorem on the papers' composition (Filters); here the two are chained, from the start.
+use mathlib.Core.Path.{_≡_, refl, sym, _∙_, ap, subst}
+use mathlib.Core.Bool.{Bool, true}
+use mathlib.Core.List.{List, List·Memᴰ as In}
+use mathlib.Core.Option.{none, some, Option·none-ne-some}
+use Prim.Native.Nat.{ℕ, _<_}
+use native.Mathlib.Omega.{arith}
+use Rattle.papers.specs.Weight.{semiring}
+use Rattle.papers.specs.Filter.{MoveKind}
+use Rattle.papers.specs.Composition.{Triple, Move as Edges}
+use Rattle.papers.specs.Paths.{word, AcceptingRun, movesWeight}
+use Rattle.words.specs.Labels.{good}
+use Rattle.words.specs.Machines.{listOf, wellFormed}
+use Rattle.words.specs.Sides.{Side}
+use Rattle.words.specs.Steps.{Composition, startAt}
+use Rattle.words.specs.Settings.{Settings, Lent, compositionOf}
+use Rattle.words.specs.AsPapers.{exact, plain}
+use Rattle.words.proofs.ListLaws.{list-member}
+use Rattle.words.proofs.FormLaws.{TrForm, form}
+use Rattle.words.proofs.PapersOpened.{sound-of}
+use Rattle.words.proofs.PapersSteps.{start-as-papers}
+use Rattle.calls.specs.Checks.{sideFor}
+use Rattle.calls.specs.Sequences.{World}
+use Rattle.calls.proofs.ExpandKept.{sided}
+use Rattle.readings.specs.Correspondence.{OneToOne}
+use Rattle.readings.specs.Readings.{Pair}
+use Rattle.readings.specs.Listed.{pickOf}
+use Rattle.readings.specs.Demands.{stateAt, Found, at-start, as-target, Sound, AcceptingRecords, movesOfRecords, recordsOfMoves, recordsOfPair, Paths, Finished}
+use Rattle.readings.proofs.Correspondences.{chained}
+use Rattle.readings.proofs.Listed.{readings-of}
+use Rattle.readings.proofs.PathRecords.{Whole}
+use Rattle.readings.proofs.PathFollows.{AcceptingAt, records-alike, records-moves}
+
+-- a record in a list of a well-formed machine
+tr-of : (m : List ℕ) → wellFormed m ≡ true → (q t : ℕ) → In t (listOf m q) → TrForm m t
+tr-of m ok q t i = let r = list-member m q i in form m ok .tr t (r .0) (r .1)
+
+pub whole : (s : Settings) (l : Lent) (side : Side) → sideFor s l ≡ good side → (w : World) → Sound l (compositionOf s l side) w → Finished s l w → Whole l (compositionOf s l side) w
+whole s l side rule w S F =
+    let z = sided s l side rule in
+    record {
+      links = sound-of s l side (z .formed1) (z .formed2) (z .rule);
+      sigma1 = F .sigma1;
+      sigma2 = F .sigma2;
+      labels1 = λ q t i e. let h = tr-of (l .m1) (z .formed1) q t i .input in omega (arith, h, e);
+      labels2 = λ q t i e. let h = tr-of (l .m2) (z .formed2) q t i .output in omega (arith, h, e);
+      sound = S;
+      expanded = F .expanded;
+      weighed = F .weighed;
+    }
+
+-- what is found goes back to the start
+begun : (c : Composition) (w : World) (n : ℕ) → Found c w n → (t : Triple) × (startAt c ≡ some t)
+begun c w n (at-start _ t e z) = (t, e)
+begun c w n (as-target _ k r f x i e) = begun c w k f
+
+-- so where a state is used, both machines have a start
+begins : (l : Lent) (c : Composition) (w : World) → Sound l c w → 0 < w .session .used .states → (t : Triple) × (startAt c ≡ some t)
+begins l c w S h = begun c w 0 (S .found 0 .0 h)
+
+module _ (l : Lent) (c : Composition) (w : World) (W : Whole l c w) where
+  -- where the start is t, state 0 is used and has its triple
+  from-start : (t : Triple) → startAt c ≡ some t → (0 < w .session .used .states) × (stateAt w 0 ≡ t)
+  from-start t e = (W .sound .found 0 .1 (at-start 0 t e refl), W .sound .start t e)
+
+  start-records : OneToOne (AcceptingRecords l w) (AcceptingRun (semiring (c .kind)) (exact (c .kind)) (plain c)) (movesOfRecords c w 0) (recordsOfMoves c w 0)
+  start-records = record {
+    goes = λ rs h.
+        let t = begins l c w (W .sound) (h .0) in
+        (t .0, start-as-papers c (t .0) .0 (t .1), subst (λ q. AcceptingAt c q (movesOfRecords c w 0 rs)) (from-start (t .0) (t .1) .1) (records-moves l c w W 0 (h .0) .goes rs (h .1)));
+    comes = λ ms h. let u = used ms h in (u .0, records-moves l c w W 0 (u .0) .comes ms (u .1));
+    from-to = λ rs h. records-moves l c w W 0 (h .0) .from-to rs (h .1);
+    to-from = λ ms h. let u = used ms h in records-moves l c w W 0 (u .0) .to-from ms (u .1);
+  }
+    where
+      used : (ms : List Edges) → AcceptingRun (semiring (c .kind)) (exact (c .kind)) (plain c) ms
+          → (0 < w .session .used .states) × AcceptingAt c (stateAt w 0) ms
+      used ms h =
+          let f = from-start (h .0) (start-as-papers c (h .0) .1 (h .1)) in
+          (f .0, subst (λ q. AcceptingAt c q ms) (sym (f .1)) (h .2))
+
+-- 3c, of every sound and finished store: whichever the filter, the side and the order of the lists
+pub store-paths : (s : Settings) (l : Lent) (side : Side) → sideFor s l ≡ good side → (w : World) → Sound l (compositionOf s l side) w → Finished s l w
+    → Paths l (compositionOf s l side) (pickOf (s .filter)) w
+store-paths s l side rule w S F =
+    let c = compositionOf s l side in
+    let W = whole s l side rule w S F in
+    let r = readings-of c (s .filter) refl in
+    record {
+      paths = chained (start-records l c w W) (r .paths);
+      weights = λ t e rs h.
+          records-alike l c w W 0 (h .0) rs (h .1) .weight
+          ∙ ap (λ (q : Triple). movesWeight (semiring (c .kind)) (exact (c .kind)) (plain c) (q .s1) (q .s2) (movesOfRecords c w 0 rs)) (S .start t e)
+          ∙ r .weights (t .s1) (t .s2) (movesOfRecords c w 0 rs);
+      inputs = λ rs h. ap word (records-alike l c w W 0 (h .0) rs (h .1) .inputs) ∙ r .inputs (movesOfRecords c w 0 rs);
+      outputs = λ rs h. ap word (records-alike l c w W 0 (h .0) rs (h .1) .outputs) ∙ r .outputs (movesOfRecords c w 0 rs);
+    }
+
+-- a machine without a start: the store has no accepting path, and there is no pair
+pub none-without-start : (l : Lent) (c : Composition) (pick : Bool → Bool → MoveKind) (w : World) → Sound l c w → Paths l c pick w → startAt c ≡ none
+    → ((rs : List ℕ) → AcceptingRecords l w rs → ⊥) × ((p : List ℕ × List ℕ) → Pair (semiring (c .kind)) (exact (c .kind)) _≡_ (plain c) p → ⊥)
+none-without-start l c pick w S P e = (no-records, λ p h. no-records (recordsOfPair c pick w p) (P .paths .comes p h))
+  where
+    no-records : (rs : List ℕ) → AcceptingRecords l w rs → ⊥
+    no-records rs h = Option·none-ne-some _ (sym e ∙ begins l c w S (h .0) .1)
