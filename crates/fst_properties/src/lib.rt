@@ -1,0 +1,8 @@
+// What holds of a machine in fact (fst_properties): its sides sorted, input equal to output, its words well formed.
+mod check;
+mod properties;
+mod records;
+
+pub use check::well_formed;
+pub use properties::acceptor;
+pub use properties::sorted;

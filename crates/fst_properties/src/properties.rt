@@ -1,0 +1,65 @@
+// Sortedness of a side and the acceptor property, in fact: on every slice, and in time bounded by its length.
+ghost use mathlib.Core.Path.{_≡_};
+ghost use Prim.Native.Nat.{min};
+ghost use Rattle.words.specs.Machines.{sorted as sortedOf, acceptor as acceptorOf, machineOf};
+ghost use Rattle.fst.specs.Meaning.{onOf};
+use crate::records::RecordTest;
+use crate::records::all_records;
+use fst::EPS_LABEL;
+use fst::MatchType;
+use fst::StateId;
+use fst::first_tr;
+use fst::label_on;
+use fst::next_tr;
+use fst::num_records;
+use fst::num_states;
+
+// The lesser of a count and the room for it. What lies past the end reads as 0, so that no look at it is needed, whatever the header says.
+fn least(n: u32, room: usize) -> u32
+    ensures { λ r. ⌜ r ≡ min n room ⌝ }
+{
+    if (n as usize) <= room { n } else { room as u32 }
+}
+
+// Walks the list of each state. Left by the label at the first label that falls.
+fn lists_sorted(m: &[u32], on: MatchType) -> bool
+    ensures { λ r. ⌜ r ≡ sortedOf (onOf on) (machineOf (now (m .entry))) ⌝ }
+{
+    let n = least(num_states(m), m.len() / 3);
+    let mut ok = true;
+    let mut s: u32 = 0;
+    'states: while s < n {
+        let mut low = EPS_LABEL;
+        let mut t = first_tr(m, StateId(s));
+        while t != 0 {
+            let label = label_on(m, on, t);
+            if label.0 < low.0 {
+                ok = false;
+                break 'states;
+            }
+            low = label;
+            t = next_tr(m, t);
+        }
+        s += 1;
+    }
+    ok
+}
+
+// Whether no label falls within any list. Where no record falls against its next, no list is walked.
+pub fn sorted(m: &[u32], on: MatchType) -> bool
+    ensures { λ r. ⌜ r ≡ sortedOf (onOf on) (machineOf (now (m .entry))) ⌝ }
+{
+    let n = least(num_records(m), m.len() / 5);
+    if all_records(m, RecordTest::Rises(on), n) {
+        return true;
+    }
+    lists_sorted(m, on)
+}
+
+// Whether input equals output in every record, in a list or not.
+pub fn acceptor(m: &[u32]) -> bool
+    ensures { λ r. ⌜ r ≡ acceptorOf (now (m .entry)) ⌝ }
+{
+    let n = least(num_records(m), m.len() / 5);
+    all_records(m, RecordTest::SameLabels, n)
+}

@@ -1,0 +1,95 @@
+// Tests of one transition record, and of a run of records.
+ghost use mathlib.Core.Path.{_≡_};
+ghost use lib.Dec.{eqb};
+ghost use Rattle.lists.specs.Lists.{every, interval};
+ghost use Rattle.words.specs.Machines.{trWord, nextOk, trOk};
+ghost use Rattle.fst.specs.Meaning.{onOf};
+ghost use Rattle.fst_properties.specs.RecordTests.{rises as risesOf, testOf};
+use fst::MatchType;
+use fst::NO_LABEL;
+use fst::label_on;
+use fst::next_tr;
+use fst::num_records;
+use fst::num_states;
+use fst::tr_word;
+
+// What is asked of a record: its own form, input equal to output, or that no label falls from it to the next in its list.
+pub enum RecordTest {
+    Form,
+    SameLabels,
+    Rises(MatchType),
+}
+
+// A next is 0, or above its own number and up to T.
+fn next_ok(m: &[u32], t: u32) -> bool
+    ensures { λ r. ⌜ r ≡ nextOk (now (m .entry)) t ⌝ }
+{
+    let next = tr_word(m, t, 4);
+    if next == 0 {
+        return true;
+    }
+    if t < next {
+        return next <= num_records(m);
+    }
+    false
+}
+
+// No label MAX, a target below S, a good next.
+fn tr_ok(m: &[u32], t: u32) -> bool
+    ensures { λ r. ⌜ r ≡ trOk (now (m .entry)) t ⌝ }
+{
+    if NO_LABEL.0 <= tr_word(m, t, 0) {
+        return false;
+    }
+    if NO_LABEL.0 <= tr_word(m, t, 1) {
+        return false;
+    }
+    if num_states(m) <= tr_word(m, t, 3) {
+        return false;
+    }
+    next_ok(m, t)
+}
+
+fn same_labels(m: &[u32], t: u32) -> bool
+    ensures { λ r. ⌜ r ≡ eqb (trWord (now (m .entry)) t 0) (trWord (now (m .entry)) t 1) ⌝ }
+{
+    tr_word(m, t, 0) == tr_word(m, t, 1)
+}
+
+fn rises(m: &[u32], on: MatchType, t: u32) -> bool
+    ensures { λ r. ⌜ r ≡ risesOf (onOf on) (now (m .entry)) t ⌝ }
+{
+    let next = next_tr(m, t);
+    if next == 0 {
+        return true;
+    }
+    let low = label_on(m, on, t);
+    let high = label_on(m, on, next);
+    low.0 <= high.0
+}
+
+fn passes(m: &[u32], test: RecordTest, t: u32) -> bool
+    ensures { λ r. ⌜ r ≡ testOf test (now (m .entry)) t ⌝ }
+{
+    match test {
+        RecordTest::Form => tr_ok(m, t),
+        RecordTest::SameLabels => same_labels(m, t),
+        RecordTest::Rises(on) => rises(m, on, t),
+    }
+}
+
+// Whether the records 1 to n pass. Left by the label at the first that does not.
+pub fn all_records(m: &[u32], test: RecordTest, n: u32) -> bool
+    ensures { λ r. ⌜ r ≡ every (testOf test (now (m .entry))) (interval 1 n) ⌝ }
+{
+    let mut ok = true;
+    let mut done: u32 = 0;
+    'records: while done < n {
+        if !passes(m, test, done + 1) {
+            ok = false;
+            break 'records;
+        }
+        done += 1;
+    }
+    ok
+}
