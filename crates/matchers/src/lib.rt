@@ -1,0 +1,221 @@
+// Matchers (matchers/mod.rs): a match, and a look-up of a label as a cursor over the machine's words. A cursor keeps places only; no match is stored.
+mod sigma_matcher;
+mod sorted_matcher;
+
+ghost use mathlib.Core.Path.{_≡_};
+ghost use Rattle.words.specs.Sigmas.{replace as replaced, rewrite as rewritten};
+ghost use Rattle.fst.specs.Meaning.{onOf, trMeans};
+ghost use Rattle.matchers.specs.Cursors.{looked as lookedFor, withLabel, head0, movedTo, ownLeft, sigmaLeft, itemsOf, itemsLeft, asked, stepMeans};
+use fst::EPS_LABEL;
+use fst::Label;
+use fst::MatchType;
+use fst::NO_LABEL;
+use fst::Tr;
+use fst::get_tr;
+use fst::label_on;
+use fst::next_tr;
+use fst::num_records;
+pub use sigma_matcher::Sigma;
+pub use sigma_matcher::SigmaIter;
+pub use sigma_matcher::has_sigma;
+pub use sigma_matcher::sigma_iter;
+pub use sorted_matcher::sorted_iter;
+
+// A match: the loop, or one whole transition.
+pub enum IterItemMatcher {
+    EpsLoop,
+    Tr(Tr),
+}
+
+// The transitions with the label itself; then the sigma transitions.
+pub enum Phase {
+    Own,
+    Rest,
+}
+
+// What was asked, and how far the answer is given.
+pub struct Cursor {
+    // The side on which the machine is matched.
+    pub on: MatchType,
+    pub label: Label,
+    // The sigma label; NO_LABEL: none.
+    pub sigma: Label,
+    // Sigma is rewritten on each side that holds it (rewrite_both of the Rust), or on the matched side alone.
+    pub both: bool,
+    pub phase: Phase,
+    // The loop comes next (current_loop of the Rust).
+    pub loops: bool,
+    // The record from which the phase goes on; 0: its end.
+    pub tr: u32,
+    // The record from which phase Rest goes on after phase Own; 0: nothing comes after it.
+    pub rest: u32,
+}
+
+// The next match, or the end; with the cursor to ask on with.
+pub enum Step {
+    Match(IterItemMatcher, Cursor),
+    End(Cursor),
+}
+
+// The label that the transitions must have: NO_LABEL asks for the epsilon transitions.
+fn looked(label: Label) -> Label
+    ensures { λ r. ⌜ r .0 ≡ lookedFor (label .0) ⌝ }
+{
+    if label.0 == NO_LABEL.0 {
+        EPS_LABEL
+    } else {
+        label
+    }
+}
+
+// The first record from t on that has the label on a side; 0: none.
+fn seek(m: &[u32], on: MatchType, label: Label, t: u32) -> u32
+    ensures { λ r. ⌜ r ≡ head0 (withLabel (onOf on) (now (m .entry)) (label .0) t) ⌝ }
+{
+    if num_records(m) < t {
+        return 0;
+    }
+    let mut at = t;
+    while at != 0 {
+        let found = label_on(m, on, at);
+        if found.0 == label.0 {
+            return at;
+        }
+        at = next_tr(m, at);
+    }
+    0
+}
+
+// x in the place of sigma.
+fn replace(sigma: Label, x: Label, l: Label) -> Label
+    ensures { λ r. ⌜ r .0 ≡ replaced (sigma .0) (x .0) (l .0) ⌝ }
+{
+    if l.0 == sigma.0 { x } else { l }
+}
+
+// A sigma transition rewritten for the label that the cursor was asked.
+fn rewrite(cursor: Cursor, t: Tr) -> Tr
+    ensures { λ r. ⌜ trMeans r ≡ rewritten (cursor .both) (onOf (cursor .on)) (cursor .sigma .0) (cursor .label .0) (trMeans t) ⌝ }
+{
+    let on = cursor.on;
+    let x = cursor.label;
+    let sigma = cursor.sigma;
+    let ilabel = t.ilabel;
+    let olabel = t.olabel;
+    let nextstate = t.nextstate;
+    if cursor.both {
+        return Tr {
+            ilabel: replace(sigma, x, ilabel),
+            olabel: replace(sigma, x, olabel),
+            weight: t.weight,
+            nextstate,
+        };
+    }
+    match on {
+        MatchType::MatchInput => Tr {
+            ilabel: x,
+            olabel,
+            weight: t.weight,
+            nextstate,
+        },
+        MatchType::MatchOutput => Tr {
+            ilabel,
+            olabel: x,
+            weight: t.weight,
+            nextstate,
+        },
+    }
+}
+
+// The cursor in a phase, past the loop, at place tr.
+fn moved(cursor: Cursor, phase: Phase, tr: u32) -> Cursor
+    ensures { λ r. ⌜ r ≡ movedTo cursor phase tr ⌝ }
+{
+    let on = cursor.on;
+    let label = cursor.label;
+    let sigma = cursor.sigma;
+    Cursor {
+        on,
+        label,
+        sigma,
+        both: cursor.both,
+        phase,
+        loops: false,
+        tr,
+        rest: cursor.rest,
+    }
+}
+
+// Phase Rest, from the cursor's place on.
+fn rest_next(m: &[u32], cursor: Cursor) -> Step
+    ensures { λ r. ⌜ stepMeans (now (m .entry)) r ≡ asked (itemsOf (now (m .entry)) cursor (sigmaLeft (now (m .entry)) cursor (cursor .tr))) ⌝ }
+{
+    let on = cursor.on;
+    let sigma = cursor.sigma;
+    let t = seek(m, on, sigma, cursor.tr);
+    if t == 0 {
+        return Step::End(moved(cursor, Phase::Rest, 0));
+    }
+    let found = rewrite(cursor, get_tr(m, t));
+    Step::Match(
+        IterItemMatcher::Tr(found),
+        moved(cursor, Phase::Rest, next_tr(m, t)),
+    )
+}
+
+// Phase Own, from the cursor's place on; where it gives nothing more, phase Rest.
+fn own_next(m: &[u32], cursor: Cursor) -> Step
+    ensures { λ r. ⌜ stepMeans (now (m .entry)) r ≡ asked (itemsOf (now (m .entry)) cursor (ownLeft (now (m .entry)) cursor (cursor .tr))) ⌝ }
+{
+    let on = cursor.on;
+    let label = cursor.label;
+    let t = seek(m, on, looked(label), cursor.tr);
+    if t == 0 {
+        return rest_next(m, moved(cursor, Phase::Rest, cursor.rest));
+    }
+    let found = get_tr(m, t);
+    Step::Match(
+        IterItemMatcher::Tr(found),
+        moved(cursor, Phase::Own, next_tr(m, t)),
+    )
+}
+
+// The next match of a look-up, or the end. Asked on with the cursor that it answers, it gives each match once, in order, and then the end ever after.
+pub fn next_match(m: &[u32], cursor: Cursor) -> Step
+    ensures { λ r. ⌜ stepMeans (now (m .entry)) r ≡ asked (itemsLeft (now (m .entry)) cursor) ⌝ }
+{
+    let phase = cursor.phase;
+    if cursor.loops {
+        return Step::Match(IterItemMatcher::EpsLoop, moved(cursor, phase, cursor.tr));
+    }
+    match phase {
+        Phase::Own => own_next(m, cursor),
+        Phase::Rest => rest_next(m, cursor),
+    }
+}
+
+// A look-up together with the words that it reads.
+pub struct Matcher<'a> {
+    pub words: &'a [u32],
+    pub cursor: Cursor,
+}
+
+pub fn open<'a>(words: &'a [u32], cursor: Cursor) -> Matcher<'a>
+    ensures { λ r. ⌜ (r .words ≡ words .entry) × (r .cursor ≡ cursor) ⌝ }
+{
+    Matcher { words, cursor }
+}
+
+// `next_match` of what the reader holds. An enum holds no reference, so that the answer has the next cursor and not the next reader.
+pub fn next<'a>(r: Matcher<'a>) -> Step
+    ensures { λ s. ⌜ stepMeans (now (r .entry .words)) s ≡ asked (itemsLeft (now (r .entry .words)) (r .entry .cursor)) ⌝ }
+{
+    next_match(r.words, r.cursor)
+}
+
+// The same with plain parameters: its callers hold no reader.
+pub fn ask(words: &[u32], cursor: Cursor) -> Step
+    ensures { λ r. ⌜ stepMeans (now (words .entry)) r ≡ asked (itemsLeft (now (words .entry)) cursor) ⌝ }
+{
+    next(open(words, cursor))
+}

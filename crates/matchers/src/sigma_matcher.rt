@@ -1,0 +1,164 @@
+// The sigma look-up (sigma_matcher.rs): a label's own matches; otherwise each sigma transition, rewritten.
+ghost use mathlib.Core.Path.{_≡_};
+ghost use mathlib.Core.Bool.{not, _&&_, _||_, cond};
+ghost use mathlib.Core.Option.{none};
+ghost use lib.Dec.{eqb};
+ghost use Rattle.words.specs.Labels.{epsLabel, noLabel};
+ghost use Rattle.words.specs.Machines.{acceptorMark};
+ghost use Rattle.words.specs.Sides.{nonEmpty};
+ghost use Rattle.words.specs.Sigmas.{has, isAllowed, rewritesBoth, sigmaTrs};
+ghost use Rattle.words.specs.Settings.{operandOf};
+ghost use Rattle.fst.specs.Meaning.{onOf};
+ghost use Rattle.matchers.specs.Meaning.{allowedOf, lookupItems, standsFor};
+ghost use Rattle.matchers.specs.Cursors.{iterMeans};
+use crate::Cursor;
+use crate::Phase;
+use crate::looked;
+use crate::seek;
+use fst::EPS_LABEL;
+use fst::Label;
+use fst::MatchType;
+use fst::NO_LABEL;
+use fst::StateId;
+use fst::acceptor_mark;
+use fst::first_tr;
+
+// The sigma settings of a machine. The allowed list is lent beside them.
+pub struct Sigma {
+    // NO_LABEL: none.
+    pub label: Label,
+    // 0: each side that holds sigma is rewritten if the acceptor mark is 1, else the matched side alone; 1: each side that holds it; 2: the matched side alone.
+    pub mode: u32,
+    // Whether there is an allowed list; without one, every label is allowed.
+    pub listed: bool,
+}
+
+// The cursor of a look-up, or the number of the refusal.
+pub enum SigmaIter {
+    At(Cursor),
+    Refused(u32),
+}
+
+// Sigma is set, and is the label.
+fn is_sigma(sigma: Label, label: Label) -> bool
+    ensures { λ r. ⌜ r ≡ (not (eqb (sigma .0) noLabel) && eqb (label .0) (sigma .0)) ⌝ }
+{
+    if sigma.0 == NO_LABEL.0 {
+        return false;
+    }
+    label.0 == sigma.0
+}
+
+// x stands in the list.
+fn contains(list: &[u32], x: Label) -> bool
+    ensures { λ r. ⌜ r ≡ has (x .0) (now (list .entry)) ⌝ }
+{
+    for i in 0..list.len() {
+        if list[i] == x.0 {
+            return true;
+        }
+    }
+    false
+}
+
+// The list holds the label, or there is no list.
+fn is_match_label_allowed(listed: bool, allowed: &[u32], label: Label) -> bool
+    ensures { λ r. ⌜ r ≡ isAllowed (allowedOf listed (now (allowed .entry))) (label .0) ⌝ }
+{
+    if !listed {
+        return true;
+    }
+    contains(allowed, label)
+}
+
+// Sigma is set, and may stand for the label.
+fn stands_for(sigma: Sigma, allowed: &[u32], label: Label) -> bool
+    ensures { λ r. ⌜ r ≡ standsFor (sigma .label .0) (allowedOf (sigma .listed) (now (allowed .entry))) (label .0) ⌝ }
+{
+    let named = sigma.label;
+    if named.0 == NO_LABEL.0 {
+        return false;
+    }
+    if label.0 == EPS_LABEL.0 {
+        return false;
+    }
+    if label.0 == NO_LABEL.0 {
+        return false;
+    }
+    is_match_label_allowed(sigma.listed, allowed, label)
+}
+
+// A label has matches of its own where its first is one, and where it is epsilon: the loop.
+fn has_own(label: Label, tr: u32) -> bool
+    ensures { λ r. ⌜ r ≡ (eqb (label .0) epsLabel || not (eqb tr 0)) ⌝ }
+{
+    if label.0 == EPS_LABEL.0 {
+        return true;
+    }
+    tr != 0
+}
+
+// Where the rest begins; 0: there is none. "If the label has matches, those only. Otherwise" the sigma transitions, from the state's first record on.
+fn rest_from(own: bool, sigma: Sigma, allowed: &[u32], label: Label, first: u32) -> u32
+    ensures { λ r. ⌜ r ≡ cond own 0 (cond (standsFor (sigma .label .0) (allowedOf (sigma .listed) (now (allowed .entry))) (label .0)) first 0) ⌝ }
+{
+    if own {
+        return 0;
+    }
+    if stands_for(sigma, allowed, label) {
+        first
+    } else {
+        0
+    }
+}
+
+// Whether sigma is rewritten on each side that holds it; mode as in `Sigma`.
+fn rewrites_both(m: &[u32], mode: u32) -> bool
+    ensures { λ r. ⌜ r ≡ rewritesBoth mode (acceptorMark (now (m .entry))) ⌝ }
+{
+    match mode {
+        0 => acceptor_mark(m) == 1,
+        1 => true,
+        _ => false,
+    }
+}
+
+// The matches of a label at a state, or refusal 11 where the label is sigma.
+pub fn sigma_iter(
+    m: &[u32],
+    on: MatchType,
+    sigma: Sigma,
+    allowed: &[u32],
+    s: StateId,
+    label: Label,
+) -> SigmaIter
+    ensures { λ r. ⌜ iterMeans (now (m .entry)) r ≡ lookupItems (operandOf (onOf on) (now (m .entry)) (sigma .label .0) (sigma .mode) (allowedOf (sigma .listed) (now (allowed .entry)))) (s .0) (label .0) ⌝ }
+{
+    let named = sigma.label;
+    if is_sigma(named, label) {
+        return SigmaIter::Refused(11);
+    }
+    let first = first_tr(m, s);
+    let tr = seek(m, on, looked(label), first);
+    let rest = rest_from(has_own(label, tr), sigma, allowed, label, first);
+    SigmaIter::At(Cursor {
+        on,
+        label,
+        sigma: named,
+        both: rewrites_both(m, sigma.mode),
+        phase: Phase::Own,
+        loops: label.0 == EPS_LABEL.0,
+        tr,
+        rest,
+    })
+}
+
+// Whether a state has a sigma transition, by matched label.
+pub fn has_sigma(m: &[u32], on: MatchType, sigma: Label, s: StateId) -> bool
+    ensures { λ r. ⌜ r ≡ nonEmpty (sigmaTrs (operandOf (onOf on) (now (m .entry)) (sigma .0) 0 none) (s .0)) ⌝ }
+{
+    if sigma.0 == NO_LABEL.0 {
+        return false;
+    }
+    seek(m, on, sigma, first_tr(m, s)) != 0
+}
