@@ -1,0 +1,3 @@
+pub mod ChainTurns
+pub mod Cleared
+pub mod FindRest

@@ -1,0 +1,4 @@
+pub mod LinkLaws
+pub mod PartLaws
+pub mod RestLaws
+pub mod PartRest

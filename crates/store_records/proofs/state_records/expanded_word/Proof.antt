@@ -1,0 +1,12 @@
+-- Word 2 of the record.
+use Rattle.calls.specs.Store.{expandedAt}
+use borrow.Author.Needs.{needs}
+use Rattle.store_records.proofs.state_records.expanded_word.Statement.{statement}
+use Rattle.store_records.proofs.state_records.expanded_word.Tie as tie
+
+returns : tie.Need-returns
+unfolding expandedAt
+returns c = c .state-word .ensures
+
+pub expanded-word-spec : {M : Type 1} → statement M
+expanded-word-spec = tie.close (tie.spec (λ c κs. search needs) returns)

@@ -1,0 +1,16 @@
+-- Two words, one after the other.
+use native.Mathlib.Numerals.{add-one}
+use Rattle.lists.specs.Lists.{put}
+use Rattle.calls.specs.Store.{mark}
+use borrow.Author.Needs.{needs}
+use Rattle.store_records.proofs.state_records.mark_expanded.Statement.{statement}
+use Rattle.store_records.proofs.state_records.mark_expanded.Tie as tie
+
+returns : tie.Need-returns
+unfolding mark put
+returns c = λ heads trs u k. rw (c .before .before .store2 .ensures, c .before .before .before .before .before .before .store .ensures, add-one)
+
+pub mark-expanded-spec : {M : Type 1} → statement M
+mark-expanded-spec =
+    tie.close
+    (tie.spec (λ c. search needs) (λ c. search needs) (λ c. search needs) (λ c κs. search needs) (λ c. search needs) (λ c κs. search needs) (λ c. search needs) returns)

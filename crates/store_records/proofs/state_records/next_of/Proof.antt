@@ -1,0 +1,12 @@
+-- Word 4 of the record.
+use Rattle.calls.specs.Store.{nextAt}
+use borrow.Author.Needs.{needs}
+use Rattle.store_records.proofs.state_records.next_of.Statement.{statement}
+use Rattle.store_records.proofs.state_records.next_of.Tie as tie
+
+returns : tie.Need-returns
+unfolding nextAt
+returns c = c .state-word .ensures
+
+pub next-of-spec : {M : Type 1} → statement M
+next-of-spec = tie.close (tie.spec (λ c κs. search needs) returns)

@@ -1,0 +1,28 @@
+-- What the code's types stand for in the definitions of `calls`, and a store made of its parts.
+use mathlib.Core.List.{List}
+use Prim.Native.Nat.{ℕ, _<_}
+use Rattle.words.specs.Steps.{Triple, Step}
+use Rattle.calls.specs.Store.{Store, Part as Run}
+use Rattle.fst.specs.declared.tr.Tr.{Tr}
+use Rattle.store_records.specs.declared.compose_state_tuple.ComposeStateTuple.{ComposeStateTuple}
+use Rattle.store_records.specs.declared.tr_records.Part.{Part}
+
+-- (s1, s2, f)
+abbrev pub tupleMeans : ComposeStateTuple → Triple
+tupleMeans t = record { s1 = t .s1 .0; s2 = t .s2 .0; f = t .fs }
+
+-- The pair goes into one word, "s1 × 65536 + s2". The states of a machine all do: there are at most 65535.
+abbrev pub Packs : Triple → Type 0
+Packs t = (t .s1 < 65536) × (t .s2 < 65536)
+
+-- the first record and the number of records of a state's list
+abbrev pub partMeans : Part → Run
+partMeans p = record { first = p .first; count = p .count }
+
+-- A composed transition that leads to a triple. Its record holds the number of that state, and not the triple.
+abbrev pub stepMeans : Tr → Triple → Step
+stepMeans r to = record { input = r .ilabel .0; output = r .olabel .0; weight = r .weight; to = to }
+
+-- the store with these three slices and used counts: heads, states, transitions, used states, used transitions
+abbrev pub stored : List ℕ → List ℕ → List ℕ → ℕ → ℕ → Store
+stored heads states trs n k = record { memory = record { heads = heads; states = states; trs = trs }; used = record { states = n; trs = k } }

@@ -1,0 +1,29 @@
+// Records in lent memory: their room, the reading of their words on every memory, and the writing of one record.
+mod compose_state_tuple;
+mod lent;
+mod state_records;
+mod tr_records;
+
+pub use compose_state_tuple::ComposeStateTuple;
+pub use lent::store;
+pub use state_records::expanded_word;
+pub use state_records::first_of;
+pub use state_records::get_tuple;
+pub use state_records::is_expanded;
+pub use state_records::mark_expanded;
+pub use state_records::next_of;
+pub use state_records::push_state;
+pub use state_records::state_room;
+pub use tr_records::Part;
+pub use tr_records::part_of;
+pub use tr_records::push_tr;
+pub use tr_records::target_of;
+pub use tr_records::tr_next;
+pub use tr_records::tr_part;
+pub use tr_records::tr_room;
+
+// How many records of each sort are in use.
+pub struct Used {
+    pub states: u32,
+    pub trs: u32,
+}

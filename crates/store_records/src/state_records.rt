@@ -1,0 +1,98 @@
+// State records: s1 × 65536 + s2, f, expanded, first transition, next. No other file knows their layout.
+ghost use mathlib.Core.Path.{_≡_};
+ghost use mathlib.Core.List.{List};
+ghost use Prim.Native.Nat.{ℕ, _*_, _≤_, _<_};
+ghost use lib.Dec.{eqb};
+ghost use lib.ListN.{length};
+ghost use Rattle.lists.specs.Lists.{put};
+ghost use Rattle.calls.specs.Store.{roomOf, stateSize, stateField, tripleAt, expandedAt, firstAt, nextAt, stateRecord, mark};
+ghost use Rattle.store_records.specs.Meaning.{tupleMeans, Packs, stored};
+use crate::ComposeStateTuple;
+use crate::lent::LIMIT;
+use crate::lent::least;
+use crate::lent::store;
+use fst::StateId;
+use fst::word;
+
+const STATE_SIZE: usize = 5;
+
+// How many state records there is room for.
+pub fn state_room(states: &[u32]) -> u32
+    ensures { λ r. ⌜ r ≡ roomOf stateSize (now (states .entry)) ⌝ }
+{
+    least(LIMIT, states.len() / STATE_SIZE) as u32
+}
+
+// Word k of the record of state n.
+fn state_word(states: &[u32], n: StateId, k: u32) -> u32
+    ensures { λ r. ⌜ r ≡ stateField (now (states .entry)) (n .0) k ⌝ }
+{
+    word(states, STATE_SIZE * (n.0 as usize) + (k as usize))
+}
+
+pub fn get_tuple(states: &[u32], n: StateId) -> ComposeStateTuple
+    ensures { λ r. ⌜ tupleMeans r ≡ tripleAt (now (states .entry)) (n .0) ⌝ }
+{
+    let pair = state_word(states, n, 0);
+    ComposeStateTuple {
+        fs: state_word(states, n, 1),
+        s1: StateId(pair / 65536),
+        s2: StateId(pair % 65536),
+    }
+}
+
+pub fn expanded_word(states: &[u32], n: StateId) -> u32
+    ensures { λ r. ⌜ r ≡ expandedAt (now (states .entry)) (n .0) ⌝ }
+{
+    state_word(states, n, 2)
+}
+
+pub fn is_expanded(states: &[u32], n: StateId) -> bool
+    ensures { λ r. ⌜ r ≡ eqb (expandedAt (now (states .entry)) (n .0)) 1 ⌝ }
+{
+    expanded_word(states, n) == 1
+}
+
+// The first transition record of the state's list; 0: none.
+pub fn first_of(states: &[u32], n: StateId) -> u32
+    ensures { λ r. ⌜ r ≡ firstAt (now (states .entry)) (n .0) ⌝ }
+{
+    state_word(states, n, 3)
+}
+
+// The record after it in its chain; 0: none.
+pub fn next_of(states: &[u32], n: StateId) -> u32
+    ensures { λ r. ⌜ r ≡ nextAt (now (states .entry)) (n .0) ⌝ }
+{
+    state_word(states, n, 4)
+}
+
+// The record of a state just found, at the front of a lent tail.
+fn write_state(tail: &mut [u32], tuple: ComposeStateTuple, next: u32)
+    requires { ⌜ (stateSize ≤ length (now tail)) × Packs (tupleMeans tuple) ⌝ }
+    ensures { λ _. ⌜ now (tail .exit) ≡ put (now (tail .entry)) 0 (stateRecord (tupleMeans tuple) next) ⌝ }
+{
+    tail[0] = tuple.s1.0 * 65536 + tuple.s2.0;
+    tail[1] = tuple.fs;
+    tail[2] = 0;
+    tail[3] = 0;
+    tail[4] = next;
+}
+
+// The same in the first unused record.
+pub fn push_state(states: &mut [u32], used: u32, tuple: ComposeStateTuple, next: u32)
+    requires { ⌜ (used < roomOf stateSize (now states)) × Packs (tupleMeans tuple) ⌝ }
+    ensures { λ _. ⌜ now (states .exit) ≡ put (now (states .entry)) (stateSize * used) (stateRecord (tupleMeans tuple) next) ⌝ }
+{
+    let at = STATE_SIZE * used as usize;
+    write_state(&mut states[at..], tuple, next);
+}
+
+// State n is expanded, and its list begins with record `first`.
+pub fn mark_expanded(states: &mut [u32], n: StateId, first: u32)
+    ensures { λ _. ⌜ ((heads trs : List ℕ) (u k : ℕ) → stored heads (now (states .exit)) trs u k ≡ mark (stored heads (now (states .entry)) trs u k) (n .0) first) ⌝ }
+{
+    let at = STATE_SIZE * (n.0 as usize) + 2;
+    store(states, at, 1);
+    store(states, at + 1, first);
+}
