@@ -1,0 +1,196 @@
+// The moves of a composed state, one at each asking (compose_fst_op.rs, `ordered_expand` and what it calls), and its final weight. A cursor keeps places only; no move is stored.
+mod finals;
+mod moves;
+mod walks;
+
+ghost use mathlib.Core.Path.{_≡_};
+ghost use mathlib.Core.List.{List};
+ghost use Prim.Native.Nat.{ℕ};
+ghost use Rattle.words.specs.Labels.{noLabel};
+ghost use Rattle.words.specs.Steps.{stepsAt};
+ghost use Rattle.fst.specs.Meaning.{onOf};
+ghost use Rattle.store_records.specs.Meaning.{tupleMeans};
+ghost use Rattle.matchers.specs.Meaning.{sortedItems};
+ghost use Rattle.matchers.specs.Cursors.{itemsLeft};
+ghost use Rattle.compose_moves.specs.Composing.{settingsOf, lentOf, composing};
+ghost use Rattle.compose_moves.specs.Walks.{lookedState, lookedWords, asked};
+ghost use Rattle.compose_moves.specs.Cursors.{fixedBy, resumed, stepsLeft, startMeans, nextMeans};
+use compose_filters::Facts;
+use compose_filters::facts_at;
+use compose_fst_op::Side;
+pub use finals::FinalWeight;
+pub use finals::compute_final_weight;
+use fst::MatchType;
+use fst::NO_LABEL;
+use match_input::Direction;
+use match_input::direction_at;
+use matchers::Cursor;
+use matchers::Sigma;
+use matchers::sorted_iter;
+pub use moves::ComposeTr;
+use moves::Walk;
+use store_records::ComposeStateTuple;
+use walks::Along;
+use walks::ordered_expand;
+
+// The settings of a composition and its side. The machines and their allowed lists are lent beside them.
+pub struct ComposeFstOpOptions {
+    // 0: cost; 1: count.
+    pub kind: u32,
+    // 0: sequence; 1: alternate; 2: match.
+    pub filter: u32,
+    pub side: Side,
+    pub sigma1: Sigma,
+    pub sigma2: Sigma,
+}
+
+// How far the moves of a composed state are given.
+pub struct MoveCursor {
+    pub tuple: ComposeStateTuple,
+    // What the filter sees there.
+    pub facts: Facts,
+    // The direction: MatchInput walks machine 1 and looks up in machine 2, MatchOutput the other way round.
+    pub on: MatchType,
+    // The transition record that is walked; 0: the walked machine rests.
+    pub walked: u32,
+    // Its matches in the other machine.
+    pub matches: Cursor,
+}
+
+// The cursor before the first move, or the number of the refusal.
+pub enum MovesStart {
+    At(MoveCursor),
+    Refused(u32),
+}
+
+// The next composed transition, with the cursor to ask on with; the end; or the number of a refusal.
+pub enum NextStep {
+    Step(ComposeTr, MoveCursor),
+    Done,
+    Refused(u32),
+}
+
+// The matches of a walked machine that rests: the epsilon transitions of the other.
+fn rest_matches(m1: &[u32], m2: &[u32], on: MatchType, tuple: ComposeStateTuple) -> Cursor
+    ensures { λ r. ⌜ itemsLeft (lookedWords (onOf on) (now (m1 .entry)) (now (m2 .entry))) r ≡ sortedItems (onOf on) (lookedWords (onOf on) (now (m1 .entry)) (now (m2 .entry))) (lookedState (onOf on) (tupleMeans tuple)) noLabel ⌝ }
+{
+    let s1 = tuple.s1;
+    let s2 = tuple.s2;
+    match on {
+        MatchType::MatchInput => sorted_iter(m2, MatchType::MatchInput, s2, NO_LABEL),
+        MatchType::MatchOutput => sorted_iter(m1, MatchType::MatchOutput, s1, NO_LABEL),
+    }
+}
+
+// The cursor before the first move of a composed state, or refusal 10. It does not depend on the allowed lists.
+pub fn moves_start(
+    m1: &[u32],
+    m2: &[u32],
+    options: ComposeFstOpOptions,
+    tuple: ComposeStateTuple,
+) -> MovesStart
+    ensures { λ r. ⌜ ((a1 a2 : List ℕ) → startMeans (settingsOf options) (lentOf options (now (m1 .entry)) (now (m2 .entry)) a1 a2) r ≡ stepsAt (composing options (now (m1 .entry)) (now (m2 .entry)) a1 a2) (tupleMeans tuple)) ⌝ }
+{
+    let side = options.side;
+    let sigma1 = options.sigma1;
+    let sigma2 = options.sigma2;
+    let s1 = tuple.s1;
+    let s2 = tuple.s2;
+    let direction = direction_at(side, m1, m2, sigma1.label, sigma2.label, s1, s2);
+    match direction {
+        Direction::Refused(n) => MovesStart::Refused(n),
+        Direction::Match(on) => {
+            let facts = facts_at(m1, m2, s1, s2);
+            let matches = rest_matches(m1, m2, on, tuple);
+            MovesStart::At(MoveCursor {
+                tuple,
+                facts,
+                on,
+                walked: 0,
+                matches,
+            })
+        }
+    }
+}
+
+// What stays the same while a cursor goes on, with the sigma settings of the machine that is looked up.
+fn walk_of(options: ComposeFstOpOptions, sigma: Sigma, cursor: MoveCursor) -> Walk
+    ensures { λ r. ⌜ r ≡ fixedBy options sigma cursor ⌝ }
+{
+    let facts = cursor.facts;
+    let tuple = cursor.tuple;
+    let on = cursor.on;
+    Walk {
+        kind: options.kind,
+        filter: options.filter,
+        facts,
+        tuple,
+        on,
+        sigma,
+    }
+}
+
+// The answer of a walk with the cursor to go on with.
+fn resume(cursor: MoveCursor, along: Along) -> NextStep
+    ensures { λ r. ⌜ r ≡ resumed cursor along ⌝ }
+{
+    let tuple = cursor.tuple;
+    let facts = cursor.facts;
+    let on = cursor.on;
+    match along {
+        Along::Step(tr, walked, matches) => NextStep::Step(
+            tr,
+            MoveCursor {
+                tuple,
+                facts,
+                on,
+                walked,
+                matches,
+            },
+        ),
+        Along::Done => NextStep::Done,
+        Along::Refused(n) => NextStep::Refused(n),
+    }
+}
+
+// The next composed transition of a state; 11 where a walked label is sigma, 12 where the weight of a kept move is too large. Dropped moves are passed over. Asked on with the cursor that
+// it answers, it gives the state's transitions in their order.
+pub fn next_step(
+    m1: &[u32],
+    m2: &[u32],
+    a1: &[u32],
+    a2: &[u32],
+    options: ComposeFstOpOptions,
+    cursor: MoveCursor,
+) -> NextStep
+    ensures { λ r. ⌜ nextMeans (settingsOf options) (lentOf options (now (m1 .entry)) (now (m2 .entry)) (now (a1 .entry)) (now (a2 .entry))) r ≡ asked (stepsLeft (settingsOf options) (lentOf options (now (m1 .entry)) (now (m2 .entry)) (now (a1 .entry)) (now (a2 .entry))) cursor) ⌝ }
+{
+    let on = cursor.on;
+    let matches = cursor.matches;
+    let sigma1 = options.sigma1;
+    let sigma2 = options.sigma2;
+    match on {
+        MatchType::MatchInput => resume(
+            cursor,
+            ordered_expand(
+                m1,
+                m2,
+                a2,
+                walk_of(options, sigma2, cursor),
+                cursor.walked,
+                matches,
+            ),
+        ),
+        MatchType::MatchOutput => resume(
+            cursor,
+            ordered_expand(
+                m2,
+                m1,
+                a1,
+                walk_of(options, sigma1, cursor),
+                cursor.walked,
+                matches,
+            ),
+        ),
+    }
+}

@@ -1,0 +1,33 @@
+-- What `expand_state` requires can be met: the machines of 01's listing, just opened, with one head, room for two states and one transition.
+use mathlib.Core.Path.{_≡_, refl}
+use mathlib.Core.Bool.{false}
+use mathlib.Core.List.{[], _∷_}
+use lib.ListN.{replicate}
+use Rattle.lists.specs.Lists.{every, interval}
+use Rattle.words.specs.Labels.{MAX, good}
+use Rattle.words.specs.Machines.{stateCount, trCount, startWord, sideMark, acceptorMark, stateWord, trWord, firstOk, nextOk, firstOf, nextOf, listBy, listFrom, listOf, noFall, sorted, stateOk, trOk, acceptor, marksOk, sizeOk, wellFormed}
+use Rattle.words.specs.Sides.{sideOf}
+use Rattle.words.specs.Settings.{settingsOk}
+use Rattle.calls.specs.Store.{roomOf, stateRoom, trRoom, stateField, tripleAt, expandedAt, firstAt, nextAt, trField, targetAt, trNextAt}
+use Rattle.calls.specs.Forms.{fits, headsOk, tripleOk, expandedOk, stateFormOk, trFormOk, formOk}
+use Rattle.calls.specs.Checks.{sideFor, sessionOk, entered}
+use Rattle.calls.proofs.StarCases.{example1, example2}
+use Rattle.fst.specs.declared.MatchType.the-variants.{MatchOutput}
+use Rattle.compose_fst_op.specs.declared.Side.the-variants.{Only}
+use Rattle.compose_moves.specs.Composing.{lentOf, composing}
+use Rattle.compose_moves.specs.declared.ComposeFstOpOptions.{ComposeFstOpOptions}
+use Rattle.compose_store.specs.Meaning.{memoryOf, sessionOf}
+
+-- `0 0 4294967295 0 4294967295 0`, side output
+abbrev options : ComposeFstOpOptions
+options = record {
+  kind = 0;
+  filter = 0;
+  side = Only MatchOutput;
+  sigma1 = record { label = record { 0 = MAX }; mode = 0; listed = false };
+  sigma2 = record { label = record { 0 = MAX }; mode = 0; listed = false };
+}
+
+met : entered (lentOf options example1 example2 [] []) (sessionOf options (record { states = 1; trs = 0 })) (memoryOf (1 ∷ []) (replicate 10 0) (replicate 5 0)) ≡ good (composing options example1 example2 [] [])
+unfolding entered sessionOk sideFor settingsOk wellFormed sizeOk stateOk trOk marksOk acceptor sideOf sorted noFall listOf listFrom listBy firstOf nextOf firstOk nextOk stateWord trWord acceptorMark sideMark startWord trCount stateCount fits formOk headsOk stateFormOk tripleOk expandedOk trFormOk tripleAt expandedAt firstAt nextAt stateField trField targetAt trNextAt stateRoom trRoom roomOf every interval
+met = refl

@@ -1,0 +1,4 @@
+pub mod StoreLaws
+pub mod StoreTurns
+pub mod ExpandLaws
+pub mod Cases

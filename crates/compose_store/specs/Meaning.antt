@@ -1,0 +1,57 @@
+-- What the code's types stand for in the definitions of `calls`, and what an expansion leaves.
+use mathlib.Core.Bool.{Bool, true, false}
+use mathlib.Core.List.{List, [], _∷_}
+use Prim.Native.Nat.{ℕ, _<_}
+use Rattle.words.specs.Labels.{Checked, good, refused}
+use Rattle.words.specs.Steps.{Step}
+use Rattle.calls.specs.Store.{Memory, Used as Counts, Part as Run}
+use Rattle.calls.specs.Checks.{Session, sideNumber}
+use Rattle.calls.specs.Calls.{Reached as Place, Outcome}
+use Rattle.store_records.specs.declared.Used.{Used}
+use Rattle.store_records.specs.Meaning.{partMeans, stored}
+use Rattle.compose_fst_op.specs.Chosen.{sideMeans}
+use Rattle.compose_moves.specs.Composing.{settingsOf}
+use Rattle.compose_moves.specs.declared.ComposeFstOpOptions.{ComposeFstOpOptions}
+use Rattle.compose_moves.specs.declared.NextStep.{NextStep}
+use Rattle.compose_moves.specs.declared.NextStep.the-variants.{Step as AStep, Done, Refused as Stop}
+use Rattle.compose_store.specs.declared.Reached.{Reached}
+use Rattle.compose_store.specs.declared.Expanded.{Expanded}
+use Rattle.compose_store.specs.declared.Expanded.the-variants.{New, Refused}
+
+-- a value, and no refusal
+abbrev pub Accepted : {A : Type 0} → Checked A → Type 0
+Accepted (good a) = Unit {0}
+Accepted (refused n) = ⊥
+
+-- each target is a pair that a state record holds ("s1 × 65536 + s2")
+abbrev pub Narrow : List (Checked Step) → Type 0
+Narrow [] = Unit {0}
+Narrow (refused n ∷ steps) = Unit {0}
+Narrow (good s ∷ steps) = ((s .to .s1 < 65536) × (s .to .s2 < 65536)) × Narrow steps
+
+-- another step, or a refusal, comes
+abbrev pub goesOn : NextStep → Bool
+goesOn (AStep r c) = true
+goesOn Done = false
+goesOn (Stop n) = true
+
+-- a state of the table, and the table, in these slices
+abbrev pub reachedMeans : List ℕ → List ℕ → List ℕ → ℕ → Reached → Place
+reachedMeans heads states trs k r = record { store = stored heads states trs (r .used) k; state = r .state .0 }
+
+abbrev pub usedMeans : Used → Counts
+usedMeans u = record { states = u .states; trs = u .trs }
+
+-- "Memory is three slices: heads, states, transitions."
+abbrev pub memoryOf : List ℕ → List ℕ → List ℕ → Memory
+memoryOf heads states trs = record { heads = heads; states = states; trs = trs }
+
+-- the session of a composition, with these used counts
+abbrev pub sessionOf : ComposeFstOpOptions → Used → Session
+sessionOf o u = record { settings = settingsOf o; side = sideNumber (sideMeans (o .side)); used = usedMeans u }
+
+-- What an expansion leaves: the new records and the session with the new used counts; or a refusal by its number in the table of "Answers" and the session that was given.
+-- The memory is that at exit.
+abbrev pub leftBy : ComposeFstOpOptions → Used → Memory → Expanded → Outcome Run
+leftBy o u m (New p v) = record { answer = good (partMeans p); session = sessionOf o v; memory = m }
+leftBy o u m (Refused n) = record { answer = refused n; session = sessionOf o u; memory = m }

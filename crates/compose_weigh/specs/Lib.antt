@@ -1,0 +1,2 @@
+pub mod Weigh
+pub mod Meaning
