@@ -1,0 +1,120 @@
+// What a lazy composition does below the checks of a session: its start (`compute_start` of the Rust), the expansion of a found state, and `compute`, which expands in number order.
+ghost use mathlib.Core.Path.{_≡_};
+ghost use Prim.Native.Nat.{_<_};
+ghost use Rattle.words.specs.Labels.{good};
+ghost use Rattle.words.specs.Machines.{machineOf};
+ghost use Rattle.words.specs.Steps.{startOf};
+ghost use Rattle.calls.specs.Store.{stateRoom};
+ghost use Rattle.calls.specs.Checks.{entered};
+ghost use Rattle.calls.specs.Calls.{expandOf, runFrom};
+ghost use Rattle.compose_moves.specs.Composing.{lentOf, composing};
+ghost use Rattle.compose_store.specs.Meaning.{memoryOf, sessionOf, leftBy};
+ghost use Rattle.compose_run.specs.Meaning.{startMeans, ranLeft};
+use compose_moves::ComposeFstOpOptions;
+use compose_store::Expanded;
+use compose_store::expand_state;
+use fst::StartState;
+use fst::StateId;
+use fst::start;
+use store_records::ComposeStateTuple;
+use store_records::Used;
+use store_records::is_expanded;
+use store_records::part_of;
+use store_records::state_room;
+
+// The state where the composition starts, if both machines have a start.
+pub enum ComposeStart {
+    At(ComposeStateTuple),
+    Missing,
+}
+
+// The used counts after all expansions, or those of the expansions before the refused one, with the number of its refusal.
+pub enum Ran {
+    Done(Used),
+    Refused(u32, Used),
+}
+
+pub fn compute_start(m1: &[u32], m2: &[u32]) -> ComposeStart
+    ensures { λ r. ⌜ startMeans r ≡ startOf (machineOf (now (m1 .entry)) .start) (machineOf (now (m2 .entry)) .start) ⌝ }
+{
+    let start1 = start(m1);
+    let start2 = start(m2);
+    match start1 {
+        StartState::Missing => ComposeStart::Missing,
+        StartState::At(s1) => match start2 {
+            StartState::Missing => ComposeStart::Missing,
+            StartState::At(s2) => ComposeStart::At(ComposeStateTuple { fs: 0, s1, s2 }),
+        },
+    }
+}
+
+// The list of a found state, where the checks 1 to 9 pass: as stored, with the used counts as they are, or expanded.
+pub fn expand_found(
+    m1: &[u32],
+    m2: &[u32],
+    a1: &[u32],
+    a2: &[u32],
+    options: ComposeFstOpOptions,
+    heads: &mut [u32],
+    states: &mut [u32],
+    trs: &mut [u32],
+    used: Used,
+    n: StateId,
+) -> Expanded
+    requires { ⌜ (entered (lentOf options (now m1) (now m2) (now a1) (now a2)) (sessionOf options used) (memoryOf (now heads) (now states) (now trs)) ≡ good (composing options (now m1) (now m2) (now a1) (now a2))) × (n .0 < used .states) ⌝ }
+    ensures { λ r. ⌜ leftBy options used (memoryOf (now (heads .exit)) (now (states .exit)) (now (trs .exit))) r ≡ expandOf (lentOf options (now (m1 .entry)) (now (m2 .entry)) (now (a1 .entry)) (now (a2 .entry))) (sessionOf options used) (memoryOf (now (heads .entry)) (now (states .entry)) (now (trs .entry))) (n .0) ⌝ }
+{
+    if is_expanded(states, n) {
+        return Expanded::New(part_of(states, trs, used.trs, n), used);
+    }
+    expand_state(m1, m2, a1, a2, options, heads, states, trs, used, n)
+}
+
+// Expands in number order, where the checks 1 to 8 pass, until none is left or one is refused. After an accepted expansion the checks pass again: they are not made again. No more states are
+// found than there is room for.
+pub fn compute(
+    m1: &[u32],
+    m2: &[u32],
+    a1: &[u32],
+    a2: &[u32],
+    options: ComposeFstOpOptions,
+    heads: &mut [u32],
+    states: &mut [u32],
+    trs: &mut [u32],
+    used: Used,
+) -> Ran
+    requires { ⌜ entered (lentOf options (now m1) (now m2) (now a1) (now a2)) (sessionOf options used) (memoryOf (now heads) (now states) (now trs)) ≡ good (composing options (now m1) (now m2) (now a1) (now a2)) ⌝ }
+    ensures { λ r. ⌜ ranLeft options (memoryOf (now (heads .exit)) (now (states .exit)) (now (trs .exit))) r ≡ runFrom (lentOf options (now (m1 .entry)) (now (m2 .entry)) (now (a1 .entry)) (now (a2 .entry))) (stateRoom (memoryOf (now (heads .entry)) (now (states .entry)) (now (trs .entry)))) 0 (sessionOf options used) (memoryOf (now (heads .entry)) (now (states .entry)) (now (trs .entry))) ⌝ }
+{
+    let mut latest = used;
+    let mut n: u32 = 0;
+    let mut most = state_room(states);
+    while most > 0 {
+        if latest.states <= n {
+            return Ran::Done(latest);
+        }
+        let expanded = expand_found(
+            m1,
+            m2,
+            a1,
+            a2,
+            options,
+            heads,
+            states,
+            trs,
+            latest,
+            StateId(n),
+        );
+        match expanded {
+            Expanded::Refused(k) => {
+                return Ran::Refused(k, latest);
+            }
+            Expanded::New(_, after) => {
+                latest = after;
+            }
+        }
+        n += 1;
+        most -= 1;
+    }
+    Ran::Done(latest)
+}

@@ -1,0 +1,67 @@
+-- What the session and the answers of the calls stand for in the definitions of `calls`.
+use mathlib.Core.List.{List}
+use mathlib.Core.Option.{Option, none, some}
+use Prim.Native.Nat.{ℕ}
+use Rattle.words.specs.Labels.{good, refused, andThen}
+use Rattle.words.specs.Sides.{Side}
+use Rattle.words.specs.Steps.{startAt}
+use Rattle.words.specs.Settings.{Settings, Lent, compositionOf}
+use Rattle.calls.specs.Store.{Memory, Part as Run}
+use Rattle.calls.specs.Checks.{Session as Opened, sideNumber}
+use Rattle.calls.specs.Calls.{Outcome, settle, begun, opened}
+use Rattle.matchers.specs.Meaning.{allowedOf}
+use Rattle.store_records.specs.Meaning.{partMeans}
+use Rattle.session_checks.specs.Meaning.{settingsMeans, lentOf, sessionOf}
+use Rattle.compose_fst_op.specs.declared.Side.{Side as Direction}
+use Rattle.compose_moves.specs.declared.ComposeFstOpOptions.{ComposeFstOpOptions}
+use Rattle.session_checks.specs.declared.Settings.{Settings as Six}
+use Rattle.lazy_fst.specs.declared.Session.{Session}
+use Rattle.lazy_fst.specs.declared.Listed.{Listed}
+use Rattle.lazy_fst.specs.declared.Answer.{Answer}
+use Rattle.lazy_fst.specs.declared.Answer.the-variants.{Accepted, Refused}
+use Rattle.lazy_fst.specs.declared.PartAnswer.{PartAnswer}
+use Rattle.lazy_fst.specs.declared.PartAnswer.the-variants.{Part as APart, Refused as NotExpanded}
+use Rattle.lazy_fst.specs.declared.WeightAnswer.{WeightAnswer}
+use Rattle.lazy_fst.specs.declared.WeightAnswer.the-variants.{Weight, NotFinal, Refused as NoWeight}
+
+-- what every call is lent: both machines, and both allowed lists with a mark whether there is one
+abbrev pub lentWith : (m1 m2 allowed1 allowed2 : List ℕ) → Listed → Lent
+lentWith m1 m2 allowed1 allowed2 listed = lentOf m1 m2 (allowedOf (listed .first) allowed1) (allowedOf (listed .second) allowed2)
+
+-- "The session also holds the six settings"; its side, and the used counts
+abbrev pub sessionMeans : Session → Opened
+sessionMeans s = sessionOf (settingsMeans (s .settings)) (s .side) (s .used)
+
+-- What open and run leave, with the three slices: an accepted call has no value beside the session; a refusal has its number in the table of "Answers".
+abbrev pub left : Answer → Memory → Outcome (Unit {0})
+left (Accepted s) m = record { answer = good tt; session = sessionMeans s; memory = m }
+left (Refused n s) m = record { answer = refused n; session = sessionMeans s; memory = m }
+
+-- what expand leaves: "their first and count"
+abbrev pub partLeft : PartAnswer → Memory → Outcome Run
+partLeft (APart p s) m = record { answer = good (partMeans p); session = sessionMeans s; memory = m }
+partLeft (NotExpanded n s) m = record { answer = refused n; session = sessionMeans s; memory = m }
+
+-- what final weight leaves: a weight, or none where the composed state is not final
+abbrev pub weightLeft : WeightAnswer → Memory → Outcome (Option ℕ)
+weightLeft (Weight w s) m = record { answer = good (some w); session = sessionMeans s; memory = m }
+weightLeft (NotFinal s) m = record { answer = good none; session = sessionMeans s; memory = m }
+weightLeft (NoWeight n s) m = record { answer = refused n; session = sessionMeans s; memory = m }
+
+-- the composition's settings in the code: the six settings, the side, and whether there are allowed lists
+abbrev pub optionsOf : Six → Listed → Direction → ComposeFstOpOptions
+optionsOf s listed side = record {
+  kind = s .kind;
+  filter = s .filter;
+  side = side;
+  sigma1 = record { label = s .sigma1; mode = s .mode1; listed = listed .first };
+  sigma2 = record { label = s .sigma2; mode = s .mode2; listed = listed .second };
+}
+
+-- a session just opened, with so many states found
+abbrev pub freshOf : Settings → Side → ℕ → Opened
+freshOf s side states = record { settings = s; side = sideNumber side; used = record { states = states; trs = 0 } }
+
+-- an opening that the checks 1 to 7 let pass, on the side of the rule
+abbrev pub openedOn : Settings → Lent → Opened → Memory → Side → Outcome (Unit {0})
+openedOn s l got m side = settle got m (andThen (begun m (startAt (compositionOf s l side))) (λ d. good (opened s side d)))

@@ -1,0 +1,113 @@
+// Between a session and the composition below it: the composition's settings, and the answers with the session in them.
+ghost use mathlib.Core.Path.{_≡_};
+ghost use mathlib.Core.List.{List};
+ghost use Prim.Native.Nat.{ℕ};
+ghost use Rattle.words.specs.Labels.{andThen, good};
+ghost use Rattle.words.specs.Steps.{finalAt};
+ghost use Rattle.calls.specs.Store.{Memory, tripleAt};
+ghost use Rattle.calls.specs.Calls.{settle, unchanged};
+ghost use Rattle.compose_moves.specs.Composing.{composing};
+ghost use Rattle.compose_moves.specs.declared.ComposeFstOpOptions.{ComposeFstOpOptions as Options};
+ghost use Rattle.compose_store.specs.Meaning.{sessionOf, leftBy};
+ghost use Rattle.compose_run.specs.Meaning.{ranLeft};
+ghost use Rattle.session_checks.specs.Meaning.{memoryOf};
+ghost use Rattle.lazy_fst.specs.Meaning.{sessionMeans, optionsOf, left, partLeft, weightLeft};
+use crate::Answer;
+use crate::Listed;
+use crate::PartAnswer;
+use crate::Session;
+use crate::WeightAnswer;
+use compose_fst_op::Side;
+use compose_moves::ComposeFstOpOptions;
+use compose_moves::FinalWeight;
+use compose_moves::compute_final_weight;
+use compose_run::Ran;
+use compose_store::Expanded;
+use fst::StateId;
+use matchers::Sigma;
+use session_checks::Settings;
+use store_records::get_tuple;
+
+// The settings of the composition that a call goes on with.
+pub fn options_of(settings: Settings, listed: Listed, side: Side) -> ComposeFstOpOptions
+    ensures { λ r. ⌜ r ≡ optionsOf settings listed side ⌝ }
+{
+    let label1 = settings.sigma1;
+    let label2 = settings.sigma2;
+    ComposeFstOpOptions {
+        kind: settings.kind,
+        filter: settings.filter,
+        side,
+        sigma1: Sigma {
+            label: label1,
+            mode: settings.mode1,
+            listed: listed.first,
+        },
+        sigma2: Sigma {
+            label: label2,
+            mode: settings.mode2,
+            listed: listed.second,
+        },
+    }
+}
+
+// The final weight of state n, with the session as it came.
+pub fn final_of(
+    session: Session,
+    options: ComposeFstOpOptions,
+    m1: &[u32],
+    m2: &[u32],
+    states: &[u32],
+    n: StateId,
+) -> WeightAnswer
+    ensures { λ r. ⌜ ((a1 a2 heads trs : List ℕ) → let m = memoryOf heads (now (states .entry)) trs in weightLeft r m ≡ settle (sessionMeans session) m (andThen (finalAt (composing options (now (m1 .entry)) (now (m2 .entry)) a1 a2) (tripleAt (now (states .entry)) (n .0))) (λ w. good (unchanged (sessionMeans session) m w)))) ⌝ }
+{
+    let weight = compute_final_weight(m1, m2, options, get_tuple(states, n));
+    match weight {
+        FinalWeight::Weight(w) => WeightAnswer::Weight(w, session),
+        FinalWeight::NotFinal => WeightAnswer::NotFinal(session),
+        FinalWeight::TooLarge => WeightAnswer::Refused(12, session),
+    }
+}
+
+// An expansion with the session that goes on; refused, the one that was given.
+pub fn part_answer(session: Session, expanded: Expanded) -> PartAnswer
+    ensures { λ r. ⌜ ((o : Options) (m : Memory) → sessionMeans session ≡ sessionOf o (session .used) → partLeft r m ≡ leftBy o (session .used) m expanded) ⌝ }
+{
+    let settings = session.settings;
+    let side = session.side;
+    match expanded {
+        Expanded::New(part, used) => PartAnswer::Part(
+            part,
+            Session {
+                settings,
+                side,
+                used,
+            },
+        ),
+        Expanded::Refused(k) => PartAnswer::Refused(k, session),
+    }
+}
+
+// A run with the session that goes on; refused at a state, the one of the expansions kept.
+pub fn run_answer(session: Session, ran: Ran) -> Answer
+    ensures { λ r. ⌜ ((o : Options) (m : Memory) → sessionMeans session ≡ sessionOf o (session .used) → left r m ≡ ranLeft o m ran) ⌝ }
+{
+    let settings = session.settings;
+    let side = session.side;
+    match ran {
+        Ran::Done(used) => Answer::Accepted(Session {
+            settings,
+            side,
+            used,
+        }),
+        Ran::Refused(k, kept) => Answer::Refused(
+            k,
+            Session {
+                settings,
+                side,
+                used: kept,
+            },
+        ),
+    }
+}

@@ -1,0 +1,216 @@
+// The session and its five calls (lazy_fst.rs). Each call takes the session by value and hands the next one back in its answer. None has a precondition: any settings, sessions, slices and
+// state numbers are answered.
+mod answers;
+mod opening;
+
+ghost use mathlib.Core.Path.{_≡_};
+ghost use Rattle.calls.specs.Calls.{openOf, expandOf, finalWeightOf, runOf, recordsOf};
+ghost use Rattle.session_checks.specs.Meaning.{settingsMeans, memoryOf};
+ghost use Rattle.lazy_fst.specs.Meaning.{lentWith, sessionMeans, left, partLeft, weightLeft};
+use answers::final_of;
+use answers::options_of;
+use answers::part_answer;
+use answers::run_answer;
+use compose_fst_op::Chosen;
+use compose_run::compute;
+use compose_run::expand_found;
+use fst::StateId;
+use opening::begin;
+use session_checks::Settings;
+use session_checks::enter;
+use session_checks::enter_at;
+use session_checks::side_for;
+use store_records::Part;
+use store_records::Used;
+use store_records::is_expanded;
+use store_records::part_of;
+use store_records::tr_part;
+
+// What a call takes and hands back.
+pub struct Session {
+    pub settings: Settings,
+    // 0: input, 1: output, 2: both.
+    pub side: u32,
+    pub used: Used,
+}
+
+// Whether each machine has an allowed list; without one, every label is allowed. The lists are lent beside it.
+pub struct Listed {
+    pub first: bool,
+    pub second: bool,
+}
+
+// What open and run answer: the next session; or the number of the refusal, and the session that was given, for a refused run the one of the expansions kept.
+pub enum Answer {
+    Accepted(Session),
+    Refused(u32, Session),
+}
+
+// What expand answers: the first and the count of the state's records.
+pub enum PartAnswer {
+    Part(Part, Session),
+    Refused(u32, Session),
+}
+
+// What final weight answers.
+pub enum WeightAnswer {
+    Weight(u32, Session),
+    NotFinal(Session),
+    Refused(u32, Session),
+}
+
+impl Session {
+    // Opens a session with the settings. The one that it is called on is not read, and handed back if refused. The allowed lists play no part yet.
+    pub fn open(
+        self,
+        settings: Settings,
+        m1: &[u32],
+        m2: &[u32],
+        allowed1: &[u32],
+        allowed2: &[u32],
+        listed: Listed,
+        heads: &mut [u32],
+        states: &mut [u32],
+        trs: &mut [u32],
+    ) -> Answer
+        ensures { λ r. ⌜ left r (memoryOf (now (heads .exit)) (now (states .exit)) (now (trs .exit))) ≡ openOf (settingsMeans settings) (lentWith (now (m1 .entry)) (now (m2 .entry)) (now (allowed1 .entry)) (now (allowed2 .entry)) listed) (sessionMeans self) (memoryOf (now (heads .entry)) (now (states .entry)) (now (trs .entry))) ⌝ }
+    {
+        let chosen = side_for(settings, m1, m2);
+        match chosen {
+            Chosen::Refused(k) => Answer::Refused(k, self),
+            Chosen::By(side) => begin(self, settings, side, m1, m2, heads, states),
+        }
+    }
+
+    // Expands state n; an expanded one is answered as stored.
+    pub fn expand(
+        self,
+        m1: &[u32],
+        m2: &[u32],
+        allowed1: &[u32],
+        allowed2: &[u32],
+        listed: Listed,
+        heads: &mut [u32],
+        states: &mut [u32],
+        trs: &mut [u32],
+        n: StateId,
+    ) -> PartAnswer
+        ensures { λ r. ⌜ partLeft r (memoryOf (now (heads .exit)) (now (states .exit)) (now (trs .exit))) ≡ expandOf (lentWith (now (m1 .entry)) (now (m2 .entry)) (now (allowed1 .entry)) (now (allowed2 .entry)) listed) (sessionMeans self) (memoryOf (now (heads .entry)) (now (states .entry)) (now (trs .entry))) (n .0) ⌝ }
+    {
+        let settings = self.settings;
+        let used = self.used;
+        let entered = enter_at(settings, self.side, used, m1, m2, heads, states, trs, n);
+        match entered {
+            Chosen::Refused(k) => PartAnswer::Refused(k, self),
+            Chosen::By(side) => {
+                let options = options_of(settings, listed, side);
+                let expanded = expand_found(
+                    m1,
+                    m2,
+                    allowed1,
+                    allowed2,
+                    options,
+                    heads,
+                    states,
+                    trs,
+                    used,
+                    n,
+                );
+                part_answer(self, expanded)
+            }
+        }
+    }
+
+    // The final weight of state n.
+    pub fn final_weight(
+        self,
+        m1: &[u32],
+        m2: &[u32],
+        allowed1: &[u32],
+        allowed2: &[u32],
+        listed: Listed,
+        heads: &[u32],
+        states: &[u32],
+        trs: &[u32],
+        n: StateId,
+    ) -> WeightAnswer
+        ensures { λ r. ⌜ weightLeft r (memoryOf (now (heads .entry)) (now (states .entry)) (now (trs .entry))) ≡ finalWeightOf (lentWith (now (m1 .entry)) (now (m2 .entry)) (now (allowed1 .entry)) (now (allowed2 .entry)) listed) (sessionMeans self) (memoryOf (now (heads .entry)) (now (states .entry)) (now (trs .entry))) (n .0) ⌝ }
+    {
+        let settings = self.settings;
+        let used = self.used;
+        let entered = enter_at(settings, self.side, used, m1, m2, heads, states, trs, n);
+        match entered {
+            Chosen::Refused(k) => WeightAnswer::Refused(k, self),
+            Chosen::By(side) => {
+                let options = options_of(settings, listed, side);
+                final_of(self, options, m1, m2, states, n)
+            }
+        }
+    }
+
+    // Expands in number order until none is left or one is refused. It checks once: after an accepted expansion the checks pass again.
+    pub fn run(
+        self,
+        m1: &[u32],
+        m2: &[u32],
+        allowed1: &[u32],
+        allowed2: &[u32],
+        listed: Listed,
+        heads: &mut [u32],
+        states: &mut [u32],
+        trs: &mut [u32],
+    ) -> Answer
+        ensures { λ r. ⌜ left r (memoryOf (now (heads .exit)) (now (states .exit)) (now (trs .exit))) ≡ runOf (lentWith (now (m1 .entry)) (now (m2 .entry)) (now (allowed1 .entry)) (now (allowed2 .entry)) listed) (sessionMeans self) (memoryOf (now (heads .entry)) (now (states .entry)) (now (trs .entry))) ⌝ }
+    {
+        let settings = self.settings;
+        let used = self.used;
+        let entered = enter(settings, self.side, used, m1, m2, heads, states, trs);
+        match entered {
+            Chosen::Refused(k) => Answer::Refused(k, self),
+            Chosen::By(side) => {
+                let options = options_of(settings, listed, side);
+                let ran = compute(
+                    m1,
+                    m2,
+                    allowed1,
+                    allowed2,
+                    options,
+                    heads,
+                    states,
+                    trs,
+                    used,
+                );
+                run_answer(self, ran)
+            }
+        }
+    }
+
+    // The records of an expanded state, as a part of the lent slice; none where the state is not expanded or a check from 1 to 9 refuses. The session stays the latest.
+    pub fn records<'a>(
+        self,
+        m1: &[u32],
+        m2: &[u32],
+        allowed1: &[u32],
+        allowed2: &[u32],
+        listed: Listed,
+        heads: &[u32],
+        states: &[u32],
+        trs: &'a [u32],
+        n: StateId,
+    ) -> &'a [u32]
+        ensures { λ r. ⌜ now r ≡ recordsOf (lentWith (now (m1 .entry)) (now (m2 .entry)) (now (allowed1 .entry)) (now (allowed2 .entry)) listed) (sessionMeans self) (memoryOf (now (heads .entry)) (now (states .entry)) (now (trs .entry))) (n .0) ⌝ }
+    {
+        let settings = self.settings;
+        let used = self.used;
+        let entered = enter_at(settings, self.side, used, m1, m2, heads, states, trs, n);
+        match entered {
+            Chosen::Refused(_) => &trs[0..0],
+            Chosen::By(_) => {
+                if !is_expanded(states, n) {
+                    return &trs[0..0];
+                }
+                tr_part(trs, part_of(states, trs, used.trs, n))
+            }
+        }
+    }
+}

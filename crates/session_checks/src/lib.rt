@@ -1,0 +1,158 @@
+// The six settings, and the one order of checks 1 to 9 before a call.
+ghost use mathlib.Core.Path.{_≡_};
+ghost use mathlib.Core.List.{List};
+ghost use mathlib.Core.Option.{Option};
+ghost use Prim.Native.Nat.{ℕ};
+ghost use Rattle.words.specs.Settings.{Settings as Six, settingsOk};
+ghost use Rattle.calls.specs.Checks.{sideNumber, sideFor, sessionOk, entered, enteredAt};
+ghost use Rattle.compose_fst_op.specs.Chosen.{sideMeans, chosenMeans};
+ghost use Rattle.session_checks.specs.Meaning.{settingsMeans, lentOf, memoryOf, sessionOf, enteredMeans};
+use compose_fst_op::Chosen;
+use compose_fst_op::Side;
+use compose_fst_op::match_type;
+use fst::Label;
+use fst::MatchType;
+use fst::StateId;
+use fst::num_states;
+use fst_properties::well_formed;
+use store_form::fits;
+use store_form::form_ok;
+use store_records::Used;
+
+// What a session is opened with. A sigma label NO_LABEL means none.
+pub struct Settings {
+    // 0: cost, 1: count.
+    pub kind: u32,
+    // 0: sequence, 1: alternate, 2: match.
+    pub filter: u32,
+    pub sigma1: Label,
+    pub mode1: u32,
+    pub sigma2: Label,
+    pub mode2: u32,
+}
+
+const LAST_KIND: u32 = 1;
+
+const LAST_FILTER: u32 = 2;
+
+const LAST_MODE: u32 = 2;
+
+// Whether kind, filter and rewrite modes are in their ranges.
+pub fn settings_ok(settings: Settings) -> bool
+    ensures { λ r. ⌜ r ≡ settingsOk (settingsMeans settings) ⌝ }
+{
+    if LAST_KIND < settings.kind {
+        return false;
+    }
+    if LAST_FILTER < settings.filter {
+        return false;
+    }
+    if LAST_MODE < settings.mode1 {
+        return false;
+    }
+    settings.mode2 <= LAST_MODE
+}
+
+// The number of a side in a session.
+pub fn side_number(side: Side) -> u32
+    ensures { λ r. ⌜ r ≡ sideNumber (sideMeans side) ⌝ }
+{
+    match side {
+        Side::Only(on) => match on {
+            MatchType::MatchInput => 0,
+            MatchType::MatchOutput => 1,
+        },
+        Side::Both => 2,
+    }
+}
+
+// Checks 1 to 7 in their order; where none stands, the side of the rule. Allowed lists play no part.
+pub fn side_for(settings: Settings, m1: &[u32], m2: &[u32]) -> Chosen
+    ensures { λ r. ⌜ ((allowed1 allowed2 : Option (List ℕ)) → chosenMeans r ≡ sideFor (settingsMeans settings) (lentOf (now (m1 .entry)) (now (m2 .entry)) allowed1 allowed2)) ⌝ }
+{
+    if !settings_ok(settings) {
+        return Chosen::Refused(1);
+    }
+    if !well_formed(m1) {
+        return Chosen::Refused(2);
+    }
+    if !well_formed(m2) {
+        return Chosen::Refused(3);
+    }
+    let sigma1 = settings.sigma1;
+    let sigma2 = settings.sigma2;
+    match_type(m1, m2, sigma1, sigma2)
+}
+
+// Check 8: the session's side is that of the rule, what is used fits, and memory is in form.
+fn session_ok(
+    rule: Side,
+    side: u32,
+    used: Used,
+    m1: &[u32],
+    m2: &[u32],
+    heads: &[u32],
+    states: &[u32],
+    trs: &[u32],
+) -> bool
+    ensures { λ r. ⌜ ((six : Six) (allowed1 allowed2 : Option (List ℕ)) → r ≡ sessionOk (lentOf (now (m1 .entry)) (now (m2 .entry)) allowed1 allowed2) (sessionOf six side used) (memoryOf (now (heads .entry)) (now (states .entry)) (now (trs .entry))) (sideMeans rule)) ⌝ }
+{
+    if side != side_number(rule) {
+        return false;
+    }
+    if !fits(states, trs, used) {
+        return false;
+    }
+    form_ok(heads, states, trs, used, num_states(m1), num_states(m2))
+}
+
+// Checks 1 to 8 of a later call, by the session's own settings; where none stands, the side that it goes on with.
+pub fn enter(
+    settings: Settings,
+    side: u32,
+    used: Used,
+    m1: &[u32],
+    m2: &[u32],
+    heads: &[u32],
+    states: &[u32],
+    trs: &[u32],
+) -> Chosen
+    ensures { λ r. ⌜ ((allowed1 allowed2 : Option (List ℕ)) → enteredMeans settings (lentOf (now (m1 .entry)) (now (m2 .entry)) allowed1 allowed2) r ≡ entered (lentOf (now (m1 .entry)) (now (m2 .entry)) allowed1 allowed2) (sessionOf (settingsMeans settings) side used) (memoryOf (now (heads .entry)) (now (states .entry)) (now (trs .entry)))) ⌝ }
+{
+    let chosen = side_for(settings, m1, m2);
+    match chosen {
+        Chosen::Refused(k) => Chosen::Refused(k),
+        Chosen::By(rule) => {
+            if !session_ok(rule, side, used, m1, m2, heads, states, trs) {
+                return Chosen::Refused(8);
+            }
+            Chosen::By(rule)
+        }
+    }
+}
+
+// Checks 1 to 9.
+pub fn enter_at(
+    settings: Settings,
+    side: u32,
+    used: Used,
+    m1: &[u32],
+    m2: &[u32],
+    heads: &[u32],
+    states: &[u32],
+    trs: &[u32],
+    n: StateId,
+) -> Chosen
+    ensures { λ r. ⌜ ((allowed1 allowed2 : Option (List ℕ)) → enteredMeans settings (lentOf (now (m1 .entry)) (now (m2 .entry)) allowed1 allowed2) r ≡ enteredAt (lentOf (now (m1 .entry)) (now (m2 .entry)) allowed1 allowed2) (sessionOf (settingsMeans settings) side used) (memoryOf (now (heads .entry)) (now (states .entry)) (now (trs .entry))) (n .0)) ⌝ }
+{
+    let entered = enter(settings, side, used, m1, m2, heads, states, trs);
+    match entered {
+        Chosen::Refused(k) => Chosen::Refused(k),
+        Chosen::By(rule) => {
+            if used.states <= n.0 {
+                return Chosen::Refused(9);
+            }
+            Chosen::By(rule)
+        }
+    }
+}
