@@ -1,0 +1,84 @@
+// The input of the listing, read in chunks: three lines of decimal words, each into its own slice. Every function takes any bytes and any reader.
+mod line;
+
+ghost use mathlib.Core.Path.{_≡_};
+ghost use Rattle.listing_text.specs.Chunks.{readByte, readBytes, inRooms};
+ghost use Rattle.listing_read.specs.Meaning.{inputOf, roomsOf, newReader, readerOf};
+pub use line::LineReader;
+pub use line::line_words;
+use line::new_line;
+use line::step_byte;
+
+// How far the reading of the input is: the number of the line that is being read, and the three lines.
+pub struct Reader {
+    pub at: u32,
+    pub settings: LineReader,
+    pub first: LineReader,
+    pub second: LineReader,
+}
+
+// The reader before the first byte.
+pub fn new_reader() -> Reader
+    ensures { λ r. ⌜ r ≡ newReader ⌝ }
+{
+    with_lines(0, new_line(), new_line(), new_line())
+}
+
+// One byte more.
+pub fn read_byte(
+    r: Reader,
+    b: u8,
+    settings: &mut [u32],
+    first: &mut [u32],
+    second: &mut [u32],
+) -> Reader
+    ensures { λ n. ⌜ inputOf n (now (settings .exit)) (now (first .exit)) (now (second .exit)) ≡ inRooms (roomsOf (now (settings .entry)) (now (first .entry)) (now (second .entry))) (readByte (inputOf r (now (settings .entry)) (now (first .entry)) (now (second .entry))) b) ⌝ }
+{
+    let at = r.at;
+    let s = r.settings;
+    let f = r.first;
+    let g = r.second;
+    if 2 < at {
+        return r;
+    }
+    if b == 10 {
+        return with_lines(at + 1, s, f, g);
+    }
+    if at == 0 {
+        return with_lines(at, step_byte(s, b, settings), f, g);
+    }
+    if at == 1 {
+        return with_lines(at, s, step_byte(f, b, first), g);
+    }
+    with_lines(at, s, f, step_byte(g, b, second))
+}
+
+fn with_lines(at: u32, settings: LineReader, first: LineReader, second: LineReader) -> Reader
+    ensures { λ r. ⌜ r ≡ readerOf at settings first second ⌝ }
+{
+    Reader {
+        at: at,
+        settings: settings,
+        first: first,
+        second: second,
+    }
+}
+
+// The bytes of a chunk, one after the other.
+pub fn read_chunk(
+    start: Reader,
+    chunk: &[u8],
+    settings: &mut [u32],
+    first: &mut [u32],
+    second: &mut [u32],
+) -> Reader
+    ensures { λ n. ⌜ inputOf n (now (settings .exit)) (now (first .exit)) (now (second .exit)) ≡ inRooms (roomsOf (now (settings .entry)) (now (first .entry)) (now (second .entry))) (readBytes (inputOf start (now (settings .entry)) (now (first .entry)) (now (second .entry))) (now (chunk .entry))) ⌝ }
+{
+    let mut r = start;
+    let mut i = 0;
+    while i < chunk.len() {
+        r = read_byte(r, chunk[i], settings, first, second);
+        i += 1;
+    }
+    r
+}

@@ -1,0 +1,4 @@
+pub mod Chunks
+pub mod LineLaws
+pub mod SameListing
+pub mod TextCases

@@ -1,0 +1,57 @@
+-- The reading of the input byte by byte, in chunks of any size, with room for so many words of each line. Equal to the plain reading: proofs/Chunks.antt.
+use mathlib.Core.Bool.{cond}
+use mathlib.Core.List.{List, [], _∷_}
+use Prim.Native.Nat.{ℕ, _+_}
+use lib.Dec.{eqb, leb, ltb}
+use lib.ListN.{length}
+use Rattle.listing_text.specs.Reading.{lineFeed, Scan, reading, notWords, start, ended, step, kept}
+
+-- how far the reading of the input is: the number of the line that is being read, and the readings of the three lines
+pub record Input : Type 0 where
+  pub at : ℕ
+  pub settings : Scan
+  pub first : Scan
+  pub second : Scan
+
+abbrev pub opening : Input
+opening = record { at = 0; settings = start; first = start; second = start }
+
+-- one byte goes into the line that is being read
+abbrev pub intoLine : Input → ℕ → Input
+intoLine i b =
+    cond (eqb (i .at) 0) (record { at = i .at; settings = step (i .settings) b; first = i .first; second = i .second })
+    (cond (eqb (i .at) 1) (record { at = i .at; settings = i .settings; first = step (i .first) b; second = i .second })
+    (record { at = i .at; settings = i .settings; first = i .first; second = step (i .second) b }))
+
+abbrev pub nextLine : Input → Input
+nextLine i = record { at = i .at + 1; settings = i .settings; first = i .first; second = i .second }
+
+-- one byte of the input: a line feed ends the line, and lines after the third are not read
+unfoldable pub readByte : Input → ℕ → Input
+readByte i b = cond (ltb (i .at) 3) (cond (eqb b lineFeed) (nextLine i) (intoLine i b)) i
+
+unfoldable pub readBytes : Input → List ℕ → Input
+readBytes i [] = i
+readBytes i (b ∷ bs) = readBytes (readByte i b) bs
+
+-- a reading with room for so many words: a line of more counts as one that is not of words
+abbrev pub within : ℕ → Scan → Scan
+within room notWords = notWords
+within room (reading words value inside) = cond (leb (length words) room) (reading words value inside) notWords
+
+-- room for each of the three lines
+pub record Rooms : Type 0 where
+  pub settings : ℕ
+  pub first : ℕ
+  pub second : ℕ
+
+abbrev pub inRooms : Rooms → Input → Input
+inRooms r i = record { at = i .at; settings = within (r .settings) (i .settings); first = within (r .first) (i .first); second = within (r .second) (i .second) }
+
+-- the words that a line is left with, when the input has ended
+abbrev pub lineWords : ℕ → Scan → List ℕ
+lineWords room s = kept (within room (ended s))
+
+-- "A machine line above 4096 words .. is malformed, a settings line not of six such words is refused 1": no more words of a line matter
+abbrev pub listingRooms : Rooms
+listingRooms = record { settings = 6; first = 4096; second = 4096 }

@@ -1,0 +1,4 @@
+pub mod Ascii
+pub mod Reading
+pub mod Printing
+pub mod Chunks
