@@ -12,6 +12,8 @@ import random
 import subprocess
 import sys
 
+from state_cases import parsed
+
 SIDES = {"input": 0, "output": 1, "both": 2}
 
 
@@ -89,25 +91,6 @@ class Slices:
         return self.trs[5 * (first - 1):5 * (first - 1 + count)] if count else []
 
 
-def answers(out):
-    """The side or the opening's refusal; for each ordered state its transitions or refusal; the found states."""
-    lines = out.strip().split("\n")
-    if not lines[0].startswith("side"):
-        return int(lines[0].split()[1]), [], []
-    said, states = [], []
-    for text in lines[1:]:
-        kind, *rest = text.split()
-        if kind == "e":
-            said.append([])
-        elif kind == "refused":
-            said.append(int(rest[0]))
-        elif kind == "t":
-            said[-1].append([int(x) for x in rest])
-        elif kind == "s":
-            states.append(([int(x) for x in rest[1:4]], rest[4:]))
-    return SIDES[lines[0].split()[1]], said, states
-
-
 def calling(oracle, gen, seed, count):
     draw = random.Random(int(seed))
     text = subprocess.run([sys.executable, gen, seed, count, "--lists", "--order"], capture_output=True, text=True, check=True).stdout
@@ -117,7 +100,7 @@ def calling(oracle, gen, seed, count):
         room = (draw.randint(1, 9), draw.randint(0, 14))
         case = "\n".join(rows[k:k + 6]) + "\n"
         out = oracle_many([oracle, "order", "--many", "--lists", "--zero-final", f"--room={room[0]}:{room[1]}"], case)[0]
-        yield calls(draw, room, [int(x) for x in rows[k].split()], rows[k + 1:k + 6], *answers(out))
+        yield calls(draw, room, [int(x) for x in rows[k].split()], rows[k + 1:k + 6], *parsed(out))
 
 
 def calls(draw, room, orders, rows, side, said, states):
@@ -128,9 +111,9 @@ def calls(draw, room, orders, rows, side, said, states):
     asked, replies = [f"opening (settingsOf {settings}) {lent}"], []
 
     def session():
-        return f"(session {settings} {side} {mem.found} {mem.used})"
+        return f"(session {settings} {SIDES[side]} {mem.found} {mem.used})"
 
-    if side in (4, 5, 6, 7) and not states and not said:
+    if isinstance(side, int):
         return case(lent, mem, asked, [f"answered (refusal {side}) (session (1 ∷ []) 3 4 5)"], mem.before, "(session (1 ∷ []) 3 4 5)")
     triples = [s for s, _ in states]
     mem.open(triples[0] if triples else None)

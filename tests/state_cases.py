@@ -118,7 +118,12 @@ def ask(oracle, settings, a1, a2, m1, m2, orders):
     """The Rust's answer: the side (or the refusal of the opening), the answer at each ordered state, the found states."""
     text = "\n".join([words(orders), words(settings), listed(a1), listed(a2), words(m1), words(m2), ""])
     out = subprocess.run([oracle, "order", "--many", "--lists", "--zero-final"], input=text, capture_output=True, text=True, check=True).stdout
-    lines = out.split("--")[0].strip().split("\n")
+    return parsed(out.split("--")[0])
+
+
+def parsed(out):
+    """One answer of `ORACLE order`: the side (or the number of the opening's refusal), the transitions or the refusal at each ordered state, the found states."""
+    lines = out.strip().split("\n")
     if not lines[0].startswith("side"):
         return int(lines[0].split()[1]), [], []
     side, answers, states = lines[0].split()[1], [], []
@@ -207,4 +212,5 @@ def main():
     print("    []")
 
 
-main()
+if __name__ == "__main__":
+    main()

@@ -1,0 +1,99 @@
+#!/usr/bin/env python3
+"""Writes what crates/bad_input must print: its cases are read from the program, the answers are computed here from document 01.
+
+    python3 tests/bad_input.py > crates/bad_input/stdout
+"""
+import os
+import re
+
+from machine import MAX, Words
+
+ROOT = os.path.dirname(os.path.dirname(os.path.abspath(__file__)))
+SOURCE = open(os.path.join(ROOT, "crates/bad_input/src/main.rt")).read()
+
+
+def cases():
+    """The slices given to `machine`, in the order of the calls in `main`."""
+    bodies = dict(re.findall(r"fn (\w+)\(\) \{\n(.*?)\n\}", SOURCE, re.S))
+    for name in re.findall(r"(\w+)\(\);", bodies["main"]):
+        arrays = {}
+        for let, repeated, count, words, call, part in re.findall(
+                r"let (\w+) = \[(?:(\w+); (\d+)|([^;\]]*))\];|machine\(&(\w+)(?:\[\.\.(\d+)\])?\);", bodies[name]):
+            if let:
+                number = lambda w: MAX if w == "MAX" else int(w.replace("u32", ""))
+                arrays[let] = [number(repeated)] * int(count) if repeated else [number(w) for w in words.replace("\n", " ").replace(",", " ").split()]
+            else:
+                yield arrays[call][:int(part)] if part else arrays[call]
+
+
+def side(w, sigma1, sigma2):
+    """Machine 1 and machine 2 are the same words."""
+    if sigma1 == 0 or sigma2 == 0:
+        return 4
+    if sigma1 != MAX and not w.sorted(1):
+        return 5
+    if sigma2 != MAX and not w.sorted(0):
+        return 6
+    marks = (w.word(4) == 1, w.word(3) == 1)
+    if marks == (True, True):
+        return 3
+    if marks[0] or marks[1]:
+        return 2 if marks[0] else 1
+    return 2 if w.sorted(1) else 1 if w.sorted(0) else 7
+
+
+def line(letter, *numbers):
+    print(" ".join([letter] + [str(int(n)) for n in numbers]))
+
+
+def machine(m):
+    w = Words(m)
+    line("p", w.well_formed(), w.sorted(0), w.sorted(1), w.acceptor())
+    start = w.word(2)
+    line("h", w.word(2 ** 64 - 1), w.S, w.T, start, w.word(3), w.word(4), w.word(5), *([1, start - 1] if start else [0]))
+    for s in (0, MAX):
+        line("s", w.state(s, 0), w.state(s, MAX), w.first(s), len(w.list(s)), w.state(s, 1) == 1, w.state(s, 2),
+             w.none(0, s), w.none(1, s), w.all(0, s), w.all(1, s))
+    for t in (0, 1, MAX):
+        line("r", w.tr(t, 4), w.tr(t, MAX), w.next(t), w.tr(t, 0), w.tr(t, 1), *(w.tr(t, k) for k in range(4)))
+    line("f", w.none(1, MAX), w.all(1, MAX), w.none(0, 0), w.all(0, 0))
+    line("m", side(w, MAX, MAX), side(w, 7, MAX), side(w, MAX, 7), side(w, 7, 0))
+
+
+def times(kind, a, b):
+    if kind == 0:
+        return [1, MAX] if MAX in (a, b) else [1, a + b] if a + b < MAX else [0]
+    return [1, a * b] if a * b <= MAX else [0]
+
+
+def weights(kind):
+    zero = MAX if kind == 0 else 0
+    pairs = ((MAX, MAX), (MAX, 1), (2147483647, 2147483647), (2147483648, 2147483647), (65535, 65537), (65536, 65536))
+    line("w", 0 if kind == 0 else 1, zero, zero == 0, zero == MAX, *(n for a, b in pairs for n in times(kind, a, b)))
+
+
+def cells(filter):
+    """Both "none" and "all" hold of both machines; a cell is [1, next f] or [0]."""
+    out = []
+    for f in (0, 1, 2, MAX):
+        if filter == 0:
+            out += [1, 0] if f == 0 else [0]
+            out += [0] + [0] + [1, 0]
+        elif filter == 1:
+            out += [0]
+            out += [0] if f == 1 else [1, 0]
+            out += [0] + [1, 0]
+        else:
+            out += [1, 0] if f == 0 else [1, 1] if f == 1 else [0]
+            out += [1, 0] if f == 0 else [0] if f == 1 else [1, 2]
+            out += [1, 0] if f == 0 else [0]
+            out += [1, 0]
+    line("c", *out)
+
+
+for m in cases():
+    machine(m)
+for k in (0, 1, MAX):
+    weights(k)
+for k in (0, 1, MAX):
+    cells(k)
