@@ -10,15 +10,14 @@ use lib.Dec.{eqb, leb}
 use borrow.Author.Tests.{eqb-true, eqb-false, leb-true, leb-false}
 use Rattle.lists.proofs.Places.{in-at}
 use Rattle.papers.specs.Machine.{Machine}
-use Rattle.words.specs.Labels.{Checked, good, refused, refuseIf, andThen}
-use Rattle.words.specs.Machines.{stateCount, wellFormed}
+use Rattle.words.specs.Labels.{Checked, good, refused}
+use Rattle.words.specs.Machines.{wellFormed}
 use Rattle.words.specs.Matches.{MatchType}
 use Rattle.words.specs.Sides.{Side, nonEmpty, sideOf}
 use Rattle.words.specs.Steps.{Composition, Triple, Step, stepsAt, unlessZero, finalAt}
 use Rattle.words.specs.Settings.{Settings, Lent, operand1, operand2, compositionOf}
 use Rattle.words.specs.Weights.{times}
-use Rattle.words.proofs.CheckedLaws.{good≢refused, good-is, refused-is}
-use Rattle.words.proofs.StepRange.{InRange, steps-in-range}
+use Rattle.words.proofs.CheckedLaws.{stop-if, stop-then, good≢refused, good-is, refused-is}
 use Rattle.words.specs.AsPapers.{directionOf}
 use Rattle.words.proofs.PapersOpened.{direction-refused, kept-refused}
 use Rattle.words.proofs.PapersSteps.{opened-as-papers}
@@ -76,23 +75,6 @@ module _ (l : Lent) (s : Session) (m : Memory) (c : Composition) (enters : enter
     expand-stored d e =
         by-expand n (λ o. o ≡ stored s n d)
         (λ a. absurd (omega (arith, a, found))) (λ a x. absurd (bare x)) (λ a x j g. absurd (good≢refused (sym e ∙ g))) (λ a x f g. ap (stored s n) (good-is (sym g ∙ e)))
-
-  -- the targets of a found state's steps are in range
-  pub steps-range : (n : ℕ) → n < s .used .states → (st : Step) → In (good st) (stepsAt c (tripleAt (m .states) n)) → InRange (stateCount (l .m1)) (stateCount (l .m2)) (st .to)
-  steps-range n found st i =
-      let h = entered-is l s m c enters in
-      let z = sided (s .settings) l (h .side) (h .rule) in
-      steps-in-range (s .settings) l (h .side) (z .formed1) (z .formed2) (z .rule) (tripleAt (m .states) n) (h .form .state n found .triple) st
-      (subst (λ o. In (good st) (stepsAt o (tripleAt (m .states) n))) (h .composition) i)
-
--- where a refusal comes from: the check, or what comes after it; the first part, or the second
-pub stop-if : {A : Type 0} (b : Bool) (n : ℕ) (rest : Checked A) (k : ℕ) → refuseIf b n rest ≡ refused k → (k ≡ n) ⊎ (rest ≡ refused k)
-stop-if true n rest k e = inl (refused-is (sym e))
-stop-if false n rest k e = inr e
-
-pub stop-then : {A B : Type 0} (x : Checked A) (g : A → Checked B) (k : ℕ) → andThen x g ≡ refused k → (x ≡ refused k) ⊎ ((a : A) × (x ≡ good a) × (g a ≡ refused k))
-stop-then (good a) g k e = inr (a, refl, e)
-stop-then (refused n) g k e = inl (ap refused (refused-is e))
 
 reach-refused : (d : Store) (t : Triple) (o : Option ℕ) (k : ℕ) → reachedBy d t o ≡ refused k → k ≡ 13
 reach-refused d t (some n) k e = absurd (good≢refused e)

@@ -84,17 +84,25 @@ module _ (l : Lent) where
       go true p = omega arith
       go false p = let n : after .trs ≢ before .trs = eqb-false _ _ p in omega (arith, n, e)
 
+  in-range : (s : Session) (m : Memory) (c : Composition) (n : ℕ) → Entered l s m c → n < s .used .states → (st : Step) → In (good st) (stepsAt c (tripleAt (m .states) n)) → InRange S1 S2 (st .to)
+  in-range s m c n h found st i =
+      let z = sided (s .settings) l (h .side) (h .rule) in
+      let t = tripleAt (m .states) n in
+      steps-in-range (s .settings) l (h .side) (z .formed1) (z .formed2) (z .rule) t (h .form .state n found .triple) st (subst (λ o. In (good st) (stepsAt o t)) (h .composition) i)
+
+  -- the targets of a found state's steps are in range
+  pub steps-range : (s : Session) (m : Memory) (c : Composition) → entered l s m ≡ good c → (n : ℕ) → n < s .used .states → (st : Step) → In (good st) (stepsAt c (tripleAt (m .states) n)) → InRange S1 S2 (st .to)
+  steps-range s m c e n found st i = in-range s m c n (entered-is s m c e) found st i
+
   -- the store after the steps, marked
   marked : (s : Session) (m : Memory) (c : Composition) (n : ℕ) (d : Store) → Entered l s m c → n < s .used .states → storeSteps (storeOf s m) (stepsAt c (tripleAt (m .states) n)) ≡ good d
       → Form S1 S2 (mark d n (newPart (s .used) (d .used) .first)) (d .used .trs)
   marked s m c n d h found e =
       let z = sided (s .settings) l (h .side) (h .rule) in
       let narrow = form (l .m2) (z .formed2) .states in
-      let t = tripleAt (m .states) n in
-      let steps = stepsAt c t in
+      let steps = stepsAt c (tripleAt (m .states) n) in
       let more = longer (storeOf s m) (s .used .trs + length steps) (h .form) (omega arith) in
-      let targets : (st : Step) → In (good st) steps → InRange S1 S2 (st .to) = λ st i. steps-in-range (s .settings) l (h .side) (z .formed1) (z .formed2) (z .rule) t (h .form .state n found .triple) st (subst (λ o. In (good st) (stepsAt o t)) (h .composition) i) in
-      let k = steps-kept narrow (storeOf s m) (s .used .trs + length steps) steps d more targets (omega (arith, found)) refl e in
+      let k = steps-kept narrow (storeOf s m) (s .used .trs + length steps) steps d more (λ st i. in-range s m c n h found st i) (omega (arith, found)) refl e in
       mark-form narrow d (k .form) n (newPart (s .used) (d .used) .first) (omega (arith, found, k .states)) (first-used (s .used) (d .used) (length steps) (k .trs))
 
   -- the expansion of an unexpanded state

@@ -17,7 +17,7 @@ use Rattle.words.specs.Sides.{Side, sideBy, inOrder, sideOf, nonEmpty}
 use Rattle.words.specs.Sigmas.{Operand, isSet}
 use Rattle.words.specs.Steps.{Triple, startOf, startAt}
 use Rattle.words.specs.Settings.{Settings, settingsOk, Lent, operand1, operand2, compositionOf}
-use Rattle.words.proofs.CheckedLaws.{good≢refused, refused-is}
+use Rattle.words.proofs.CheckedLaws.{good≢refused, refused-is, stop-if}
 use Rattle.words.proofs.FormLaws.{form}
 use Rattle.calls.specs.Store.{Memory, Store, stateRoom, stateField, tripleWords, tripleAt, headOf, find, chainOf, add}
 use Rattle.calls.specs.Checks.{Session, sideNumber, sideFor}
@@ -27,7 +27,7 @@ use Rattle.calls.proofs.ChainLaws.{add-new, add-holds}
 use Rattle.calls.proofs.OpenKept.{cleared-form}
 use Rattle.calls.proofs.ExpandKept.{sided}
 use Rattle.calls.proofs.FindLaws.{Whole, whole-add}
-use Rattle.calls.proofs.ExpandCases.{stayed, stop-if}
+use Rattle.calls.proofs.ExpandCases.{stayed}
 use Rattle.calls.proofs.TwoStores.{new-words}
 
 -- what an accepted opening leaves, with the store d

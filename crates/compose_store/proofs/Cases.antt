@@ -16,7 +16,8 @@ use Rattle.fst.specs.declared.MatchType.the-variants.{MatchOutput}
 use Rattle.compose_fst_op.specs.declared.Side.the-variants.{Only}
 use Rattle.compose_moves.specs.Composing.{lentOf, composing}
 use Rattle.compose_moves.specs.declared.ComposeFstOpOptions.{ComposeFstOpOptions}
-use Rattle.compose_store.specs.Meaning.{memoryOf, sessionOf}
+use Rattle.store_records.specs.Meaning.{memoryOf}
+use Rattle.compose_store.specs.Meaning.{sessionOf}
 
 -- `0 0 4294967295 0 4294967295 0`, side output
 abbrev options : ComposeFstOpOptions

@@ -4,11 +4,11 @@ use mathlib.Core.List.{List, [], _∷_}
 use Prim.Native.Nat.{ℕ, _<_}
 use Rattle.words.specs.Labels.{Checked, good, refused}
 use Rattle.words.specs.Steps.{Step}
-use Rattle.calls.specs.Store.{Memory, Used as Counts, Part as Run}
+use Rattle.calls.specs.Store.{Memory, Part as Run}
 use Rattle.calls.specs.Checks.{Session, sideNumber}
 use Rattle.calls.specs.Calls.{Reached as Place, Outcome}
 use Rattle.store_records.specs.declared.Used.{Used}
-use Rattle.store_records.specs.Meaning.{partMeans, stored}
+use Rattle.store_records.specs.Meaning.{partMeans, stored, usedMeans}
 use Rattle.compose_fst_op.specs.Chosen.{sideMeans}
 use Rattle.compose_moves.specs.Composing.{settingsOf}
 use Rattle.compose_moves.specs.declared.ComposeFstOpOptions.{ComposeFstOpOptions}
@@ -38,13 +38,6 @@ goesOn (Stop n) = true
 -- a state of the table, and the table, in these slices
 abbrev pub reachedMeans : List ℕ → List ℕ → List ℕ → ℕ → Reached → Place
 reachedMeans heads states trs k r = record { store = stored heads states trs (r .used) k; state = r .state .0 }
-
-abbrev pub usedMeans : Used → Counts
-usedMeans u = record { states = u .states; trs = u .trs }
-
--- "Memory is three slices: heads, states, transitions."
-abbrev pub memoryOf : List ℕ → List ℕ → List ℕ → Memory
-memoryOf heads states trs = record { heads = heads; states = states; trs = trs }
 
 -- the session of a composition, with these used counts
 abbrev pub sessionOf : ComposeFstOpOptions → Used → Session

@@ -3,7 +3,6 @@
 use mathlib.Core.Path.{_≡_, refl, sym, _∙_, ap}
 use mathlib.Core.Bool.{Bool, true, false, not, _&&_, _||_, and-true, and-false, or-false, or-assoc}
 use mathlib.Core.List.{List, [], _∷_, List·Memᴰ as In, List·Memᴰ·head as here, List·Memᴰ·tail as there}
-use mathlib.Core.Logic.{_⊎_, inl, inr}
 use mathlib.Core.Option.{Option, none, some}
 use Prim.Native.Nat.{ℕ, zero, suc, _+_, _*_, _≤_, _<_}
 use native.Mathlib.Omega.{arith}
@@ -22,7 +21,7 @@ use Rattle.calls.proofs.RecordLaws.{room-same}
 use Rattle.calls.proofs.StoreForms.{Form}
 use Rattle.calls.proofs.ChainLaws.{same-triple, find-sound, find-added, find-other}
 use Rattle.calls.proofs.FormKept.{add-form, append-form}
-use Rattle.calls.proofs.StepsKept.{longer}
+use Rattle.calls.proofs.StepsKept.{LinkOk, link-ok, longer}
 use Rattle.compose_weigh.specs.Weigh.{reachedWithin, missing, isNew, countState, weighFrom, weighOf}
 
 -- the steps `rest` come after the first i of `all`, and none of those is a refusal
@@ -76,17 +75,11 @@ lacks-next e f to n found other t = go (sameTriple to t) refl
     go true p = and-false (missing (find e t)) ∙ sym (ap missing (ap (find f) (sym (same-triple to t p)) ∙ found))
     go false p = and-true (missing (find e t)) ∙ ap missing (sym (other t p))
 
--- the link that a step's record gets
-link : (e : Store) (last : ℕ) (others : List (Checked Step)) → e .used .trs + suc (length others) ≡ last
-    → (nextFor e (nonEmpty others) ≡ 0) ⊎ ((nextFor e (nonEmpty others) ≡ e .used .trs + 2) × (e .used .trs + 1 < last))
-link e last [] h = inl refl
-link e last (x ∷ xs) h = inr (refl, omega arith)
-
 module _ {S1 S2 : ℕ} (narrow : S2 ≤ 65535) (d : Store) (all : List (Checked Step)) (last : ℕ) where
   -- a transition record, and the state of its target
   append-grown : (e f : Store) (i n next : ℕ) (s : Step) (others : List (Checked Step)) → Grown S1 S2 d all last i e → Ahead i all (good s ∷ others)
       → Form S1 S2 f last → stateRoom (f .memory) ≡ stateRoom (e .memory) → trRoom (f .memory) ≡ trRoom (e .memory) → f .used .trs ≡ e .used .trs → n < f .used .states
-      → e .used .trs < trRoom (e .memory) → (next ≡ 0) ⊎ ((next ≡ e .used .trs + 2) × (e .used .trs + 1 < last))
+      → e .used .trs < trRoom (e .memory) → LinkOk e last next
       → find f (s .to) ≡ some n → ((t : Triple) → sameTriple (s .to) t ≡ false → find f t ≡ find e t)
       → Grown S1 S2 d all last (suc i) (append f s n next)
   unfolding append find chainOf trRoom stateRoom
@@ -105,7 +98,7 @@ module _ {S1 S2 : ℕ} (narrow : S2 ≤ 65535) (d : Store) (all : List (Checked 
     next = nextFor e (nonEmpty others)
 
     found-grown : (n : ℕ) → find e (s .to) ≡ some n → Grown S1 S2 d all last (suc i) (append e s n next)
-    found-grown n p = append-grown e e i n next s others g a (g .form) refl refl refl (find-sound e (g .form) (s .to) n p .0) room (link e last others h) p (λ t q. refl)
+    found-grown n p = append-grown e e i n next s others g a (g .form) refl refl refl (find-sound e (g .form) (s .to) n p .0) room (link-ok e last others (omega arith)) p (λ t q. refl)
 
     new-grown : e .used .states < stateRoom (e .memory) → Grown S1 S2 d all last (suc i) (append (add e (s .to)) s (e .used .states) next)
     unfolding add stateRoom trRoom
@@ -114,7 +107,7 @@ module _ {S1 S2 : ℕ} (narrow : S2 ≤ 65535) (d : Store) (all : List (Checked 
         let headed = g .form .headed (g .any) in
         append-grown e (add e (s .to)) i (e .used .states) next s others g a (add-form narrow e (g .form) (s .to) ok more headed)
         (room-same 5 (e .memory .states) (add e (s .to) .memory .states) (length-put (e .memory .states) (5 * e .used .states) (stateRecord (s .to) (headOf (e .memory .heads) (s .to)))))
-        refl refl (omega arith) room (link e last others h)
+        refl refl (omega arith) room (link-ok e last others (omega arith))
         (find-added e (g .form) (s .to) few more headed) (find-other e (g .form) (s .to) few more headed)
 
     abbrev Told : Store → Type 0

@@ -15,6 +15,7 @@ use state_table::Found;
 use state_table::find_id;
 use store_records::ComposeStateTuple;
 use store_records::Used;
+use store_records::same_tuple;
 use store_records::state_room;
 use store_records::tr_room;
 
@@ -35,18 +36,6 @@ struct Weighing {
     options: ComposeFstOpOptions,
     used: Used,
     start: MoveCursor,
-}
-
-fn same_tuple(a: ComposeStateTuple, b: ComposeStateTuple) -> bool
-    ensures { λ r. ⌜ r ≡ sameTriple (tupleMeans a) (tupleMeans b) ⌝ }
-{
-    if a.s1.0 != b.s1.0 {
-        return false;
-    }
-    if a.s2.0 != b.s2.0 {
-        return false;
-    }
-    a.fs == b.fs
 }
 
 // Whether one of the first `count` steps from a cursor on goes to a triple.

@@ -13,7 +13,7 @@ use Rattle.words.specs.Matches.{MatchType, labelOn}
 use Rattle.words.specs.Machines.{trCount, stateWord, trWord, firstOk, nextOk, firstOf, nextOf, listBy, listFrom, listOf, machineOf, noFall, sorted, acceptor}
 use Rattle.words.proofs.ListLaws.{link, first-inside, list-end}
 use Rattle.fst_properties.specs.RecordTests.{rises}
-use Rattle.fst_properties.proofs.Runs.{run-cut}
+use Rattle.lists.proofs.Runs.{run-cut}
 
 -- no label falls within the list of state s
 unfoldable pub listSorted : MatchType → List ℕ → ℕ → Bool

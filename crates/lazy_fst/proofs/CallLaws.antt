@@ -16,7 +16,8 @@ use Rattle.compose_fst_op.specs.declared.Side.{Side as Direction}
 use Rattle.compose_fst_op.specs.declared.Chosen.{Chosen}
 use Rattle.compose_fst_op.specs.declared.Chosen.the-variants.{By}
 use Rattle.compose_store.specs.Meaning.{sessionOf}
-use Rattle.session_checks.specs.Meaning.{settingsMeans, usedMeans, enteredMeans}
+use Rattle.store_records.specs.Meaning.{usedMeans}
+use Rattle.session_checks.specs.Meaning.{settingsMeans, enteredMeans}
 use Rattle.lazy_fst.specs.Meaning.{sessionMeans, optionsOf}
 use Rattle.lazy_fst.specs.declared.Session.{Session as Latest}
 use Rattle.lazy_fst.specs.declared.Listed.{Listed}

@@ -10,7 +10,7 @@ ghost use Rattle.compose_moves.specs.Composing.{composing};
 ghost use Rattle.compose_moves.specs.declared.ComposeFstOpOptions.{ComposeFstOpOptions as Options};
 ghost use Rattle.compose_store.specs.Meaning.{sessionOf, leftBy};
 ghost use Rattle.compose_run.specs.Meaning.{ranLeft};
-ghost use Rattle.session_checks.specs.Meaning.{memoryOf};
+ghost use Rattle.store_records.specs.Meaning.{memoryOf};
 ghost use Rattle.lazy_fst.specs.Meaning.{sessionMeans, optionsOf, left, partLeft, weightLeft};
 use crate::Answer;
 use crate::Listed;

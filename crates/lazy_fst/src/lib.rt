@@ -5,7 +5,8 @@ mod opening;
 
 ghost use mathlib.Core.Path.{_≡_};
 ghost use Rattle.calls.specs.Calls.{openOf, expandOf, finalWeightOf, runOf, recordsOf};
-ghost use Rattle.session_checks.specs.Meaning.{settingsMeans, memoryOf};
+ghost use Rattle.store_records.specs.Meaning.{memoryOf};
+ghost use Rattle.session_checks.specs.Meaning.{settingsMeans};
 ghost use Rattle.lazy_fst.specs.Meaning.{lentWith, sessionMeans, left, partLeft, weightLeft};
 use answers::final_of;
 use answers::options_of;

@@ -7,3 +7,4 @@ pub mod Compare
 pub mod Links
 pub mod Apart
 pub mod Rising
+pub mod Runs

@@ -1,5 +1,5 @@
 -- What is in a list that was joined or kept from, and what holds for every one of a list. Of _++_ and map the library has it.
-use mathlib.Core.Path.{_≡_, refl, _∙_, ap}
+use mathlib.Core.Path.{_≡_, refl, _∙_, ap, ap₂}
 use mathlib.Core.Bool.{Bool, true, false, _&&_, _||_, and-eq-true-iff, true≢false}
 use mathlib.Core.List.{List, [], _∷_, flatMap, List·Memᴰ as In, List·Memᴰ·head as here, List·Memᴰ·tail as there, Memᴰ·append-left, Memᴰ·append-right, List·Memᴰ·append-cases, List·Memᴰ·not-nil, List·Memᴰ·cases-cons}
 use mathlib.Core.Logic.{_⊎_, inl, inr, ⊎-elim}
@@ -73,6 +73,12 @@ pub every-of : {A : Type 0} (P : A → Bool) (l : List A) → ((a : A) → In a 
 unfolding every
 every-of P [] h = refl
 every-of P (x ∷ xs) h = and-eq-true-iff (P x) (every P xs) .1 (h x (here refl), every-of P xs (λ a i. h a (there i)))
+
+-- two tests that agree on the list
+pub every-same : {A : Type 0} (P Q : A → Bool) (l : List A) → ((a : A) → In a l → P a ≡ Q a) → every P l ≡ every Q l
+unfolding every
+every-same P Q [] h = refl
+every-same P Q (x ∷ xs) h = ap₂ (λ a b. a && b) (h x (here refl)) (every-same P Q xs (λ a i. h a (there i)))
 
 -- the numbers of an interval are those from s up to s + n
 pub in-interval : (s n i : ℕ) → s ≤ i → i < s + n → In i (interval s n)

@@ -1,9 +1,9 @@
 -- The papers' three filters satisfy the laws of a filter: computed at each of their states, with the functions `live` and `pick` by which each does.
 use mathlib.Core.Path.{_≡_, refl}
-use mathlib.Core.Bool.{Bool, true, false, not}
+use mathlib.Core.Bool.{Bool, true, not}
 use Prim.Native.Nat.{ℕ, zero, suc}
 use Rattle.lists.proofs.Finite.{both, implies, allB}
-use Rattle.papers.specs.Filter.{MoveKind, lone1, lone2, bothEpsilon, aLabel, epsilonSequencing, epsilonSequencingMirrored, epsilonMatching}
+use Rattle.papers.specs.Filter.{epsilonSequencing, epsilonSequencingMirrored, epsilonMatching}
 use Rattle.papers.specs.Pick.{sequencePick, alternatePick, matchingPick}
 use Rattle.papers.proofs.FilterLaws.{allK, sameK, lawful, Lawful, laws}
 

@@ -8,12 +8,11 @@ use lib.Dec.{eqb}
 use borrow.Author.Tests.{eq-eqb, ne-eqb}
 use Rattle.lists.specs.Lists.{putIf, keepIf}
 use Rattle.papers.specs.Machine.{ε, Machine}
-use Rattle.papers.specs.Weight.{Semiring}
+use Rattle.papers.specs.Weight.{Semiring, CommutativeSemiring}
 use Rattle.papers.specs.Filter.{MoveKind}
 use Rattle.papers.specs.Composition.{Edge, rest, along, Leaves, nextState, outer, Composed, Triple, Move, Enabled, reached, edgeWeight, moveWeight}
 use Rattle.papers.specs.Paths.{word, taken, path1, path2, Agree, Matching, inputWord, outputWord, Ends, Accepting, AcceptingPath, pathWeight, EndsBoth, AcceptingMoves, AcceptingRun, movesWeight}
 use Rattle.papers.proofs.Forms.{by-form}
-use Rattle.papers.proofs.SemiringLaws.{CommutativeSemiring}
 
 -- ε goes, another label stays
 pub word-ε : (x : ℕ) (l : List ℕ) → x ≡ ε → word (x ∷ l) ≡ word l

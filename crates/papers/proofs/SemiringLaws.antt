@@ -4,19 +4,7 @@ use mathlib.Core.Logic.{_↔_, _⊎_, inl, inr, ⊎-elim}
 use Prim.Native.Nat.{ℕ, zero, suc, _+_, _*_, _≤_, _<_, min}
 use native.Mathlib.Nat.{mul-comm, mul-assoc, one-mul, zero-mul, mul-zero, mul-add, add-comm, min-comm, min-le-left, min-le-right, min-eq-left, le-min, add-min-add-right, mul-pos}
 use native.Mathlib.Omega.{arith}
-use Rattle.papers.specs.Weight.{Semiring, Cost, finite, infinite, least, sum, tropical, Kind, cost, count, semiring}
-
-pub record CommutativeSemiring (K : Semiring) : Type 0 where
-  pub times-assoc : (a b c : K .Element) → K .times (K .times a b) c ≡ K .times a (K .times b c)
-  pub times-comm : (a b : K .Element) → K .times a b ≡ K .times b a
-  pub one-times : (a : K .Element) → K .times (K .one) a ≡ a
-  pub zero-times : (a : K .Element) → K .times (K .zero) a ≡ K .zero
-  pub plus-assoc : (a b c : K .Element) → K .plus (K .plus a b) c ≡ K .plus a (K .plus b c)
-  pub plus-comm : (a b : K .Element) → K .plus a b ≡ K .plus b a
-  pub zero-plus : (a : K .Element) → K .plus (K .zero) a ≡ a
-  pub times-plus : (a b c : K .Element) → K .times a (K .plus b c) ≡ K .plus (K .times a b) (K .times a c)
-  -- no two others have the product zero
-  pub zero-product : (a b : K .Element) → (K .times a b ≡ K .zero) ↔ ((a ≡ K .zero) ⊎ (b ≡ K .zero))
+use Rattle.papers.specs.Weight.{Semiring, CommutativeSemiring, Cost, finite, infinite, least, sum, tropical, Kind, cost, count, semiring}
 
 min-assoc : (a b c : ℕ) → min (min a b) c ≡ min a (min b c)
 min-assoc a b c =

@@ -20,11 +20,10 @@ use Rattle.calls.specs.Store.{Memory, Store, stateField, tripleAt, expandedAt, 
 use Rattle.calls.specs.Checks.{Session, storeOf, entered}
 use Rattle.calls.specs.Calls.{storeSteps, newPart}
 use Rattle.calls.specs.Sequences.{World}
+use Rattle.calls.proofs.ExpandKept.{Sided, sided, Entered, entered-is, steps-range}
 use Rattle.calls.proofs.FormKept.{mark-other, mark-expanded}
 use Rattle.calls.proofs.StepsKept.{longer}
 use Rattle.calls.proofs.StepsStay.{Stays, steps-stay}
-use Rattle.calls.proofs.ExpandKept.{Sided, sided, Entered, entered-is}
-use Rattle.calls.proofs.ExpandCases.{steps-range}
 use Rattle.calls.proofs.FindLaws.{whole-distinct, marked-triple, whole-mark}
 use Rattle.calls.proofs.StepsMade.{IsTr, written-at, stay-state, stay-triple, stored-good, StepsMade, steps-made}
 use Rattle.calls.proofs.Parts.{part-alike, some-first, new-low, in-new, of-new, part-new}

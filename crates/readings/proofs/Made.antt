@@ -12,17 +12,16 @@ use lib.ListN.{length}
 use borrow.Author.Tests.{eqb-true, eqb-false, not-true}
 use Rattle.lists.proofs.Finite.{left, right}
 use Rattle.papers.specs.Machine.{ε}
-use Rattle.papers.specs.Weight.{Semiring}
+use Rattle.papers.specs.Weight.{Semiring, CommutativeSemiring}
 use Rattle.papers.specs.Filter.{MoveKind, lone1, lone2, bothEpsilon, aLabel, factsOf}
 use Rattle.papers.specs.Composition.{rest, along, Composed, Triple, Move, reached}
 use Rattle.papers.specs.Paths.{path1, path2, Matching, Accepting, AcceptingMoves}
 use Rattle.papers.proofs.FilterLaws.{begins, then1, then2, Lawful}
 use Rattle.papers.proofs.Forms.{form1, form2, formε, formx}
-use Rattle.papers.proofs.SemiringLaws.{CommutativeSemiring}
-use Rattle.papers.proofs.PathLaws.{ends-both}
+use Rattle.papers.proofs.PathLaws.{word-ε, word-label, ends-both}
 use Rattle.readings.specs.Merge.{beginsε, move, front, mergeUpTo}
 use Rattle.readings.specs.Readings.{MeetBy}
-use Rattle.readings.proofs.Labels.{word-ε, word-label, none-agree, agree-none}
+use Rattle.readings.proofs.Labels.{none-agree, agree-none}
 use Rattle.readings.proofs.Rebuilt.{Live, path-fits}
 
 -- a label that is not ε, by the test

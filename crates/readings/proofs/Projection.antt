@@ -8,7 +8,7 @@ use Rattle.papers.specs.Composition.{Edge, Composed, Triple, Move, Enabled, rea
 use Rattle.papers.specs.Paths.{word, taken, path1, path2, Agree, Matching, AcceptingMoves}
 use Rattle.papers.proofs.Forms.{by-form}
 use Rattle.readings.specs.Readings.{MeetBy}
-use Rattle.readings.proofs.Labels.{word-ε, word-label}
+use Rattle.papers.proofs.PathLaws.{word-ε, word-label}
 
 -- a move before two paths that match
 module _ (R : ℕ → ℕ → Type 0) (C : Composed) (meet : MeetBy R C) (q1 q2 : ℕ) (p1 p2 : List ℕ) (h : Matching R (C .first) (C .second) p1 p2) where

@@ -12,13 +12,12 @@ use Rattle.lists.specs.Lists.{every}
 use Rattle.lists.proofs.Finite.{join, implies}
 use Rattle.lists.proofs.Members.{and-left, and-right, every-in}
 use Rattle.papers.specs.Machine.{ε, Machine}
-use Rattle.papers.specs.Weight.{Semiring}
+use Rattle.papers.specs.Weight.{Semiring, CommutativeSemiring}
 use Rattle.papers.specs.Filter.{MoveKind, lone1, lone2, bothEpsilon, aLabel, noEpsilon, onlyEpsilons, factsOf}
 use Rattle.papers.specs.Composition.{Edge, Composed, Triple, Move, Enabled, reached}
 use Rattle.papers.specs.Paths.{taken, path1, path2, Accepting, AcceptingMoves}
 use Rattle.papers.proofs.FilterLaws.{fits, begins, then1, then2, Lawful}
 use Rattle.papers.proofs.Forms.{by-form}
-use Rattle.papers.proofs.SemiringLaws.{CommutativeSemiring}
 use Rattle.papers.proofs.PathLaws.{accepting1, accepting2}
 use Rattle.readings.specs.Merge.{beginsε, move, front, mergeUpTo}
 

@@ -21,9 +21,9 @@ use Rattle.calls.specs.Calls.{Outcome, storeSteps, newPart, settle, unchanged, 
 use Rattle.calls.specs.Sequences.{World}
 use Rattle.calls.proofs.StepsKept.{longer}
 use Rattle.calls.proofs.StepsStay.{Stays, steps-stay}
-use Rattle.calls.proofs.ExpandKept.{Entered, entered-is, sided}
+use Rattle.calls.proofs.ExpandKept.{Entered, entered-is, sided, steps-range}
 use Rattle.calls.proofs.Parts.{part-alike, words-alike, new-low}
-use Rattle.calls.proofs.ExpandCases.{stored, expand-late, expand-stopped, expand-stored, steps-range}
+use Rattle.calls.proofs.ExpandCases.{stored, expand-late, expand-stopped, expand-stored}
 use Rattle.calls.proofs.OpenCases.{by-open}
 use Rattle.calls.proofs.TwoStores.{Alike, Roomier, Twin, alike-triple, Steps2, steps-alike, mark-alike}
 use Rattle.readings.specs.Demands.{worldOf, Refused, Expanded, partIn, stateAt}

@@ -5,29 +5,21 @@ use Prim.Native.Nat.{ℕ}
 use Rattle.words.specs.Labels.{Checked, good, refused}
 use Rattle.words.specs.Steps.{Composition}
 use Rattle.words.specs.Settings.{Settings as Six, Lent, compositionOf}
-use Rattle.calls.specs.Store.{Memory, Used as Counts}
 use Rattle.calls.specs.Checks.{Session}
 use Rattle.compose_fst_op.specs.Chosen.{sideMeans}
 use Rattle.compose_fst_op.specs.declared.Chosen.{Chosen}
 use Rattle.compose_fst_op.specs.declared.Chosen.the-variants.{By, Refused}
 use Rattle.store_records.specs.declared.Used.{Used}
+use Rattle.store_records.specs.Meaning.{usedMeans}
 use Rattle.session_checks.specs.declared.Settings.{Settings}
 
 -- "settings (kind, filter, sigma 1, mode 1, sigma 2, mode 2)"
 abbrev pub settingsMeans : Settings → Six
 settingsMeans s = record { kind = s .kind; filter = s .filter; sigma1 = s .sigma1 .0; mode1 = s .mode1; sigma2 = s .sigma2 .0; mode2 = s .mode2 }
 
--- the "used counts"
-abbrev pub usedMeans : Used → Counts
-usedMeans u = record { states = u .states; trs = u .trs }
-
 -- the two machines and their allowed lists
 abbrev pub lentOf : List ℕ → List ℕ → Option (List ℕ) → Option (List ℕ) → Lent
 lentOf m1 m2 allowed1 allowed2 = record { m1 = m1; m2 = m2; allowed1 = allowed1; allowed2 = allowed2 }
-
--- "Memory is three slices: heads, states, transitions."
-abbrev pub memoryOf : List ℕ → List ℕ → List ℕ → Memory
-memoryOf heads states trs = record { heads = heads; states = states; trs = trs }
 
 -- a session of its parts
 abbrev pub sessionOf : Six → ℕ → Used → Session

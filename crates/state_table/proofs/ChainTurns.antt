@@ -3,7 +3,7 @@ use mathlib.Core.Path.{_≡_, ap}
 use mathlib.Core.Bool.{Bool}
 use Prim.Native.Nat.{ℕ, _-_, _<_}
 use Rattle.lists.specs.Lists.{firstIf, first, linked}
-use Rattle.store_records.proofs.LinkLaws.{linked-turn}
+use Rattle.lists.proofs.Links.{linked-turn}
 
 pub first-turn : (P : ℕ → Bool) (next : ℕ → ℕ) (k link : ℕ) → 0 < k → (link ≡ 0 → ⊥)
     → first P (linked next k link) ≡ firstIf (P (link - 1)) (link - 1) (first P (linked next (k - 1) (next (link - 1))))

@@ -12,6 +12,7 @@ use store_records::ComposeStateTuple;
 use store_records::get_tuple;
 use store_records::next_of;
 use store_records::push_state;
+use store_records::same_tuple;
 use store_records::store;
 
 // A state of the table, or none with the triple.
@@ -32,17 +33,10 @@ fn slot(heads: &[u32], tuple: ComposeStateTuple) -> usize
 }
 
 // Whether state n has the triple.
-fn same_tuple(states: &[u32], n: StateId, tuple: ComposeStateTuple) -> bool
+fn has_tuple(states: &[u32], n: StateId, tuple: ComposeStateTuple) -> bool
     ensures { λ r. ⌜ r ≡ sameTriple (tripleAt (now (states .entry)) (n .0)) (tupleMeans tuple) ⌝ }
 {
-    let own = get_tuple(states, n);
-    if own.s1.0 != tuple.s1.0 {
-        return false;
-    }
-    if own.s2.0 != tuple.s2.0 {
-        return false;
-    }
-    own.fs == tuple.fs
+    same_tuple(get_tuple(states, n), tuple)
 }
 
 // The first state with the triple along the chain from a link, within `most` steps.
@@ -56,7 +50,7 @@ fn find_along(states: &[u32], from: u32, most: u32, tuple: ComposeStateTuple) ->
             return Found::Missing;
         }
         let n = StateId(link - 1);
-        if same_tuple(states, n, tuple) {
+        if has_tuple(states, n, tuple) {
             return Found::At(n);
         }
         link = next_of(states, n);

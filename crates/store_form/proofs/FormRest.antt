@@ -1,22 +1,17 @@
 -- The form of a store that fits is judged by its whole records: the rest of words is not read.
-use mathlib.Core.Path.{_≡_, refl, ap₂}
-use mathlib.Core.Bool.{Bool, true, _&&_}
-use mathlib.Core.List.{List, [], _∷_, List·Memᴰ as In, List·Memᴰ·head as here, List·Memᴰ·tail as there}
+use mathlib.Core.Path.{_≡_, ap₂}
+use mathlib.Core.Bool.{true, _&&_}
+use mathlib.Core.List.{List}
 use Prim.Native.Nat.{ℕ, _<_, _≤_}
 use native.Mathlib.Omega.{arith}
 use lib.Dec.{leb}
 use borrow.Author.Tests.{leb-true}
-use Rattle.lists.specs.Lists.{every, interval}
-use Rattle.lists.proofs.Members.{and-left, and-right, of-interval}
+use Rattle.lists.specs.Lists.{interval}
+use Rattle.lists.proofs.Members.{and-left, and-right, of-interval, every-same}
 use Rattle.calls.specs.Store.{Store, roomOf, stateRoom, trRoom, stateField, tripleAt, expandedAt, firstAt, nextAt, targetAt, trNextAt}
 use Rattle.calls.specs.Forms.{fits, headsOk, tripleOk, expandedOk, stateFormOk, trFormOk, formOk}
 use Rattle.store_records.specs.Meaning.{stored}
 use Rattle.store_records.proofs.RestLaws.{SameRecords, state-same, tr-same}
-
-every-same : {A : Type 0} (P Q : A → Bool) (l : List A) → ((a : A) → In a l → P a ≡ Q a) → every P l ≡ every Q l
-unfolding every
-every-same P Q [] h = refl
-every-same P Q (x ∷ xs) h = ap₂ (λ a b. a && b) (h x (here refl)) (every-same P Q xs (λ a i. h a (there i)))
 
 module _ (S1 S2 : ℕ) (d : Store) (states trs : List ℕ) (same : SameRecords (d .memory .states) states) (same-trs : SameRecords (d .memory .trs) trs) where
   abbrev e : Store

@@ -1,4 +1,3 @@
-pub mod LinkLaws
 pub mod PartLaws
 pub mod RestLaws
 pub mod PartRest

@@ -2,8 +2,9 @@
 use mathlib.Core.List.{List}
 use Prim.Native.Nat.{ℕ, _<_}
 use Rattle.words.specs.Steps.{Triple, Step}
-use Rattle.calls.specs.Store.{Store, Part as Run}
+use Rattle.calls.specs.Store.{Memory, Used as Counts, Store, Part as Run}
 use Rattle.fst.specs.declared.tr.Tr.{Tr}
+use Rattle.store_records.specs.declared.Used.{Used}
 use Rattle.store_records.specs.declared.compose_state_tuple.ComposeStateTuple.{ComposeStateTuple}
 use Rattle.store_records.specs.declared.tr_records.Part.{Part}
 
@@ -26,3 +27,11 @@ stepMeans r to = record { input = r .ilabel .0; output = r .olabel .0; weight = 
 -- the store with these three slices and used counts: heads, states, transitions, used states, used transitions
 abbrev pub stored : List ℕ → List ℕ → List ℕ → ℕ → ℕ → Store
 stored heads states trs n k = record { memory = record { heads = heads; states = states; trs = trs }; used = record { states = n; trs = k } }
+
+-- the "used counts"
+abbrev pub usedMeans : Used → Counts
+usedMeans u = record { states = u .states; trs = u .trs }
+
+-- "Memory is three slices: heads, states, transitions."
+abbrev pub memoryOf : List ℕ → List ℕ → List ℕ → Memory
+memoryOf heads states trs = record { heads = heads; states = states; trs = trs }

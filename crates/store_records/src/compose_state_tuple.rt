@@ -1,3 +1,6 @@
+ghost use mathlib.Core.Path.{_≡_};
+ghost use Rattle.calls.specs.Store.{sameTriple};
+ghost use Rattle.store_records.specs.Meaning.{tupleMeans};
 use fst::StateId;
 
 // A composed state: the filter state, and the state of each machine.
@@ -5,4 +8,16 @@ pub struct ComposeStateTuple {
     pub fs: u32,
     pub s1: StateId,
     pub s2: StateId,
+}
+
+pub fn same_tuple(a: ComposeStateTuple, b: ComposeStateTuple) -> bool
+    ensures { λ r. ⌜ r ≡ sameTriple (tupleMeans a) (tupleMeans b) ⌝ }
+{
+    if a.s1.0 != b.s1.0 {
+        return false;
+    }
+    if a.s2.0 != b.s2.0 {
+        return false;
+    }
+    a.fs == b.fs
 }

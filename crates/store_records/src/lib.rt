@@ -5,6 +5,7 @@ mod state_records;
 mod tr_records;
 
 pub use compose_state_tuple::ComposeStateTuple;
+pub use compose_state_tuple::same_tuple;
 pub use lent::store;
 pub use state_records::expanded_word;
 pub use state_records::first_of;

@@ -1,6 +1,7 @@
 -- What an accepted value says of the checks before it.
 use mathlib.Core.Path.{_≡_, refl, sym, ap}
 use mathlib.Core.Bool.{Bool, true, false, true≢false}
+use mathlib.Core.Logic.{_⊎_, inl, inr}
 use Prim.Native.Nat.{ℕ}
 use Rattle.words.specs.Labels.{Checked, good, refused, refuseIf, andThen}
 
@@ -27,3 +28,12 @@ past-check false n rest a e = (refl, e)
 pub past-then : {A B : Type 0} (x : Checked A) (g : A → Checked B) (b : B) → andThen x g ≡ good b → (a : A) × (x ≡ good a) × (g a ≡ good b)
 past-then (good a) g b e = (a, refl, e)
 past-then (refused n) g b e = absurd (good≢refused (sym e))
+
+-- where a refusal comes from: the check, or what comes after it; the first part, or the second
+pub stop-if : {A : Type 0} (b : Bool) (n : ℕ) (rest : Checked A) (k : ℕ) → refuseIf b n rest ≡ refused k → (k ≡ n) ⊎ (rest ≡ refused k)
+stop-if true n rest k e = inl (refused-is (sym e))
+stop-if false n rest k e = inr e
+
+pub stop-then : {A B : Type 0} (x : Checked A) (g : A → Checked B) (k : ℕ) → andThen x g ≡ refused k → (x ≡ refused k) ⊎ ((a : A) × (x ≡ good a) × (g a ≡ refused k))
+stop-then (good a) g k e = inr (a, refl, e)
+stop-then (refused n) g k e = inl (ap refused (refused-is e))

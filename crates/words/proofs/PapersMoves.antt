@@ -1,7 +1,7 @@
 -- The kept moves that 01 lists at a composed state are exactly the papers' moves there with 01's filter, each once, whichever machine is walked; the refusals are 10 alone and 11.
 use mathlib.Core.Path.{_≡_, refl, sym, _∙_, ap, subst}
 use mathlib.Core.Bool.{Bool, true, false, cond}
-use mathlib.Core.List.{List, [], flatMap, List·Memᴰ as In, List·Memᴰ·head as here}
+use mathlib.Core.List.{List, flatMap, List·Memᴰ as In, List·Memᴰ·head as here}
 use mathlib.Core.Logic.{_≢_, _↔_}
 use mathlib.Core.Option.{some}
 use Prim.Native.Nat.{ℕ}

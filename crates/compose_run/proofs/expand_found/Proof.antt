@@ -1,9 +1,9 @@
 -- A state expanded before is answered as stored; else it is expanded.
-use mathlib.Core.Path.{_≡_, sym, _∙_}
+use mathlib.Core.Path.{sym, _∙_}
 use denote.Ref.{now}
-use Rattle.store_records.specs.Meaning.{partMeans}
-use Rattle.compose_moves.specs.Composing.{lentOf, composing}
-use Rattle.compose_store.specs.Meaning.{memoryOf, sessionOf}
+use Rattle.store_records.specs.Meaning.{partMeans, memoryOf}
+use Rattle.compose_moves.specs.Composing.{lentOf}
+use Rattle.compose_store.specs.Meaning.{sessionOf}
 use Rattle.compose_run.proofs.RunTurns.{expand-listed, expand-new}
 use borrow.Author.Needs.{needs}
 use Rattle.compose_run.proofs.expand_found.Statement.{statement}

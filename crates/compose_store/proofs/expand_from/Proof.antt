@@ -3,11 +3,11 @@ use mathlib.Core.Path.{sym, _∙_, ap}
 use mathlib.Core.Bool.{true}
 use Rattle.calls.specs.Calls.{storeSteps}
 use Rattle.calls.proofs.StepsStay.{steps-stay}
-use Rattle.store_records.specs.Meaning.{partMeans, stored}
+use Rattle.store_records.specs.Meaning.{partMeans, stored, memoryOf}
 use Rattle.compose_moves.specs.Composing.{settingsOf, lentOf}
 use Rattle.compose_moves.specs.Cursors.{stepsLeft}
 use Rattle.compose_weigh.specs.Weigh.{weighOf}
-use Rattle.compose_store.specs.Meaning.{memoryOf, sessionOf}
+use Rattle.compose_store.specs.Meaning.{sessionOf}
 use Rattle.compose_store.proofs.ExpandLaws.{clear-accepted, refused-same, expanded-new, expanded-refused}
 use borrow.Author.Needs.{needs}
 use Rattle.compose_store.proofs.expand_from.Statement.{statement}

@@ -3,7 +3,8 @@ use mathlib.Core.Path.{sym, _∙_, ap}
 use Rattle.words.specs.Steps.{stepsAt}
 use Rattle.compose_moves.specs.Composing.{settingsOf, lentOf, composing}
 use Rattle.compose_moves.specs.Cursors.{stepsLeft}
-use Rattle.compose_store.specs.Meaning.{memoryOf, sessionOf}
+use Rattle.store_records.specs.Meaning.{memoryOf}
+use Rattle.compose_store.specs.Meaning.{sessionOf}
 use Rattle.compose_store.proofs.ExpandLaws.{start-refused, ready}
 use borrow.Author.Needs.{needs}
 use Rattle.compose_store.proofs.expand_state.Statement.{statement}

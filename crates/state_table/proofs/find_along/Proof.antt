@@ -6,7 +6,7 @@ use denote.Ref.{now}
 use Rattle.lists.specs.Lists.{first, linked}
 use Rattle.calls.specs.Store.{tripleAt, nextAt, sameTriple}
 use Rattle.store_records.specs.Meaning.{tupleMeans}
-use Rattle.store_records.proofs.LinkLaws.{linked-zero, linked-none}
+use Rattle.lists.proofs.Links.{linked-zero, linked-none}
 use Rattle.state_table.proofs.ChainTurns.{first-turn}
 use borrow.Author.Needs.{needs}
 use Rattle.state_table.proofs.find_along.Statement.{statement}
@@ -23,11 +23,11 @@ unfolding first
 returns c = rw (linked-zero (nextAt _) _ _ (c .if1 .taken)) at (c .before .before .loop .inv .1)
 
 returns-2 : tie.Need-returns-2 Inv-loop μ-loop
-returns-2 c = let a = c .before .before .before .before .before .before .args in let l = c .before .before .before .before .loop in rw (first-turn (λ n. sameTriple (tripleAt (now (a .states)) n) (tupleMeans (a .tuple))) (nextAt (now (a .states))) (l .left) (l .link) (omega arith) (c .before .before .if1 .left), ← c .before .same-tuple .ensures, c .if2 .taken) at (l .inv .1)
+returns-2 c = let a = c .before .before .before .before .before .before .args in let l = c .before .before .before .before .loop in rw (first-turn (λ n. sameTriple (tripleAt (now (a .states)) n) (tupleMeans (a .tuple))) (nextAt (now (a .states))) (l .left) (l .link) (omega arith) (c .before .before .if1 .left), ← c .before .has-tuple .ensures, c .if2 .taken) at (l .inv .1)
 
 loop-again : tie.Need-loop-again Inv-loop μ-loop
 loop-again c = let a = c .before .before .before .before .before .before .before .args in let l = c .before .before .before .before .before .loop in
-    (search needs, rw (first-turn (λ n. sameTriple (tripleAt (now (a .states)) n) (tupleMeans (a .tuple))) (nextAt (now (a .states))) (l .left) (l .link) (omega arith) (c .before .before .before .if1 .left), ← c .before .before .same-tuple .ensures, c .before .if2 .left, ← c .next-of .ensures) at (l .inv .1))
+    (search needs, rw (first-turn (λ n. sameTriple (tripleAt (now (a .states)) n) (tupleMeans (a .tuple))) (nextAt (now (a .states))) (l .left) (l .link) (omega arith) (c .before .before .before .if1 .left), ← c .before .before .has-tuple .ensures, c .before .if2 .left, ← c .next-of .ensures) at (l .inv .1))
 
 returns-3 : tie.Need-returns-3 Inv-loop μ-loop
 unfolding first

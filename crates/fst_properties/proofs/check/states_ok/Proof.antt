@@ -6,7 +6,7 @@ use native.Mathlib.Nat.{sub-zero}
 use native.Mathlib.Omega.{arith}
 use Rattle.lists.specs.Lists.{every, interval}
 use Rattle.fst.proofs.Tests.{fails, holds}
-use Rattle.fst_properties.proofs.Runs.{run-turn, run-end}
+use Rattle.lists.proofs.Runs.{run-turn, run-end}
 use Rattle.words.specs.Machines.{stateCount, stateOk}
 use borrow.Author.Needs.{needs}
 use Rattle.fst_properties.proofs.check.states_ok.Statement.{statement}

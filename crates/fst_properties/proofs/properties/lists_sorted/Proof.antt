@@ -13,7 +13,7 @@ use Rattle.words.specs.Matches.{labelOn}
 use Rattle.words.specs.Machines.{trCount, nextOf, listFrom, listOf, machineOf, noFall, sorted}
 use Rattle.words.proofs.ListLaws.{link, first-inside, list-end, list-turn}
 use Rattle.fst.specs.Meaning.{onOf}
-use Rattle.fst_properties.proofs.Runs.{run-turn, run-end, run-cut}
+use Rattle.lists.proofs.Runs.{run-turn, run-end, run-cut}
 use Rattle.fst_properties.proofs.Falls.{listSorted, sorted-lists, far-list}
 use borrow.Author.Needs.{needs}
 use Rattle.fst_properties.proofs.properties.lists_sorted.Statement.{statement}

@@ -1,10 +1,10 @@
 -- Checks 1 to 9, then the expansion.
-use mathlib.Core.Path.{_≡_, sym, _∙_, ap}
+use mathlib.Core.Path.{sym, _∙_, ap}
 use denote.Ref.{now}
 use Rattle.calls.specs.Checks.{Session}
 use Rattle.calls.specs.Calls.{expandOf}
 use Rattle.matchers.specs.Meaning.{allowedOf}
-use Rattle.session_checks.specs.Meaning.{memoryOf}
+use Rattle.store_records.specs.Meaning.{memoryOf}
 use Rattle.lazy_fst.specs.Meaning.{lentWith, optionsOf}
 use Rattle.lazy_fst.proofs.CallLaws.{goes-at}
 use borrow.Author.Needs.{needs}

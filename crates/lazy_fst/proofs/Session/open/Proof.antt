@@ -1,9 +1,7 @@
 -- Checks 1 to 7, then the opening on the side of the rule.
-use mathlib.Core.Path.{_≡_, sym, _∙_, ap}
+use mathlib.Core.Path.{sym, _∙_, ap}
 use mathlib.Core.Option.{none}
 use denote.Ref.{now}
-use Rattle.words.specs.Labels.{good}
-use Rattle.calls.specs.Checks.{sideFor}
 use Rattle.calls.specs.Calls.{openOf}
 use Rattle.calls.proofs.ExpandKept.{sided}
 use Rattle.matchers.specs.Meaning.{allowedOf}

@@ -1,5 +1,5 @@
 -- Checks 1 to 9; then the part of an expanded state.
-use mathlib.Core.Path.{_≡_, _∙_, ap}
+use mathlib.Core.Path.{_∙_, ap}
 use denote.Ref.{now}
 use Rattle.fst.proofs.Tests.{fails, holds}
 use Rattle.calls.specs.Calls.{wordsOf, recordsOf}

@@ -1,11 +1,11 @@
 -- Checks 1 to 8, once; then the states in number order.
-use mathlib.Core.Path.{_≡_, sym, _∙_, ap}
+use mathlib.Core.Path.{sym, _∙_, ap}
 use denote.Ref.{now}
 use Rattle.calls.specs.Store.{stateRoom}
 use Rattle.calls.specs.Checks.{Session}
 use Rattle.calls.specs.Calls.{runFrom, runOf}
 use Rattle.matchers.specs.Meaning.{allowedOf}
-use Rattle.session_checks.specs.Meaning.{memoryOf}
+use Rattle.store_records.specs.Meaning.{memoryOf}
 use Rattle.lazy_fst.specs.Meaning.{lentWith, optionsOf}
 use Rattle.lazy_fst.proofs.CallLaws.{goes}
 use borrow.Author.Needs.{needs}

@@ -1,9 +1,8 @@
 -- The session goes on with the new used counts; refused, it is the one that was given.
-use mathlib.Core.Path.{_≡_, ap}
+use mathlib.Core.Path.{ap}
 use Rattle.words.specs.Labels.{good, refused}
 use Rattle.calls.specs.Checks.{Session}
-use Rattle.store_records.specs.Meaning.{partMeans}
-use Rattle.session_checks.specs.Meaning.{usedMeans}
+use Rattle.store_records.specs.Meaning.{partMeans, usedMeans}
 use borrow.Author.Needs.{needs}
 use Rattle.lazy_fst.proofs.answers.part_answer.Statement.{statement}
 use Rattle.lazy_fst.proofs.answers.part_answer.Tie as tie

@@ -1,8 +1,8 @@
 -- The session goes on with the used counts of the expansions kept.
-use mathlib.Core.Path.{_≡_, ap}
+use mathlib.Core.Path.{ap}
 use Rattle.words.specs.Labels.{good, refused}
 use Rattle.calls.specs.Checks.{Session}
-use Rattle.session_checks.specs.Meaning.{usedMeans}
+use Rattle.store_records.specs.Meaning.{usedMeans}
 use borrow.Author.Needs.{needs}
 use Rattle.lazy_fst.proofs.answers.run_answer.Statement.{statement}
 use Rattle.lazy_fst.proofs.answers.run_answer.Tie as tie

@@ -1,5 +1,5 @@
 -- Without a start the heads are cleared; with one, 13 where its record or a head is lacking, else it is the first state.
-use mathlib.Core.Path.{_≡_, sym, _∙_, ap}
+use mathlib.Core.Path.{sym, _∙_, ap}
 use mathlib.Core.Bool.{not}
 use mathlib.Core.Logic.{_≢_}
 use native.Mathlib.Omega.{arith}
@@ -7,12 +7,10 @@ use lib.Dec.{eqb}
 use denote.Ref.{now}
 use borrow.Author.Tests.{eqb-false}
 use Rattle.lists.proofs.Members.{or-false}
-use Rattle.words.specs.Machines.{machineOf}
 use Rattle.words.specs.Sides.{nonEmpty}
-use Rattle.words.specs.Steps.{startOf, startAt}
+use Rattle.words.specs.Steps.{startAt}
 use Rattle.calls.specs.Store.{roomOf, stateSize, stateRoom}
 use Rattle.calls.specs.Calls.{begun, cleared}
-use Rattle.store_records.specs.Meaning.{tupleMeans}
 use Rattle.compose_run.specs.Meaning.{startMeans}
 use Rattle.lazy_fst.proofs.OpeningLaws.{start-packs}
 use borrow.Author.Needs.{needs}

@@ -8,7 +8,7 @@ use native.Mathlib.Omega.{arith}
 use Rattle.lists.specs.Lists.{every, interval}
 use Rattle.calls.specs.Forms.{stateFormOk}
 use Rattle.fst.proofs.Tests.{fails, holds}
-use Rattle.fst_properties.proofs.Runs.{run-turn, run-end}
+use Rattle.lists.proofs.Runs.{run-turn, run-end}
 use Rattle.store_records.specs.Meaning.{stored}
 use borrow.Author.Needs.{needs}
 use Rattle.store_form.proofs.state_form.states_ok.Statement.{statement}

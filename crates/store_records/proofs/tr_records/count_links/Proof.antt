@@ -7,7 +7,7 @@ use denote.Ref.{now}
 use lib.ListN.{length}
 use Rattle.lists.specs.Lists.{linked}
 use Rattle.calls.specs.Store.{trNextAt}
-use Rattle.store_records.proofs.LinkLaws.{linked-turn, linked-zero, linked-none}
+use Rattle.lists.proofs.Links.{linked-turn, linked-zero, linked-none}
 use borrow.Author.Needs.{needs}
 use Rattle.store_records.proofs.tr_records.count_links.Statement.{statement}
 use Rattle.store_records.proofs.tr_records.count_links.Tie as tie

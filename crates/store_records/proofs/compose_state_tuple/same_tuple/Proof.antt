@@ -1,8 +1,8 @@
 -- Field by field, in the order of `sameTriple`.
 use borrow.Author.Tests.{eq-eqb, ne-eqb}
 use Rattle.calls.specs.Store.{sameTriple}
-use Rattle.compose_weigh.proofs.same_tuple.Statement.{statement}
-use Rattle.compose_weigh.proofs.same_tuple.Tie as tie
+use Rattle.store_records.proofs.compose_state_tuple.same_tuple.Statement.{statement}
+use Rattle.store_records.proofs.compose_state_tuple.same_tuple.Tie as tie
 
 returns : tie.Need-returns
 unfolding sameTriple
