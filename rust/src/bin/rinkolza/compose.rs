@@ -1,0 +1,218 @@
+//! `rinkolza compose`.
+
+use crate::args::{Args, Stop, INPUT, REFUSED};
+use crate::files::{self, write_out, Tables};
+use crate::{plain_format, shown, unwritable};
+use rinkolza::{
+    dot, text, to_sort, Composition, Error, Filter, Format, Machine, Options, Rewrite, Side, Sigma,
+    Sort, SymbolTable,
+};
+
+/// States expanded between two lines of progress.
+const STEP: u32 = 256;
+
+#[derive(Clone, Copy)]
+enum To {
+    Text,
+    Dot,
+    Counts,
+}
+
+pub fn compose(args: &Args) -> Result<(), Stop> {
+    let [file1, file2] = args.files::<2>("two machines")?;
+    let to = args.choice(
+        "to",
+        &[("text", To::Text), ("dot", To::Dot), ("counts", To::Counts)],
+    )?;
+    let tables = Tables::read(args)?;
+    let options = options(args, &tables)?;
+    let format = Format {
+        isymbols: tables.input(),
+        osymbols: tables.output(),
+        ..plain_format(args)?
+    };
+    let first = files::read_machine(file1, &first_format(args, &tables, &format))?;
+    let second = files::read_machine(file2, &second_format(args, &tables, &format))?;
+    say_sorted(&first, &second, &options);
+    let mut composition = Composition::open(&first, &second, &options).map_err(refused)?;
+    match args.has("progress") {
+        false => composition.run().map_err(refused)?,
+        true => with_progress(&mut composition)?,
+    }
+    let machine = composition.machine().map_err(refused)?;
+    let shown = shown(args, &format);
+    let text = match to {
+        To::Text => text::write(&machine, &shown).map_err(unwritable)?,
+        To::Dot => picture(args, &composition, &machine, &shown)?,
+        To::Counts => counts(&composition, &machine),
+    };
+    write_out(args, &text)
+}
+
+/// FIRST has the inner labels on its outputs. As an acceptor it has one table, by whatever option it is named.
+fn first_format<'a>(args: &Args, tables: &'a Tables, format: &Format<'a>) -> Format<'a> {
+    let acceptor = args.has("acceptor") || args.has("acceptor1");
+    let inputs = tables.input();
+    Format {
+        acceptor,
+        isymbols: if acceptor {
+            inputs.or(tables.inner())
+        } else {
+            inputs
+        },
+        osymbols: tables.inner(),
+        ..*format
+    }
+}
+
+/// SECOND has the inner labels on its inputs.
+fn second_format<'a>(args: &Args, tables: &'a Tables, format: &Format<'a>) -> Format<'a> {
+    let acceptor = args.has("acceptor") || args.has("acceptor2");
+    let inputs = tables.inner();
+    Format {
+        acceptor,
+        isymbols: if acceptor {
+            inputs.or(tables.output())
+        } else {
+            inputs
+        },
+        osymbols: tables.output(),
+        ..*format
+    }
+}
+
+fn options(args: &Args, tables: &Tables) -> Result<Options, Stop> {
+    let filters = [
+        ("sequence", Filter::Sequence),
+        ("alternate", Filter::Alternate),
+        ("match", Filter::Match),
+        ("alt_sequence", Filter::Alternate),
+    ];
+    let sorts = [
+        ("needed", Sort::WhereNeeded),
+        ("both", Sort::Both),
+        ("never", Sort::Never),
+    ];
+    Ok(Options {
+        kind: plain_format(args)?.kind,
+        filter: args.choice("filter", &filters)?,
+        sigma1: sigma(args, "1", tables.inner())?,
+        sigma2: sigma(args, "2", tables.inner())?,
+        sort: args.choice("sort", &sorts)?,
+        ..Options::default()
+    })
+}
+
+fn sigma(args: &Args, machine: &str, symbols: Option<&SymbolTable>) -> Result<Sigma, Stop> {
+    let modes = [
+        ("auto", Rewrite::Auto),
+        ("each", Rewrite::Each),
+        ("matched", Rewrite::Matched),
+        ("always", Rewrite::Each),
+        ("never", Rewrite::Matched),
+    ];
+    let name = format!("sigma{machine}");
+    let mode_name = format!("rewrite{machine}");
+    let list_name = format!("allowed{machine}");
+    let sigma = Sigma {
+        label: args
+            .value(&name)
+            .map(|word| label(&name, word, symbols))
+            .transpose()?,
+        mode: args.choice(&mode_name, &modes)?,
+        allowed: args
+            .value(&list_name)
+            .map(|list| labels(&list_name, list, symbols))
+            .transpose()?,
+    };
+    if sigma.label.is_none() && (args.has(&mode_name) || args.has(&list_name)) {
+        return Err(Stop::usage(format!(
+            "--{mode_name} and --{list_name} need --{name}"
+        )));
+    }
+    Ok(sigma)
+}
+
+fn labels(option: &str, list: &str, symbols: Option<&SymbolTable>) -> Result<Vec<u32>, Stop> {
+    list.split(',')
+        .filter(|word| !word.is_empty())
+        .map(|word| label(option, word, symbols))
+        .collect()
+}
+
+/// A label on the command line: a symbol of the table, without a table a number.
+fn label(option: &str, word: &str, symbols: Option<&SymbolTable>) -> Result<u32, Stop> {
+    match symbols {
+        Some(table) => table.number(word).ok_or_else(|| {
+            Stop::usage(format!(
+                "--{option}: the symbol \"{word}\" is not in the symbol table {}",
+                table.name()
+            ))
+        }),
+        None => word
+            .parse()
+            .ok()
+            .filter(|&number: &u32| number < u32::MAX)
+            .ok_or_else(|| {
+                Stop::usage(format!(
+                    "--{option}: the label \"{word}\" is not a number from 0 to 4294967294"
+                ))
+            }),
+    }
+}
+
+fn say_sorted(first: &Machine, second: &Machine, options: &Options) {
+    if options.sort != Sort::WhereNeeded {
+        return;
+    }
+    let (sort1, sort2) = to_sort(first, second, options);
+    for (sorted, which, side) in [(sort1, "first", "output"), (sort2, "second", "input")] {
+        if sorted {
+            eprintln!("rinkolza: note: the {which} machine's transitions were sorted by {side} label (--sort)");
+        }
+    }
+}
+
+fn with_progress(composition: &mut Composition) -> Result<(), Stop> {
+    let shown = composition.run_with(STEP, |progress| {
+        eprintln!(
+            "rinkolza: {} of {} states found are expanded, {} transitions",
+            progress.expanded, progress.found, progress.trs
+        );
+    });
+    shown.map_err(refused)
+}
+
+fn picture(
+    args: &Args,
+    composition: &Composition,
+    machine: &Machine,
+    format: &Format<'_>,
+) -> Result<String, Stop> {
+    let name = |state: u32| match composition.triple(state).filter(|_| args.has("triples")) {
+        Some(triple) => format!("{},{},{}", triple.first, triple.second, triple.filter),
+        None => state.to_string(),
+    };
+    dot::draw_named(machine, format, name).map_err(unwritable)
+}
+
+fn counts(composition: &Composition, machine: &Machine) -> String {
+    let side = match composition.side() {
+        Side::Input => "input",
+        Side::Output => "output",
+        Side::Both => "both",
+    };
+    format!(
+        "states {}\ntransitions {}\nfinal {}\nside {side}\n",
+        machine.state_count(),
+        machine.tr_count(),
+        machine.final_count()
+    )
+}
+
+fn refused(error: Error) -> Stop {
+    match error {
+        Error::Refused { .. } => Stop::new(REFUSED, error),
+        _ => Stop::new(INPUT, error),
+    }
+}

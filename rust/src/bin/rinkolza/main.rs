@@ -1,0 +1,100 @@
+//! `rinkolza`: composition of weighted transducers at the shell. `rinkolza --help` says what it does.
+
+#![forbid(unsafe_code)]
+
+mod args;
+mod compose;
+mod files;
+
+use args::{Args, Stop, INPUT};
+use files::{write_out, Tables};
+use rinkolza::{dot, text, words, By, Error, Format, Kind, Machine};
+use std::process::ExitCode;
+
+const HELP: &str = include_str!("help.txt");
+
+fn main() -> ExitCode {
+    match run() {
+        Ok(()) => ExitCode::SUCCESS,
+        Err(stop) => {
+            eprintln!("rinkolza: {}", stop.message);
+            ExitCode::from(stop.status)
+        }
+    }
+}
+
+fn run() -> Result<(), Stop> {
+    let args = Args::parse(std::env::args().skip(1))?;
+    match args.command.as_str() {
+        "compose" => compose::compose(&args),
+        "print" | "draw" => one_machine(&args),
+        "--help" | "-h" | "help" => write_out(&args, HELP),
+        "--version" => write_out(&args, concat!("rinkolza ", env!("CARGO_PKG_VERSION"), "\n")),
+        "" => Err(Stop::usage("say what to do: compose, print or draw")),
+        other => Err(Stop::usage(format!("there is no command {other}"))),
+    }
+}
+
+/// `print` and `draw`: reads a machine and writes it.
+fn one_machine(args: &Args) -> Result<(), Stop> {
+    let [file] = args.files::<1>("one machine")?;
+    let sort = args.choice(
+        "sort",
+        &[
+            ("no", None),
+            ("input", Some(By::Input)),
+            ("output", Some(By::Output)),
+        ],
+    )?;
+    let tables = Tables::read(args)?;
+    let format = Format {
+        acceptor: args.has("acceptor"),
+        isymbols: tables.input(),
+        osymbols: tables.output(),
+        ..plain_format(args)?
+    };
+    let mut machine = files::read_machine(file, &format)?;
+    if let Some(by) = sort {
+        machine.sort(by);
+    }
+    let shown = shown(args, &format);
+    let text = match args.command.as_str() {
+        "draw" => dot::draw(&machine, &shown),
+        _ if args.has("words") => Ok(word_line(&machine)),
+        _ => text::write(&machine, &shown),
+    };
+    write_out(args, &text.map_err(unwritable)?)
+}
+
+/// The machine's words with true marks, on one line.
+fn word_line(machine: &Machine) -> String {
+    let words = words::encode(machine, words::Marks::True);
+    let digits: Vec<String> = words.iter().map(u32::to_string).collect();
+    digits.join(" ") + "\n"
+}
+
+/// What all commands say of texts.
+fn plain_format(args: &Args) -> Result<Format<'static>, Stop> {
+    Ok(Format {
+        kind: args.choice("kind", &[("cost", Kind::Cost), ("count", Kind::Count)])?,
+        keep_numbers: args.has("keep-state-numbering"),
+        show_one: args.has("show-weight-one"),
+        ..Format::default()
+    })
+}
+
+/// The format to write in: without symbols where numbers are asked for.
+fn shown<'a>(args: &Args, format: &Format<'a>) -> Format<'a> {
+    match args.has("numeric") {
+        false => *format,
+        true => Format {
+            isymbols: None,
+            osymbols: None,
+            ..*format
+        },
+    }
+}
+
+fn unwritable(error: Error) -> Stop {
+    Stop::new(INPUT, format!("the machine cannot be written: {error}"))
+}

@@ -1,0 +1,45 @@
+//! Composition of weighted transducers, for Rust and for the shell.
+//!
+//! The work is done by the proved library in this repository (`crates/rinkolza`), called through its C interface.
+//! This crate adds what a proof has no part in: machines built from lists, OpenFst's text form, pictures, memory
+//! that grows, errors in words.
+//!
+//! ```
+//! use rinkolza::{text, Composition, Format, Options};
+//!
+//! let glyphs = "0 1 1 5 2\n1\n";
+//! let spacing = "0 1 5 9 3\n1 4\n";
+//! let format = Format::default();
+//! let first = text::read(glyphs, "glyphs", &format)?;
+//! let second = text::read(spacing, "spacing", &format)?;
+//! let mut composition = Composition::open(&first, &second, &Options::default())?;
+//! composition.run()?;
+//! let composed = composition.machine()?;
+//! assert_eq!(text::write(&composed, &format)?, "0\t1\t1\t9\t5\n1\t4\n");
+//! # Ok::<(), rinkolza::Error>(())
+//! ```
+
+#![deny(unsafe_code)]
+#![warn(missing_docs)]
+
+pub mod dot;
+mod error;
+mod machine;
+mod prepare;
+mod session;
+mod settings;
+mod symbols;
+#[allow(unsafe_code)]
+pub mod sys;
+pub mod text;
+mod weight_text;
+pub mod words;
+
+pub use error::{Error, Refusal};
+pub use machine::{By, Machine, Tr, EPSILON, LARGEST_COUNT, LARGEST_LABEL};
+pub use prepare::to_sort;
+pub use session::{Composition, Progress, Side, Triple};
+pub use settings::{Filter, Kind, Options, Rewrite, Room, Sigma, Sort, LARGEST_ROOM};
+pub use symbols::SymbolTable;
+pub use text::Format;
+pub use words::Trs;

@@ -1,0 +1,279 @@
+//! Machines as people build them: states, lists of transitions, final weights.
+
+#![forbid(unsafe_code)]
+
+use crate::error::Error;
+
+/// The label epsilon.
+pub const EPSILON: u32 = 0;
+/// The largest number that can be a label; 4294967295 never is one.
+pub const LARGEST_LABEL: u32 = u32::MAX - 1;
+/// The most states, and the most transitions, that a machine may have.
+pub const LARGEST_COUNT: usize = 65535;
+
+/// A transition of a state.
+#[derive(Clone, Copy, Debug, PartialEq, Eq, Hash)]
+pub struct Tr {
+    /// The input label; 0 is epsilon.
+    pub input: u32,
+    /// The output label; 0 is epsilon.
+    pub output: u32,
+    /// The weight, a cost or a count; a cost of 4294967295 is infinite.
+    pub weight: u32,
+    /// The state that the transition leads to.
+    pub target: u32,
+}
+
+/// The side of a machine by whose labels its lists are sorted.
+#[derive(Clone, Copy, Debug, PartialEq, Eq)]
+pub enum By {
+    /// By input labels; the second machine's inner side.
+    Input,
+    /// By output labels; the first machine's inner side.
+    Output,
+}
+
+#[derive(Clone, Debug, Default, PartialEq, Eq)]
+struct State {
+    trs: Vec<Tr>,
+    final_weight: Option<u32>,
+}
+
+/// A weighted transducer: states numbered from 0, each with a list of transitions.
+///
+/// ```
+/// use rinkolza::{By, Machine, Tr};
+///
+/// let tr = |input, output, weight, target| Tr { input, output, weight, target };
+/// let mut machine = Machine::from_lists(
+///     Some(0),
+///     &[(0, tr(2, 2, 5, 1)), (0, tr(1, 0, 1, 1))],
+///     &[(1, 0)],
+/// )?;
+/// assert!(!machine.is_sorted(By::Input));
+/// machine.sort(By::Input);
+/// assert_eq!(machine.trs(0)[0], tr(1, 0, 1, 1));
+/// # Ok::<(), rinkolza::Error>(())
+/// ```
+#[derive(Clone, Debug, Default, PartialEq, Eq)]
+pub struct Machine {
+    start: Option<u32>,
+    states: Vec<State>,
+    count: usize,
+}
+
+impl Machine {
+    /// A machine without states.
+    pub fn new() -> Machine {
+        Machine::default()
+    }
+
+    /// The machine with these transitions, each after the state that it leaves, and these final weights.
+    /// States are as many as the largest number that is named asks for.
+    pub fn from_lists(
+        start: Option<u32>,
+        trs: &[(u32, Tr)],
+        finals: &[(u32, u32)],
+    ) -> Result<Machine, Error> {
+        let mut machine = Machine::new();
+        for &(source, tr) in trs {
+            machine.reach(source)?;
+            machine.reach(tr.target)?;
+            machine.add_tr(source, tr)?;
+        }
+        for &(state, weight) in finals {
+            machine.reach(state)?;
+            machine.set_final(state, Some(weight))?;
+        }
+        if let Some(start) = start {
+            machine.reach(start)?;
+            machine.set_start(Some(start))?;
+        }
+        Ok(machine)
+    }
+
+    /// Adds a state without transitions that is not final, and gives its number.
+    pub fn add_state(&mut self) -> Result<u32, Error> {
+        if self.states.len() >= LARGEST_COUNT {
+            return Err(Error::Machine(format!(
+                "a machine has at most {LARGEST_COUNT} states"
+            )));
+        }
+        self.states.push(State::default());
+        Ok(self.states.len() as u32 - 1)
+    }
+
+    /// Adds states until this number is a state.
+    pub fn reach(&mut self, state: u32) -> Result<(), Error> {
+        if state as usize >= LARGEST_COUNT {
+            return Err(Error::Machine(format!(
+                "state {state} is past the last possible one: a machine has at most {LARGEST_COUNT} states"
+            )));
+        }
+        while self.states.len() <= state as usize {
+            self.add_state()?;
+        }
+        Ok(())
+    }
+
+    /// Appends a transition to the list of `source`.
+    pub fn add_tr(&mut self, source: u32, tr: Tr) -> Result<(), Error> {
+        self.known(source)?;
+        self.known(tr.target)?;
+        if tr.input > LARGEST_LABEL || tr.output > LARGEST_LABEL {
+            return Err(Error::Machine(format!(
+                "a label is at most {LARGEST_LABEL}"
+            )));
+        }
+        if self.count >= LARGEST_COUNT {
+            return Err(Error::Machine(format!(
+                "a machine has at most {LARGEST_COUNT} transitions"
+            )));
+        }
+        self.states[source as usize].trs.push(tr);
+        self.count += 1;
+        Ok(())
+    }
+
+    /// Makes the state the start, or the machine one without a start.
+    pub fn set_start(&mut self, start: Option<u32>) -> Result<(), Error> {
+        if let Some(state) = start {
+            self.known(state)?;
+        }
+        self.start = start;
+        Ok(())
+    }
+
+    /// Gives the state a final weight, or makes it one that is not final.
+    pub fn set_final(&mut self, state: u32, weight: Option<u32>) -> Result<(), Error> {
+        self.known(state)?;
+        self.states[state as usize].final_weight = weight;
+        Ok(())
+    }
+
+    fn known(&self, state: u32) -> Result<(), Error> {
+        if (state as usize) < self.states.len() {
+            return Ok(());
+        }
+        Err(Error::Machine(format!(
+            "there is no state {state}: the machine has {} states",
+            self.states.len()
+        )))
+    }
+
+    /// The start.
+    pub fn start(&self) -> Option<u32> {
+        self.start
+    }
+
+    /// How many states there are.
+    pub fn state_count(&self) -> usize {
+        self.states.len()
+    }
+
+    /// How many transitions there are.
+    pub fn tr_count(&self) -> usize {
+        self.count
+    }
+
+    /// How many states are final.
+    pub fn final_count(&self) -> usize {
+        self.states
+            .iter()
+            .filter(|state| state.final_weight.is_some())
+            .count()
+    }
+
+    /// The state's transitions in list order; none past the last state.
+    pub fn trs(&self, state: u32) -> &[Tr] {
+        match self.states.get(state as usize) {
+            Some(state) => &state.trs,
+            None => &[],
+        }
+    }
+
+    /// The state's final weight; none where it is not final.
+    pub fn final_weight(&self, state: u32) -> Option<u32> {
+        self.states.get(state as usize)?.final_weight
+    }
+
+    /// Whether no label falls within any list.
+    pub fn is_sorted(&self, by: By) -> bool {
+        self.states.iter().all(|state| {
+            state
+                .trs
+                .windows(2)
+                .all(|w| label(by, &w[0]) <= label(by, &w[1]))
+        })
+    }
+
+    /// Sorts every list; transitions with equal labels stay in their order.
+    pub fn sort(&mut self, by: By) {
+        for state in &mut self.states {
+            state.trs.sort_by_key(|tr| label(by, tr));
+        }
+    }
+
+    /// Whether input equals output in every transition.
+    pub fn is_acceptor(&self) -> bool {
+        self.states
+            .iter()
+            .all(|state| state.trs.iter().all(|tr| tr.input == tr.output))
+    }
+}
+
+fn label(by: By, tr: &Tr) -> u32 {
+    match by {
+        By::Input => tr.input,
+        By::Output => tr.output,
+    }
+}
+
+#[cfg(test)]
+mod tests {
+    use super::*;
+
+    fn tr(input: u32, output: u32, target: u32) -> Tr {
+        Tr {
+            input,
+            output,
+            weight: 0,
+            target,
+        }
+    }
+
+    #[test]
+    fn what_is_no_machine_is_not_built() {
+        let mut machine = Machine::new();
+        assert!(machine.set_start(Some(0)).is_err());
+        machine.add_state().unwrap();
+        assert!(machine.add_tr(0, tr(1, 1, 1)).is_err());
+        assert!(machine.add_tr(1, tr(1, 1, 0)).is_err());
+        assert!(machine.add_tr(0, tr(u32::MAX, 1, 0)).is_err());
+        assert!(machine.add_tr(0, tr(1, u32::MAX, 0)).is_err());
+        assert!(machine.reach(65535).is_err());
+        assert!(machine.reach(65534).is_ok());
+        assert!(machine.add_state().is_err());
+        for _ in 0..LARGEST_COUNT {
+            machine.add_tr(0, tr(1, 1, 0)).unwrap();
+        }
+        assert!(machine.add_tr(0, tr(1, 1, 0)).is_err());
+    }
+
+    #[test]
+    fn sorting_is_stable() {
+        let lists = [
+            (0, tr(3, 1, 0)),
+            (0, tr(2, 9, 0)),
+            (0, tr(3, 0, 0)),
+            (0, tr(2, 1, 0)),
+        ];
+        let mut machine = Machine::from_lists(Some(0), &lists, &[]).unwrap();
+        machine.sort(By::Input);
+        assert_eq!(
+            machine.trs(0),
+            [tr(2, 9, 0), tr(2, 1, 0), tr(3, 1, 0), tr(3, 0, 0)]
+        );
+        assert!(machine.is_sorted(By::Input) && !machine.is_sorted(By::Output));
+    }
+}

@@ -1,0 +1,340 @@
+//! A composition that owns its memory.
+//!
+//! The library below works in memory that it is lent and refuses a call, 13, where a record is lacking. Here memory
+//! is owned: on 13 the composition is opened anew in larger memory, the calls made so far are made again in the
+//! same order, and the refused call is made again. By demand 3 of the library larger memory yields the same answer
+//! to every call before the smaller one's first 13, so that what was answered before stays as it was.
+
+#![forbid(unsafe_code)]
+
+use crate::error::{Error, Refusal};
+use crate::machine::Machine;
+use crate::prepare::{self, Inputs};
+use crate::settings::{Options, Room};
+use crate::sys::{self, Memory, Session};
+use crate::words::Trs;
+
+/// The side on which the machines are matched.
+#[derive(Clone, Copy, Debug, PartialEq, Eq)]
+pub enum Side {
+    /// The first machine is walked, its outputs looked up among the second's inputs.
+    Input,
+    /// The second machine is walked, its inputs looked up among the first's outputs.
+    Output,
+    /// Decided state by state.
+    Both,
+}
+
+/// A composed state's origin: the states of both machines, and the filter's.
+#[derive(Clone, Copy, Debug, PartialEq, Eq, Hash)]
+pub struct Triple {
+    /// The first machine's state.
+    pub first: u32,
+    /// The second machine's state.
+    pub second: u32,
+    /// The filter's state, from 0 to 2.
+    pub filter: u32,
+}
+
+/// How far a run has come.
+#[derive(Clone, Copy, Debug, PartialEq, Eq)]
+pub struct Progress {
+    /// States expanded from 0 on in number order.
+    pub expanded: u32,
+    /// States found.
+    pub found: u32,
+    /// Transitions stored.
+    pub trs: u32,
+}
+
+/// A call that changed memory, to be made again in larger memory.
+#[derive(Clone, Copy, Debug, PartialEq, Eq)]
+enum Call {
+    Expand(u32),
+    Run,
+}
+
+/// Two machines being composed.
+///
+/// ```
+/// use rinkolza::{Composition, Machine, Options, Tr};
+///
+/// let tr = |input, output, weight, target| Tr { input, output, weight, target };
+/// let first = Machine::from_lists(Some(0), &[(0, tr(1, 5, 2, 1))], &[(1, 0)])?;
+/// let second = Machine::from_lists(Some(0), &[(0, tr(5, 9, 3, 1))], &[(1, 4)])?;
+/// let mut composition = Composition::open(&first, &second, &Options::default())?;
+/// composition.run()?;
+/// let composed = composition.machine()?;
+/// assert_eq!(composed.trs(0), [tr(1, 9, 5, 1)]);
+/// assert_eq!(composed.final_weight(1), Some(4));
+/// # Ok::<(), rinkolza::Error>(())
+/// ```
+#[derive(Clone, Debug)]
+pub struct Composition {
+    inputs: Inputs,
+    room: Room,
+    memory: Memory,
+    session: Session,
+    calls: Vec<Call>,
+    growths: u32,
+    next: u32,
+}
+
+impl Composition {
+    /// Opens the composition of two machines, sorted first as the options say.
+    pub fn open(
+        first: &Machine,
+        second: &Machine,
+        options: &Options,
+    ) -> Result<Composition, Error> {
+        let (first, second) = prepare::encoded(first, second, options);
+        Composition::open_words(first, second, options)
+    }
+
+    /// Opens the composition of two machines in document 01's words; nothing is sorted.
+    pub fn open_words(
+        first: Vec<u32>,
+        second: Vec<u32>,
+        options: &Options,
+    ) -> Result<Composition, Error> {
+        let mut composition = Composition {
+            inputs: Inputs::new(first, second, options),
+            room: options.room,
+            memory: Memory::new(options.room),
+            session: Session::default(),
+            calls: Vec::new(),
+            growths: 0,
+            next: 0,
+        };
+        match composition.begin() {
+            Err(Refusal::NoRoom) => composition.grow().map_err(Error::refused)?,
+            other => other.map_err(Error::refused)?,
+        }
+        Ok(composition)
+    }
+
+    /// Expands state n, where it is not yet, and gives its transitions.
+    pub fn expand(&mut self, n: u32) -> Result<Trs<'_>, Error> {
+        let new = !self.is_expanded(n);
+        self.insist(|own| own.expand_once(n))
+            .map_err(|refusal| at(refusal, Some(n)))?;
+        if new {
+            self.calls.push(Call::Expand(n));
+        }
+        Ok(self.trs(n))
+    }
+
+    /// Expands all states, those that are found on the way too, in number order. Where it is refused the states
+    /// expanded before stay.
+    pub fn run(&mut self) -> Result<(), Error> {
+        let answer = self.insist(Composition::run_once);
+        self.calls.push(Call::Run);
+        answer.map_err(|refusal| {
+            let state = self.first_unexpanded();
+            at(refusal, state)
+        })
+    }
+
+    /// Expands at most `count` states, the lowest numbers first, as a run does; says how far it has come. Each step
+    /// checks machines and memory again, so that a run is faster.
+    pub fn step(&mut self, count: u32) -> Result<Progress, Error> {
+        for _ in 0..count {
+            match self.first_unexpanded() {
+                None => break,
+                Some(n) => self.expand(n)?,
+            };
+        }
+        self.first_unexpanded();
+        Ok(self.progress())
+    }
+
+    /// Runs in steps of `every` states (at least one) and tells `show` after each how far it has come.
+    pub fn run_with(&mut self, every: u32, mut show: impl FnMut(Progress)) -> Result<(), Error> {
+        loop {
+            let progress = self.step(every.max(1))?;
+            show(progress);
+            if progress.expanded == progress.found {
+                return Ok(());
+            }
+        }
+    }
+
+    /// The final weight of state n; none where it is not final.
+    pub fn final_weight(&self, n: u32) -> Result<Option<u32>, Error> {
+        sys::final_weight(&self.inputs.lent(), &self.session, &self.memory, n)
+            .map_err(|number| at(known(number), Some(n)))
+    }
+
+    /// The transitions of state n, where it is expanded; else none.
+    pub fn trs(&self, n: u32) -> Trs<'_> {
+        Trs(sys::records(
+            &self.inputs.lent(),
+            &self.session,
+            &self.memory,
+            n,
+        ))
+    }
+
+    /// The composed machine as far as it is expanded; its states are those found, 0 the start.
+    pub fn machine(&self) -> Result<Machine, Error> {
+        let mut machine = Machine::new();
+        for _ in 0..self.found() {
+            machine.add_state()?;
+        }
+        for n in 0..self.found() {
+            for tr in self.trs(n) {
+                machine.add_tr(n, tr)?;
+            }
+            machine.set_final(n, self.final_weight(n)?)?;
+        }
+        machine.set_start((self.found() > 0).then_some(0))?;
+        Ok(machine)
+    }
+
+    /// The side on which the machines are matched.
+    pub fn side(&self) -> Side {
+        match self.session.side() {
+            0 => Side::Input,
+            1 => Side::Output,
+            _ => Side::Both,
+        }
+    }
+
+    /// How many states are found.
+    pub fn found(&self) -> u32 {
+        self.session.used_states()
+    }
+
+    /// How many transitions are stored.
+    pub fn tr_count(&self) -> u32 {
+        self.session.used_trs()
+    }
+
+    /// Whether state n is found and expanded.
+    pub fn is_expanded(&self, n: u32) -> bool {
+        self.record(n).is_some_and(|record| record[2] == 1)
+    }
+
+    /// Where state n comes from; none where it is not found.
+    pub fn triple(&self, n: u32) -> Option<Triple> {
+        let record = self.record(n)?;
+        Some(Triple {
+            first: record[0] >> 16,
+            second: record[0] & 0xffff,
+            filter: record[1],
+        })
+    }
+
+    /// The room that the composition has by now.
+    pub fn room(&self) -> Room {
+        self.room
+    }
+
+    /// How often the room had to grow.
+    pub fn growths(&self) -> u32 {
+        self.growths
+    }
+
+    /// How far it has come.
+    pub fn progress(&self) -> Progress {
+        Progress {
+            expanded: self.next,
+            found: self.found(),
+            trs: self.tr_count(),
+        }
+    }
+
+    /// The lowest state that is found and not expanded. Expanded states stay so, thus the search goes on from where
+    /// it ended.
+    fn first_unexpanded(&mut self) -> Option<u32> {
+        while self.is_expanded(self.next) {
+            self.next += 1;
+        }
+        (self.next < self.found()).then_some(self.next)
+    }
+
+    fn record(&self, n: u32) -> Option<&[u32]> {
+        if n >= self.found() {
+            return None;
+        }
+        self.memory.states.chunks_exact(5).nth(n as usize)
+    }
+
+    /// Makes a call; on 13 again in larger memory, until there is no larger.
+    fn insist(
+        &mut self,
+        call: impl Fn(&mut Composition) -> Result<(), Refusal>,
+    ) -> Result<(), Refusal> {
+        loop {
+            match call(self) {
+                Err(Refusal::NoRoom) if self.room.larger().is_some() => self.grow()?,
+                other => return other,
+            }
+        }
+    }
+
+    /// Opens anew in larger memory and makes the same calls again.
+    fn grow(&mut self) -> Result<(), Refusal> {
+        loop {
+            let larger = self.room.larger().ok_or(Refusal::NoRoom)?;
+            self.room = larger;
+            self.memory = Memory::new(larger);
+            self.growths += 1;
+            match self.repeat() {
+                Err(Refusal::NoRoom) => continue,
+                other => return other,
+            }
+        }
+    }
+
+    fn repeat(&mut self) -> Result<(), Refusal> {
+        self.begin()?;
+        for k in 0..self.calls.len() {
+            match self.calls[k] {
+                Call::Expand(n) => self.expand_once(n)?,
+                // A run that was refused kept its expansions, and does so again.
+                Call::Run => drop(self.run_once()),
+            }
+        }
+        Ok(())
+    }
+
+    fn begin(&mut self) -> Result<(), Refusal> {
+        let lent = self.inputs.lent();
+        accepted(sys::open(
+            &self.inputs.settings,
+            &lent,
+            &mut self.session,
+            &mut self.memory,
+        ))
+    }
+
+    fn expand_once(&mut self, n: u32) -> Result<(), Refusal> {
+        let lent = self.inputs.lent();
+        match sys::expand(&lent, &mut self.session, &mut self.memory, n) {
+            Ok(_) => Ok(()),
+            Err(number) => Err(known(number)),
+        }
+    }
+
+    fn run_once(&mut self) -> Result<(), Refusal> {
+        let lent = self.inputs.lent();
+        accepted(sys::run(&lent, &mut self.session, &mut self.memory))
+    }
+}
+
+fn accepted(number: u32) -> Result<(), Refusal> {
+    match number {
+        0 => Ok(()),
+        other => Err(known(other)),
+    }
+}
+
+/// The library answers 0 or a refusal's number and nothing else.
+fn known(number: u32) -> Refusal {
+    Refusal::from_number(number).unwrap_or(Refusal::Broken)
+}
+
+fn at(refusal: Refusal, state: Option<u32>) -> Error {
+    Error::Refused { refusal, state }
+}

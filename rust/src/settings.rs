@@ -1,0 +1,186 @@
+//! How to compose: weights, filter, sigma labels, sorting, room.
+
+#![forbid(unsafe_code)]
+
+/// What weights are.
+#[derive(Clone, Copy, Debug, Default, PartialEq, Eq)]
+pub enum Kind {
+    /// Costs: along a path they add up; one is 0, and zero is infinite, the word 4294967295.
+    #[default]
+    Cost,
+    /// Counts: along a path they multiply; one is 1, zero is 0.
+    Count,
+}
+
+impl Kind {
+    /// The weight that changes nothing.
+    pub fn one(self) -> u32 {
+        match self {
+            Kind::Cost => 0,
+            Kind::Count => 1,
+        }
+    }
+
+    /// The weight of what is not there.
+    pub fn zero(self) -> u32 {
+        match self {
+            Kind::Cost => u32::MAX,
+            Kind::Count => 0,
+        }
+    }
+}
+
+/// Which of the orders in which epsilons can be taken is kept.
+#[derive(Clone, Copy, Debug, Default, PartialEq, Eq)]
+pub enum Filter {
+    /// The first machine's epsilons before the second's; OpenFst's `sequence`.
+    #[default]
+    Sequence,
+    /// The second machine's epsilons before the first's; OpenFst's `alt_sequence`.
+    Alternate,
+    /// Epsilons of both at once, then of one alone; OpenFst's `match`.
+    Match,
+}
+
+/// On which sides a sigma transition takes the label that it matched.
+#[derive(Clone, Copy, Debug, Default, PartialEq, Eq)]
+pub enum Rewrite {
+    /// As `Each` for a machine that is marked an acceptor, else as `Matched`.
+    #[default]
+    Auto,
+    /// On each side that holds sigma; OpenFst's `always`.
+    Each,
+    /// On the matched side alone; OpenFst's `never`.
+    Matched,
+}
+
+/// A machine's sigma label: it matches each label that the state has no transition for.
+#[derive(Clone, Debug, Default, PartialEq, Eq)]
+pub struct Sigma {
+    /// The label; none: the machine has no sigma.
+    pub label: Option<u32>,
+    /// The rewrite mode.
+    pub mode: Rewrite,
+    /// The labels that sigma may match; none: every label.
+    pub allowed: Option<Vec<u32>>,
+}
+
+/// Which machines are sorted by their inner labels before they are composed.
+#[derive(Clone, Copy, Debug, Default, PartialEq, Eq)]
+pub enum Sort {
+    /// Both where neither is sorted, and one that has a sigma label and is not; else none, so that the lists stay in
+    /// the order in which they were given.
+    #[default]
+    WhereNeeded,
+    /// Both.
+    Both,
+    /// None.
+    Never,
+}
+
+/// The room that a composition begins with; it grows where it does not suffice.
+#[derive(Clone, Copy, Debug, PartialEq, Eq)]
+pub struct Room {
+    /// Heads of the state table.
+    pub heads: usize,
+    /// State records.
+    pub states: usize,
+    /// Transition records.
+    pub trs: usize,
+}
+
+/// The most records of each sort.
+pub const LARGEST_ROOM: usize = 65535;
+
+impl Default for Room {
+    fn default() -> Room {
+        Room {
+            heads: 1024,
+            states: 1024,
+            trs: 4096,
+        }
+    }
+}
+
+impl Room {
+    /// Twice the room, at most 65535 records of each sort; none where there is no more to be had.
+    pub fn larger(self) -> Option<Room> {
+        let more = |count: usize| count.max(1).saturating_mul(2).min(LARGEST_ROOM.max(count));
+        let larger = Room {
+            heads: more(self.heads),
+            states: more(self.states),
+            trs: more(self.trs),
+        };
+        (larger != self).then_some(larger)
+    }
+}
+
+/// How to compose.
+///
+/// ```
+/// use rinkolza::{Filter, Kind, Options, Sigma};
+///
+/// let options = Options {
+///     kind: Kind::Count,
+///     filter: Filter::Match,
+///     sigma2: Sigma { label: Some(99), ..Sigma::default() },
+///     ..Options::default()
+/// };
+/// assert_eq!(options.words(), [1, 2, u32::MAX, 0, 99, 0]);
+/// ```
+#[derive(Clone, Debug, Default, PartialEq, Eq)]
+pub struct Options {
+    /// What weights are.
+    pub kind: Kind,
+    /// The epsilon filter.
+    pub filter: Filter,
+    /// The first machine's sigma, on its outputs.
+    pub sigma1: Sigma,
+    /// The second machine's sigma, on its inputs.
+    pub sigma2: Sigma,
+    /// What is sorted first.
+    pub sort: Sort,
+    /// The room to begin with.
+    pub room: Room,
+}
+
+impl Options {
+    /// The six words of document 01's settings: kind, filter, sigma 1, mode 1, sigma 2, mode 2.
+    pub fn words(&self) -> [u32; 6] {
+        let label = |sigma: &Sigma| sigma.label.unwrap_or(u32::MAX);
+        [
+            self.kind as u32,
+            self.filter as u32,
+            label(&self.sigma1),
+            self.sigma1.mode as u32,
+            label(&self.sigma2),
+            self.sigma2.mode as u32,
+        ]
+    }
+}
+
+#[cfg(test)]
+mod tests {
+    use super::*;
+
+    #[test]
+    fn room_grows_to_its_end() {
+        let mut room = Room {
+            heads: 0,
+            states: 0,
+            trs: 1,
+        };
+        let mut steps = 0;
+        while let Some(larger) = room.larger() {
+            assert!(
+                larger.heads >= room.heads
+                    && larger.states >= room.states
+                    && larger.trs >= room.trs
+            );
+            room = larger;
+            steps += 1;
+        }
+        assert_eq!((room.heads, room.states, room.trs), (65535, 65535, 65535));
+        assert!(steps < 20);
+    }
+}
