@@ -37,9 +37,9 @@ pub mod words;
 
 pub use error::{Error, Refusal};
 pub use machine::{By, Machine, Tr, EPSILON, LARGEST_COUNT, LARGEST_LABEL};
-pub use prepare::to_sort;
+pub use prepare::{to_sort, Inputs};
 pub use session::{Composition, Progress, Side, Triple};
-pub use settings::{Filter, Kind, Options, Rewrite, Room, Sigma, Sort, LARGEST_ROOM};
+pub use settings::{Filter, Kind, Options, Rewrite, Room, Sigma, Sort};
 pub use symbols::SymbolTable;
 pub use text::Format;
 pub use words::Trs;

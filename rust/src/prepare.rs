@@ -7,28 +7,36 @@ use crate::settings::{Options, Sort};
 use crate::sys::Lent;
 use crate::words::{self, Marks};
 
-/// What stays the same through all calls.
-#[derive(Clone, Debug)]
-pub(crate) struct Inputs {
-    first: Vec<u32>,
-    second: Vec<u32>,
-    pub(crate) settings: [u32; 6],
-    allowed1: Option<Vec<u32>>,
-    allowed2: Option<Vec<u32>>,
+/// What a composition is made of, in document 01's words; it stays the same through all calls.
+#[derive(Clone, Debug, PartialEq, Eq)]
+pub struct Inputs {
+    /// The first machine.
+    pub first: Vec<u32>,
+    /// The second machine.
+    pub second: Vec<u32>,
+    /// Kind, filter, sigma 1, mode 1, sigma 2, mode 2.
+    pub settings: [u32; 6],
+    /// The labels that the first machine's sigma may match; none: every label.
+    pub allowed1: Option<Vec<u32>>,
+    /// The labels that the second machine's sigma may match; none: every label.
+    pub allowed2: Option<Vec<u32>>,
 }
 
 impl Inputs {
-    pub(crate) fn new(first: Vec<u32>, second: Vec<u32>, options: &Options) -> Inputs {
+    /// Both machines in words with true marks, sorted as the options say.
+    pub fn of(first: &Machine, second: &Machine, options: &Options) -> Inputs {
+        let (sort1, sort2) = to_sort(first, second, options);
         Inputs {
-            first,
-            second,
+            first: marked(first, sort1.then_some(By::Output)),
+            second: marked(second, sort2.then_some(By::Input)),
             settings: options.words(),
             allowed1: options.sigma1.allowed.clone(),
             allowed2: options.sigma2.allowed.clone(),
         }
     }
 
-    pub(crate) fn lent(&self) -> Lent<'_> {
+    /// The inputs as they are lent to a call.
+    pub fn lent(&self) -> Lent<'_> {
         Lent {
             first: &self.first,
             second: &self.second,
@@ -36,19 +44,6 @@ impl Inputs {
             allowed2: self.allowed2.as_deref(),
         }
     }
-}
-
-/// Both machines in words with true marks, sorted as the options say.
-pub(crate) fn encoded(
-    first: &Machine,
-    second: &Machine,
-    options: &Options,
-) -> (Vec<u32>, Vec<u32>) {
-    let (sort1, sort2) = to_sort(first, second, options);
-    (
-        marked(first, sort1.then_some(By::Output)),
-        marked(second, sort2.then_some(By::Input)),
-    )
 }
 
 /// Which of the two machines are to be sorted by their inner labels.

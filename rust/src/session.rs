@@ -9,7 +9,7 @@
 
 use crate::error::{Error, Refusal};
 use crate::machine::Machine;
-use crate::prepare::{self, Inputs};
+use crate::prepare::Inputs;
 use crate::settings::{Options, Room};
 use crate::sys::{self, Memory, Session};
 use crate::words::Trs;
@@ -73,6 +73,7 @@ enum Call {
 pub struct Composition {
     inputs: Inputs,
     room: Room,
+    most: Room,
     memory: Memory,
     session: Session,
     calls: Vec<Call>,
@@ -87,20 +88,17 @@ impl Composition {
         second: &Machine,
         options: &Options,
     ) -> Result<Composition, Error> {
-        let (first, second) = prepare::encoded(first, second, options);
-        Composition::open_words(first, second, options)
+        let inputs = Inputs::of(first, second, options);
+        Composition::open_words(inputs, options.room, options.most)
     }
 
-    /// Opens the composition of two machines in document 01's words; nothing is sorted.
-    pub fn open_words(
-        first: Vec<u32>,
-        second: Vec<u32>,
-        options: &Options,
-    ) -> Result<Composition, Error> {
+    /// Opens the composition of two machines in document 01's words, with room that may grow up to `most`.
+    pub fn open_words(inputs: Inputs, room: Room, most: Room) -> Result<Composition, Error> {
         let mut composition = Composition {
-            inputs: Inputs::new(first, second, options),
-            room: options.room,
-            memory: Memory::new(options.room),
+            inputs,
+            room,
+            most,
+            memory: Memory::new(room),
             session: Session::default(),
             calls: Vec::new(),
             growths: 0,
@@ -167,7 +165,7 @@ impl Composition {
 
     /// The transitions of state n, where it is expanded; else none.
     pub fn trs(&self, n: u32) -> Trs<'_> {
-        Trs(sys::records(
+        Trs::new(sys::records(
             &self.inputs.lent(),
             &self.session,
             &self.memory,
@@ -267,7 +265,7 @@ impl Composition {
     ) -> Result<(), Refusal> {
         loop {
             match call(self) {
-                Err(Refusal::NoRoom) if self.room.larger().is_some() => self.grow()?,
+                Err(Refusal::NoRoom) if self.room.larger(self.most).is_some() => self.grow()?,
                 other => return other,
             }
         }
@@ -276,7 +274,7 @@ impl Composition {
     /// Opens anew in larger memory and makes the same calls again.
     fn grow(&mut self) -> Result<(), Refusal> {
         loop {
-            let larger = self.room.larger().ok_or(Refusal::NoRoom)?;
+            let larger = self.room.larger(self.most).ok_or(Refusal::NoRoom)?;
             self.room = larger;
             self.memory = Memory::new(larger);
             self.growths += 1;

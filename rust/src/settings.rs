@@ -78,10 +78,10 @@ pub enum Sort {
     Never,
 }
 
-/// The room that a composition begins with; it grows where it does not suffice.
+/// Room for a composition, in records.
 #[derive(Clone, Copy, Debug, PartialEq, Eq)]
 pub struct Room {
-    /// Heads of the state table.
+    /// Heads of the state table; more of them make it faster.
     pub heads: usize,
     /// State records.
     pub states: usize,
@@ -89,27 +89,21 @@ pub struct Room {
     pub trs: usize,
 }
 
-/// The most records of each sort.
-pub const LARGEST_ROOM: usize = 65535;
-
-impl Default for Room {
-    fn default() -> Room {
-        Room {
-            heads: 1024,
-            states: 1024,
-            trs: 4096,
-        }
-    }
-}
-
 impl Room {
-    /// Twice the room, at most 65535 records of each sort; none where there is no more to be had.
-    pub fn larger(self) -> Option<Room> {
-        let more = |count: usize| count.max(1).saturating_mul(2).min(LARGEST_ROOM.max(count));
+    /// The most that a composition can use: 65535 records of each sort.
+    pub const LARGEST: Room = Room {
+        heads: 65535,
+        states: 65535,
+        trs: 65535,
+    };
+
+    /// Twice the room, within `most`; none where there is no more to be had.
+    pub fn larger(self, most: Room) -> Option<Room> {
+        let more = |count: usize, most: usize| count.max(1).saturating_mul(2).min(most).max(count);
         let larger = Room {
-            heads: more(self.heads),
-            states: more(self.states),
-            trs: more(self.trs),
+            heads: more(self.heads, most.heads),
+            states: more(self.states, most.states),
+            trs: more(self.trs, most.trs),
         };
         (larger != self).then_some(larger)
     }
@@ -128,7 +122,7 @@ impl Room {
 /// };
 /// assert_eq!(options.words(), [1, 2, u32::MAX, 0, 99, 0]);
 /// ```
-#[derive(Clone, Debug, Default, PartialEq, Eq)]
+#[derive(Clone, Debug, PartialEq, Eq)]
 pub struct Options {
     /// What weights are.
     pub kind: Kind,
@@ -140,8 +134,28 @@ pub struct Options {
     pub sigma2: Sigma,
     /// What is sorted first.
     pub sort: Sort,
-    /// The room to begin with.
+    /// The room to begin with; it grows where it does not suffice.
     pub room: Room,
+    /// The room beyond which it does not grow.
+    pub most: Room,
+}
+
+impl Default for Options {
+    fn default() -> Options {
+        Options {
+            kind: Kind::default(),
+            filter: Filter::default(),
+            sigma1: Sigma::default(),
+            sigma2: Sigma::default(),
+            sort: Sort::default(),
+            room: Room {
+                heads: 1024,
+                states: 1024,
+                trs: 4096,
+            },
+            most: Room::LARGEST,
+        }
+    }
 }
 
 impl Options {
@@ -171,7 +185,7 @@ mod tests {
             trs: 1,
         };
         let mut steps = 0;
-        while let Some(larger) = room.larger() {
+        while let Some(larger) = room.larger(Room::LARGEST) {
             assert!(
                 larger.heads >= room.heads
                     && larger.states >= room.states

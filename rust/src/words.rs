@@ -112,9 +112,16 @@ pub(crate) fn tr_of(record: &[u32]) -> Tr {
     }
 }
 
-/// The transitions of a composed state, in list order.
+/// Transitions in records of five words, in list order.
 #[derive(Clone, Debug)]
-pub struct Trs<'a>(pub(crate) &'a [u32]);
+pub struct Trs<'a>(&'a [u32]);
+
+impl<'a> Trs<'a> {
+    /// The transitions in these words; a rest of fewer than five is passed over.
+    pub fn new(records: &'a [u32]) -> Trs<'a> {
+        Trs(records)
+    }
+}
 
 impl Iterator for Trs<'_> {
     type Item = Tr;

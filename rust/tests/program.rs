@@ -1,0 +1,196 @@
+//! The program as people call it.
+
+use std::io::Write;
+use std::path::PathBuf;
+use std::process::{Command, Output, Stdio};
+
+fn example(name: &str) -> String {
+    let path: PathBuf = [env!("CARGO_MANIFEST_DIR"), "examples", name]
+        .iter()
+        .collect();
+    path.display().to_string()
+}
+
+fn call(words: &[&str], stdin: &str) -> Output {
+    let mut child = Command::new(env!("CARGO_BIN_EXE_rinkolza"))
+        .args(words)
+        .stdin(Stdio::piped())
+        .stdout(Stdio::piped())
+        .stderr(Stdio::piped())
+        .spawn()
+        .expect("the program starts");
+    // A program that has not read its input to the end may be gone by now.
+    let _ = child.stdin.take().unwrap().write_all(stdin.as_bytes());
+    child.wait_with_output().expect("the program ends")
+}
+
+fn said(output: &Output) -> (i32, &str, &str) {
+    (
+        output.status.code().expect("an exit status"),
+        std::str::from_utf8(&output.stdout).unwrap(),
+        std::str::from_utf8(&output.stderr).unwrap(),
+    )
+}
+
+/// The exit status and what is said on standard error.
+fn complaint(words: &[&str], stdin: &str) -> (i32, String) {
+    let output = call(words, stdin);
+    let (status, text, error) = said(&output);
+    assert_eq!(text, "");
+    (status, error.to_string())
+}
+
+fn foundry(more: &[&str]) -> Output {
+    let (symbols, glyphs, spacing) = (
+        example("labels.syms"),
+        example("glyphs.txt"),
+        example("spacing.txt"),
+    );
+    let mut words = vec!["compose", "--symbols", &symbols];
+    words.extend(more);
+    words.extend([glyphs.as_str(), spacing.as_str()]);
+    call(&words, "")
+}
+
+#[test]
+fn composes_the_examples() {
+    let output = foundry(&[]);
+    let (status, text, _) = said(&output);
+    assert_eq!(status, 0);
+    assert!(text.starts_with("0\t1\tA\tA\n"), "{text}");
+    assert!(text.contains("\t<eps>\ttight\n"), "{text}");
+    let (_, counts, _) = (0, foundry(&["--to=counts"]), 0);
+    let lines = said(&counts).1.to_string();
+    assert!(
+        lines.starts_with("states ") && lines.contains("\nside both\n"),
+        "{lines}"
+    );
+    let progress = foundry(&["--progress"]);
+    assert_eq!(said(&progress).1, text);
+    assert!(said(&progress).2.contains("states found are expanded"));
+    for filter in ["sequence", "alternate", "match", "alt_sequence"] {
+        assert_eq!(foundry(&["--filter", filter]).status.code(), Some(0));
+    }
+}
+
+#[test]
+fn draws() {
+    let picture = foundry(&["--to", "dot", "--triples"]);
+    let (status, dot, _) = said(&picture);
+    assert_eq!(status, 0);
+    assert!(
+        dot.starts_with("digraph FST {") && dot.contains("label = \"0,0,0\""),
+        "{dot}"
+    );
+    let (symbols, glyphs) = (example("labels.syms"), example("glyphs.txt"));
+    let one = call(&["draw", "--symbols", &symbols, &glyphs], "");
+    assert!(said(&one).1.contains("1 -> 0 [label = \"i:f_i\"];"));
+}
+
+#[test]
+fn standard_input_and_weights() {
+    let output = call(&["print", "-"], "3 1 5 6 1e1\n1 2\n");
+    assert_eq!(said(&output), (0, "0\t1\t5\t6\t10\n1\t2\n", ""));
+    let counts = call(
+        &["print", "--kind=count", "--show-weight-one", "-"],
+        "3 1 5 6\n1 2\n",
+    );
+    assert_eq!(said(&counts), (0, "0\t1\t5\t6\t1\n1\t2\n", ""));
+    let words = call(&["print", "--words", "-"], "0 0 5 5\n0 2\n");
+    assert_eq!(said(&words), (0, "1 1 1 1 1 1 1 1 2 5 5 0 0 0\n", ""));
+    let sorted = call(&["print", "--sort", "output", "-"], "0 0 5 5\n0 0 7 3\n");
+    assert_eq!(said(&sorted).1, "0\t0\t7\t3\n0\t0\t5\t5\n");
+}
+
+#[test]
+fn what_is_wrong_is_said_with_its_line() {
+    let (status, error) = complaint(&["print", "-"], "0 1 5 6\n0 1 5 6 0.25\n");
+    assert_eq!(status, 3);
+    assert_eq!(
+        error,
+        "rinkolza: standard input:2: the weight \"0.25\" is not a whole number from 0 to 4294967294 or Infinity\n"
+    );
+    let (status, error) = complaint(&["print", "/no/such/file"], "");
+    assert!(
+        status == 3 && error.contains("/no/such/file cannot be read"),
+        "{error}"
+    );
+    let (status, error) = complaint(
+        &["print", "--symbols", &example("labels.syms"), "-"],
+        "0 1 A Z\n",
+    );
+    assert!(
+        status == 3 && error.contains("the output symbol \"Z\" is not in the symbol table"),
+        "{error}"
+    );
+}
+
+#[test]
+fn wrong_calls() {
+    let glyphs = example("glyphs.txt");
+    for words in [
+        &[][..],
+        &["juggle"],
+        &["print"],
+        &["print", "--fast", "-"],
+        &["print", "-x", "-"],
+        &["print", "--filter=match", "-"],
+        &["print", "--kind=money", "-"],
+        &["print", "--numeric=yes", "-"],
+        &["print", "--kind"],
+        &["print", "--kind=cost", "--kind=cost", "-"],
+        &["compose", "-"],
+        &["compose", "-", "-"],
+        &["compose", "--sigma1", "x", "-", "a"],
+        &["compose", "--allowed1", "3", "-", "a"],
+        &["draw", "--words", &glyphs],
+    ] {
+        let (status, error) = complaint(words, "");
+        assert!(
+            status == 2 && error.contains("--help"),
+            "{words:?}: {error}"
+        );
+    }
+    for words in [&["--help"][..], &["compose", "--help"], &["help"]] {
+        assert!(said(&call(words, "")).1.starts_with("rinkolza: composes"));
+    }
+}
+
+#[test]
+fn refusals_in_words() {
+    let folder = std::env::temp_dir().join(format!("rinkolza-program-{}", std::process::id()));
+    std::fs::create_dir_all(&folder).unwrap();
+    let file = folder.join("unsorted.txt").display().to_string();
+    std::fs::write(&file, "0 0 2 2\n0 0 1 1\n0\n").unwrap();
+    let text = "0 0 2 2\n0 0 1 1\n0\n";
+    let (status, error) = complaint(&["compose", "--sort=never", &file, "-"], text);
+    assert!(
+        status == 1 && error.starts_with("rinkolza: refused 7: no side to match"),
+        "{error}"
+    );
+    let sorted = call(&["compose", &file, "-"], text);
+    let (status, composed, note) = said(&sorted);
+    assert_eq!((status, composed), (0, "0\t0\t1\t1\n0\t0\t2\t2\n0\n"));
+    assert!(
+        note.contains("the first machine's transitions were sorted by output label"),
+        "{note}"
+    );
+    std::fs::write(&file, "0 0 2 2 4000000000\n0\n").unwrap();
+    let (status, error) = complaint(&["compose", &file, "-"], "0 0 2 2 1000000000\n0\n");
+    assert!(
+        status == 1 && error.starts_with("rinkolza: refused 12 at composed state 0: a weight"),
+        "{error}"
+    );
+    std::fs::write(&file, "0 0 9 9\n0\n").unwrap();
+    let (status, error) = complaint(&["compose", "--sigma2=0", &file, "-"], "0 0 9 9\n0\n");
+    assert!(
+        status == 1 && error.starts_with("rinkolza: refused 4: "),
+        "{error}"
+    );
+    let rest = call(
+        &["compose", "--sigma2=7", "--allowed2=9", &file, "-"],
+        "0 0 7 7\n0\n",
+    );
+    assert_eq!(said(&rest).1, "0\t0\t9\t9\n0\n");
+    std::fs::remove_dir_all(&folder).unwrap();
+}

@@ -1,0 +1,89 @@
+//! The replay vectors: cases of ours with the answers of the Rust, `crates/replay`.
+//!
+//! Each case is six lines (`-` for a listing or the states to expand; settings; two allowed lists; two machines), each
+//! answer ends in a line `--`. They are run by plain calls in the room that the answers have, and again by the
+//! composition that owns its memory, from no room on: what is answered must be the same.
+
+mod common;
+
+use common::{listing, number, ordered, Fixed, World};
+use rinkolza::{Composition, Inputs, Room};
+use std::fs;
+use std::path::{Path, PathBuf};
+
+const ROOM: Room = Room {
+    heads: 64,
+    states: 1024,
+    trs: 1024,
+};
+const NONE: Room = Room {
+    heads: 0,
+    states: 0,
+    trs: 0,
+};
+
+#[test]
+fn fixed_room() {
+    replay(|inputs| Fixed::open(inputs, ROOM));
+}
+
+#[test]
+fn growing_room() {
+    replay(|inputs| Composition::open_words(inputs, NONE, ROOM).map_err(number));
+}
+
+fn replay<W: World>(open: impl Fn(Inputs) -> Result<W, u32>) {
+    let folder: PathBuf = Path::new(env!("CARGO_MANIFEST_DIR")).join("../crates/replay");
+    let (Ok(cases), Ok(answers)) = (
+        fs::read_to_string(folder.join("stdin")),
+        fs::read_to_string(folder.join("stdout")),
+    ) else {
+        eprintln!(
+            "replay: skipped: {} has no stdin and stdout",
+            folder.display()
+        );
+        return;
+    };
+    let lines: Vec<&str> = cases.lines().collect();
+    let answers: Vec<&str> = answers.split_terminator("--\n").collect();
+    assert_eq!(lines.len(), 6 * answers.len(), "six lines a case");
+    for (place, (case, answer)) in lines.chunks(6).zip(answers).enumerate() {
+        let given = answer_to(case, &open);
+        assert_eq!(given, answer, "case {place}:\n{}", case.join("\n"));
+    }
+}
+
+fn answer_to<W: World>(case: &[&str], open: impl Fn(Inputs) -> Result<W, u32>) -> String {
+    let Some(inputs) = inputs(case) else {
+        return "refused 1\n".to_string();
+    };
+    let world = open(inputs);
+    let answer = match case[0] {
+        "-" => listing(world),
+        order => ordered(world, &words(order).expect("state numbers")),
+    };
+    answer.unwrap_or_else(|refused| format!("refused {refused}\n"))
+}
+
+/// The inputs of a case; none where the settings are not six words. A machine that is not words counts as none.
+fn inputs(case: &[&str]) -> Option<Inputs> {
+    let allowed = |line: &str| (line != "-").then(|| words(line).expect("an allowed list"));
+    let machine = |line: &str| {
+        words(line)
+            .filter(|words| words.len() <= 4096)
+            .unwrap_or_default()
+    };
+    Some(Inputs {
+        first: machine(case[4]),
+        second: machine(case[5]),
+        settings: words(case[1])?.try_into().ok()?,
+        allowed1: allowed(case[2]),
+        allowed2: allowed(case[3]),
+    })
+}
+
+fn words(line: &str) -> Option<Vec<u32>> {
+    line.split_whitespace()
+        .map(|word| word.parse().ok())
+        .collect()
+}
