@@ -164,13 +164,14 @@ impl Composition {
     }
 
     /// The transitions of state n, where it is expanded; else none.
+    ///
+    /// They are read where they stand in memory, which nobody else writes: the same as the call for records hands
+    /// back, without its checks of machines and memory.
     pub fn trs(&self, n: u32) -> Trs<'_> {
-        Trs::new(sys::records(
-            &self.inputs.lent(),
-            &self.session,
-            &self.memory,
-            n,
-        ))
+        match self.record(n) {
+            Some(record) => Trs::new(run_of(&self.memory.trs, record[3])),
+            None => Trs::new(&[]),
+        }
     }
 
     /// The composed machine as far as it is expanded; its states are those found, 0 the start.
@@ -319,6 +320,17 @@ impl Composition {
         let lent = self.inputs.lent();
         accepted(sys::run(&lent, &mut self.session, &mut self.memory))
     }
+}
+
+/// The words of a state's records: one after the other from `first` on, the last with next 0; none where `first` is 0.
+fn run_of(trs: &[u32], first: u32) -> &[u32] {
+    if first == 0 {
+        return &[];
+    }
+    let rest = trs.get(5 * (first as usize - 1)..).unwrap_or(&[]);
+    let links = rest.chunks_exact(5).take_while(|record| record[4] != 0);
+    let words = 5 * (links.count() + 1);
+    rest.get(..words).unwrap_or(&[])
 }
 
 fn accepted(number: u32) -> Result<(), Refusal> {

@@ -41,7 +41,7 @@ fn one_call(draw: &mut Draw, damaged: &mut Fixed) {
         }
         _ => {
             let part = sys::records(&lent, &damaged.session, &damaged.memory, n);
-            assert!(part.len() % 5 == 0 && part.len() <= damaged.memory.trs.len());
+            assert!(part.len().is_multiple_of(5) && part.len() <= damaged.memory.trs.len());
             0
         }
     };

@@ -28,7 +28,7 @@ fn drawn_lists_of_calls() {
         }
     }
     assert!(
-        grew > 1000 && refused < 200,
+        grew > 500 && refused < 200,
         "{grew} growths, {refused} refused openings"
     );
 }

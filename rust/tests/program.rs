@@ -59,10 +59,10 @@ fn composes_the_examples() {
     assert_eq!(status, 0);
     assert!(text.starts_with("0\t1\tA\tA\n"), "{text}");
     assert!(text.contains("\t<eps>\ttight\n"), "{text}");
-    let (_, counts, _) = (0, foundry(&["--to=counts"]), 0);
-    let lines = said(&counts).1.to_string();
+    let counts = foundry(&["--to=counts"]);
+    let lines = said(&counts).1;
     assert!(
-        lines.starts_with("states ") && lines.contains("\nside both\n"),
+        lines.starts_with("states ") && lines.contains("\nside input\n"),
         "{lines}"
     );
     let progress = foundry(&["--progress"]);
