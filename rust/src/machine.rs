@@ -145,6 +145,9 @@ impl Machine {
     }
 
     /// Gives the state a final weight, or makes it one that is not final.
+    ///
+    /// A final weight of zero (an infinite cost, a count 0) counts as final for the filters, but no reading ends there.
+    /// OpenFst takes such a state for one that is not final; so do the texts here, see [`text`](crate::text).
     pub fn set_final(&mut self, state: u32, weight: Option<u32>) -> Result<(), Error> {
         self.known(state)?;
         self.states[state as usize].final_weight = weight;

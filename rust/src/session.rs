@@ -12,7 +12,8 @@ use crate::machine::Machine;
 use crate::prepare::Inputs;
 use crate::settings::{Options, Room};
 use crate::sys::{self, Memory, Session};
-use crate::words::Trs;
+use crate::words::{self, Trs};
+use std::collections::hash_map::{Entry, HashMap};
 
 /// The side on which the machines are matched.
 #[derive(Clone, Copy, Debug, PartialEq, Eq)]
@@ -126,7 +127,9 @@ impl Composition {
     /// expanded before stay.
     pub fn run(&mut self) -> Result<(), Error> {
         let answer = self.insist(Composition::run_once);
-        self.calls.push(Call::Run);
+        if self.calls.last() != Some(&Call::Run) {
+            self.calls.push(Call::Run);
+        }
         answer.map_err(|refusal| {
             let state = self.first_unexpanded();
             at(refusal, state)
@@ -142,7 +145,6 @@ impl Composition {
                 Some(n) => self.expand(n)?,
             };
         }
-        self.first_unexpanded();
         Ok(self.progress())
     }
 
@@ -175,8 +177,11 @@ impl Composition {
     }
 
     /// The composed machine as far as it is expanded; its states are those found, 0 the start.
+    ///
+    /// A state's final weight depends on the final weights of its two states alone: each pair of these is asked for once.
     pub fn machine(&self) -> Result<Machine, Error> {
         let mut machine = Machine::new();
+        let mut asked = HashMap::new();
         for _ in 0..self.found() {
             machine.add_state()?;
         }
@@ -184,7 +189,11 @@ impl Composition {
             for tr in self.trs(n) {
                 machine.add_tr(n, tr)?;
             }
-            machine.set_final(n, self.final_weight(n)?)?;
+            let weight = match asked.entry(self.ends(n)) {
+                Entry::Occupied(known) => *known.get(),
+                Entry::Vacant(new) => *new.insert(self.final_weight(n)?),
+            };
+            machine.set_final(n, weight)?;
         }
         machine.set_start((self.found() > 0).then_some(0))?;
         Ok(machine)
@@ -237,19 +246,34 @@ impl Composition {
     /// How far it has come.
     pub fn progress(&self) -> Progress {
         Progress {
-            expanded: self.next,
+            expanded: self.lowest_unexpanded(),
             found: self.found(),
             trs: self.tr_count(),
         }
     }
 
-    /// The lowest state that is found and not expanded. Expanded states stay so, thus the search goes on from where
-    /// it ended.
+    /// The lowest state that is found and not expanded; the next search begins there, since expanded states stay so.
     fn first_unexpanded(&mut self) -> Option<u32> {
-        while self.is_expanded(self.next) {
-            self.next += 1;
-        }
+        self.next = self.lowest_unexpanded();
         (self.next < self.found()).then_some(self.next)
+    }
+
+    /// The lowest number that is not an expanded state's.
+    fn lowest_unexpanded(&self) -> u32 {
+        let mut n = self.next;
+        while self.is_expanded(n) {
+            n += 1;
+        }
+        n
+    }
+
+    /// The final weights of the two states that state n is made of.
+    fn ends(&self, n: u32) -> Option<[Option<u32>; 2]> {
+        let triple = self.triple(n)?;
+        Some([
+            words::final_weight(&self.inputs.first, triple.first),
+            words::final_weight(&self.inputs.second, triple.second),
+        ])
     }
 
     fn record(&self, n: u32) -> Option<&[u32]> {

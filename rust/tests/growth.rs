@@ -59,6 +59,7 @@ fn same(small: &Composition, large: &Composition) {
         assert_eq!(small.triple(n), large.triple(n));
         assert_eq!(small.is_expanded(n), large.is_expanded(n));
         assert!(small.trs(n).eq(large.trs(n)));
+        assert!(large.is_expanded(n) || large.trs(n).len() == 0);
     }
 }
 
@@ -98,6 +99,7 @@ fn steps_find_what_a_run_finds() {
     let mut stepped = Composition::open_words(grid(30), NONE, Room::LARGEST).unwrap();
     let mut run = stepped.clone();
     run.run().unwrap();
+    assert_eq!(run.progress().expanded, run.found());
     let mut shown = Vec::new();
     stepped
         .run_with(100, |progress| shown.push(progress))

@@ -65,7 +65,7 @@ class Draw:
                 fields = [r.choice(ids)]
             fields.append(self.weight(0.3 if odd else 0.1))
             if odd and r.random() < 0.02:
-                fields.insert(r.randrange(len(fields)), r.choice(["x", "-1", "7", "99999999999"]))
+                fields.insert(r.randrange(len(fields)), r.choice(["x", "-1", "7"]))
             lines.append(between().join(str(f) for f in fields if f != ""))
             if odd and r.random() < 0.1:
                 lines.append("")
@@ -74,9 +74,9 @@ class Draw:
     def machine(self, side, sort):
         """Lines of a machine without gaps; its lists sorted by the label on that side (2 input, 3 output), or as they fall."""
         r = self.random
-        states, labels = r.randrange(1, 5), r.choice([2, 3, 4])
+        states, labels = r.choice([r.randrange(1, 5), r.randrange(1, 12)]), r.choice([2, 3, 4, 7])
         lists = {s: [] for s in range(states)}
-        for _ in range(r.randrange(0, 10)):
+        for _ in range(r.randrange(0, 3 * states + 3)):
             s = r.randrange(states)
             pair = [r.choice([0, r.randrange(labels)]), r.choice([0, r.randrange(labels)])]
             lists[s].append([s, r.randrange(states)] + pair + [self.weight()])

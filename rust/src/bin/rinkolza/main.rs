@@ -96,5 +96,9 @@ fn shown<'a>(args: &Args, format: &Format<'a>) -> Format<'a> {
 }
 
 fn unwritable(error: Error) -> Stop {
-    Stop::new(INPUT, format!("the machine cannot be written: {error}"))
+    let hint = match error.to_string().contains("has no symbol") {
+        true => " (--numeric prints labels as numbers)",
+        false => "",
+    };
+    Stop::new(INPUT, format!("{error}{hint}"))
 }
