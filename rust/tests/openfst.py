@@ -143,6 +143,22 @@ def same_composition(program, draw, folder):
     return "same"
 
 
+def same_examples(program):
+    """The machines in examples/, with their symbols, by every filter."""
+    folder = Path(__file__).resolve().parent.parent / "examples"
+    table = folder / "labels.syms"
+    tables = [f"--isymbols={table}", f"--osymbols={table}"]
+    with tempfile.TemporaryDirectory() as scratch:
+        for name in ("glyphs", "spacing"):
+            (Path(scratch) / name).write_bytes(compiled((folder / f"{name}.txt").read_text(), *tables))
+        for ours_filter, theirs_filter in FILTERS.items():
+            words = ["--symbols", table, "--filter", ours_filter, folder / "glyphs.txt", folder / "spacing.txt"]
+            status, ours, error = run(program, "compose", *words)
+            _, binary, _ = run("fstcompose", "--connect=false", f"--compose_filter={theirs_filter}", Path(scratch) / "glyphs", Path(scratch) / "spacing")
+            assert status == 0 and ours.decode() == printed(binary, *tables), (ours_filter, ours, error)
+    print("openfst: same_examples: 3 same")
+
+
 def main():
     program = Path(sys.argv[1]).resolve()
     cases = int(sys.argv[2]) if len(sys.argv) > 2 else 300
@@ -151,6 +167,7 @@ def main():
     if lacking:
         print(f"openfst: skipped: {', '.join(lacking)} not installed (Debian: libfst-tools)")
         return
+    same_examples(program)
     for check in (same_text, same_picture, same_composition):
         draw, results = Draw(f"{seed} {check.__name__}"), {}
         for _ in range(cases if check != same_picture else cases // 5):
