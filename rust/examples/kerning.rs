@@ -1,6 +1,6 @@
 //! Glyph rules composed with spacing rules, from Rust: `cargo run --example kerning`.
 
-use rinkolza::{text, Composition, Error, Filter, Format, Machine, Options, Tr};
+use rinkolza::{compose, text, Error, Filter, Format, Machine, Options, Tr};
 
 /// Labels: A, V and the mark for a tight pair.
 const A: u32 = 1;
@@ -36,11 +36,7 @@ fn main() -> Result<(), Error> {
         filter: Filter::Sequence,
         ..Options::default()
     };
-    let mut composition = Composition::open(&word, &spacing, &options)?;
-    composition.run()?;
-    print!(
-        "{}",
-        text::write(&composition.machine()?, &Format::default())?
-    );
+    let composed = compose(&word, &spacing, &options)?;
+    print!("{}", text::write(&composed, &Format::default())?);
     Ok(())
 }

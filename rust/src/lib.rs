@@ -5,19 +5,20 @@
 //! that grows, errors in words.
 //!
 //! ```
-//! use rinkolza::{text, Composition, Format, Options};
+//! use rinkolza::{compose, text, Format, Options};
 //!
 //! let glyphs = "0 1 1 5 2\n1\n";
 //! let spacing = "0 1 5 9 3\n1 4\n";
 //! let format = Format::default();
 //! let first = text::read(glyphs, "glyphs", &format)?;
 //! let second = text::read(spacing, "spacing", &format)?;
-//! let mut composition = Composition::open(&first, &second, &Options::default())?;
-//! composition.run()?;
-//! let composed = composition.machine()?;
+//! let composed = compose(&first, &second, &Options::default())?;
 //! assert_eq!(text::write(&composed, &format)?, "0\t1\t1\t9\t5\n1\t4\n");
 //! # Ok::<(), rinkolza::Error>(())
 //! ```
+//!
+//! [`Composition`] keeps a composition open: it expands states one by one, as they are asked for, and shows how far a
+//! long run has come. A machine, and a composition, has at most 65535 states and 65535 transitions.
 
 #![deny(unsafe_code)]
 #![warn(missing_docs)]
@@ -38,7 +39,7 @@ pub mod words;
 pub use error::{Error, Refusal};
 pub use machine::{By, Machine, Tr, EPSILON, LARGEST_COUNT, LARGEST_LABEL};
 pub use prepare::{to_sort, Inputs};
-pub use session::{Composition, Progress, Side, Triple};
+pub use session::{compose, Composition, Progress, Side, Triple};
 pub use settings::{Filter, Kind, Options, Rewrite, Room, Sigma, Sort};
 pub use symbols::SymbolTable;
 pub use text::Format;

@@ -77,16 +77,16 @@ impl Machine {
     ) -> Result<Machine, Error> {
         let mut machine = Machine::new();
         for &(source, tr) in trs {
-            machine.reach(source)?;
-            machine.reach(tr.target)?;
+            machine.ensure_state(source)?;
+            machine.ensure_state(tr.target)?;
             machine.add_tr(source, tr)?;
         }
         for &(state, weight) in finals {
-            machine.reach(state)?;
+            machine.ensure_state(state)?;
             machine.set_final(state, Some(weight))?;
         }
         if let Some(start) = start {
-            machine.reach(start)?;
+            machine.ensure_state(start)?;
             machine.set_start(Some(start))?;
         }
         Ok(machine)
@@ -104,7 +104,7 @@ impl Machine {
     }
 
     /// Adds states until this number is a state.
-    pub fn reach(&mut self, state: u32) -> Result<(), Error> {
+    pub fn ensure_state(&mut self, state: u32) -> Result<(), Error> {
         if state as usize >= LARGEST_COUNT {
             return Err(Error::Machine(format!(
                 "state {state} is past the last possible one: a machine has at most {LARGEST_COUNT} states"
@@ -254,8 +254,8 @@ mod tests {
         assert!(machine.add_tr(1, tr(1, 1, 0)).is_err());
         assert!(machine.add_tr(0, tr(u32::MAX, 1, 0)).is_err());
         assert!(machine.add_tr(0, tr(1, u32::MAX, 0)).is_err());
-        assert!(machine.reach(65535).is_err());
-        assert!(machine.reach(65534).is_ok());
+        assert!(machine.ensure_state(65535).is_err());
+        assert!(machine.ensure_state(65534).is_ok());
         assert!(machine.add_state().is_err());
         for _ in 0..LARGEST_COUNT {
             machine.add_tr(0, tr(1, 1, 0)).unwrap();

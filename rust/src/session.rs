@@ -346,6 +346,24 @@ impl Composition {
     }
 }
 
+/// Composes two machines whole: opens, runs, and gives the composed machine.
+///
+/// ```
+/// use rinkolza::{compose, text, Format, Options};
+///
+/// let format = Format::default();
+/// let first = text::read("0 1 1 5 2\n1\n", "first", &format)?;
+/// let second = text::read("0 1 5 9 3\n1 4\n", "second", &format)?;
+/// let composed = compose(&first, &second, &Options::default())?;
+/// assert_eq!(text::write(&composed, &format)?, "0\t1\t1\t9\t5\n1\t4\n");
+/// # Ok::<(), rinkolza::Error>(())
+/// ```
+pub fn compose(first: &Machine, second: &Machine, options: &Options) -> Result<Machine, Error> {
+    let mut composition = Composition::open(first, second, options)?;
+    composition.run()?;
+    composition.machine()
+}
+
 /// The words of a state's records: one after the other from `first` on, the last with next 0; none where `first` is 0.
 fn run_of(trs: &[u32], first: u32) -> &[u32] {
     if first == 0 {

@@ -149,7 +149,7 @@ impl Reader<'_, '_> {
                 LARGEST_COUNT - 1
             )
         })?;
-        self.machine.reach(state).map_err(said)?;
+        self.machine.ensure_state(state).map_err(said)?;
         Ok(state)
     }
 

@@ -74,7 +74,7 @@ fn unreadable(error: Error) -> Stop {
 /// Writes to the file that `-o` names, else to standard output; a reader who has gone is no error.
 pub fn write_out(args: &Args, text: &str) -> Result<(), Stop> {
     let (name, wrote) = match args.value("output") {
-        None | Some("-") => ("standard output", io::stdout().write_all(text.as_bytes())),
+        None | Some("-") => ("standard output", print_all(text)),
         Some(file) => (file, fs::write(file, text)),
     };
     match wrote {
@@ -84,4 +84,10 @@ pub fn write_out(args: &Args, text: &str) -> Result<(), Stop> {
         )),
         _ => Ok(()),
     }
+}
+
+fn print_all(text: &str) -> io::Result<()> {
+    let mut out = io::stdout().lock();
+    out.write_all(text.as_bytes())?;
+    out.flush()
 }

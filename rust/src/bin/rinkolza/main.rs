@@ -24,7 +24,13 @@ fn main() -> ExitCode {
 }
 
 fn run() -> Result<(), Stop> {
-    let args = Args::parse(std::env::args().skip(1))?;
+    let words: Result<Vec<String>, _> = std::env::args_os()
+        .skip(1)
+        .map(|word| word.into_string())
+        .collect();
+    let words =
+        words.map_err(|word| Stop::usage(format!("{} is not UTF-8", word.to_string_lossy())))?;
+    let args = Args::parse(words)?;
     match args.command.as_str() {
         "compose" => compose::compose(&args),
         "print" | "draw" => one_machine(&args),
