@@ -1,0 +1,102 @@
+//! The declarations in `src/sys.rs` and the refusals' numbers, held to the library's header.
+
+use rinkolza::Refusal;
+use std::fs;
+use std::path::Path;
+
+const CALLS: [&str; 5] = [
+    "rinkolza_open",
+    "rinkolza_expand",
+    "rinkolza_final_weight",
+    "rinkolza_run",
+    "rinkolza_records",
+];
+
+fn header() -> Option<String> {
+    let path = Path::new(env!("CARGO_MANIFEST_DIR")).join("../include/rinkolza.h");
+    let text = fs::read_to_string(&path).ok();
+    if text.is_none() {
+        eprintln!("header: skipped: there is no {}", path.display());
+    }
+    text
+}
+
+/// What stands between the parentheses of a declaration, and what stands before and after it up to the line's ends.
+fn declaration<'a>(text: &'a str, before: &str, name: &str) -> (&'a str, &'a str, &'a str) {
+    let sought = format!("{before}{name}(");
+    let at = text
+        .find(&sought)
+        .unwrap_or_else(|| panic!("{name} is declared"));
+    let start = at + sought.len();
+    let end = start + text[start..].find(')').expect("a closing parenthesis");
+    let line = text[..at + before.len()]
+        .rfind('\n')
+        .map_or(0, |place| place + 1);
+    let rest = end + 1 + text[end + 1..].find(';').expect("a semicolon");
+    (
+        &text[line..at + before.len()],
+        &text[start..end],
+        &text[end + 1..rest],
+    )
+}
+
+/// A parameter of C as Rust writes it.
+fn in_rust(parameter: &str) -> String {
+    let words: Vec<&str> = parameter.split_whitespace().collect();
+    match words[..] {
+        ["const", "uint32_t", name] => format!("{}: *const u32", name.trim_start_matches('*')),
+        ["uint32_t", name] if name.starts_with('*') => format!("{}: *mut u32", &name[1..]),
+        ["uint32_t", name] => format!("{name}: u32"),
+        ["size_t", name] => format!("{name}: usize"),
+        _ => panic!("a parameter of another form: {parameter}"),
+    }
+}
+
+#[test]
+fn the_calls_are_declared_as_in_the_header() {
+    let Some(header) = header() else {
+        return;
+    };
+    let own = include_str!("../src/sys.rs");
+    for name in CALLS {
+        let (returned, parameters, _) = declaration(&header, " ", name);
+        let theirs: Vec<String> = parameters.split(',').map(in_rust).collect();
+        let (_, parameters, result) = declaration(own, "fn ", name);
+        let ours: Vec<&str> = parameters
+            .split(',')
+            .map(str::trim)
+            .filter(|parameter| !parameter.is_empty())
+            .collect();
+        assert_eq!(ours, theirs, "{name}");
+        let expected = match returned.trim() {
+            "uint32_t" => "-> u32",
+            "void" => "",
+            other => panic!("{name} returns {other}"),
+        };
+        assert_eq!(result.trim(), expected, "{name}");
+    }
+}
+
+#[test]
+fn the_refusals_are_numbered_as_in_the_header() {
+    let Some(header) = header() else {
+        return;
+    };
+    let mut numbers: Vec<u32> = header
+        .lines()
+        .filter_map(|line| line.strip_prefix("#define RINKOLZA_REFUSED_"))
+        .filter_map(|line| {
+            line.split("UINT32_C(")
+                .nth(1)?
+                .trim_end_matches(')')
+                .parse()
+                .ok()
+        })
+        .collect();
+    numbers.sort_unstable();
+    let known: Vec<u32> = (0..100)
+        .filter_map(Refusal::from_number)
+        .map(Refusal::number)
+        .collect();
+    assert_eq!(numbers, known);
+}
