@@ -4,7 +4,8 @@
     tests/openfst.py PROGRAM [CASES [SEED]]
 
 Texts: `rinkolza print` against `fstcompile | fstprint`, with and without symbol tables, as acceptors, with kept state numbers.
-Compositions: `rinkolza compose --sort never` against `fstcompose --connect=false`, each filter, lists sorted on both inner sides, on one, on none.
+Compositions: `rinkolza compose --sort never` against `fstcompose --connect=false`, each filter, lists sorted on both inner sides, on one, on
+none (which both refuse; then sorted first).
 Pictures: `rinkolza draw` through `dot`, and its edges against `fstdraw`'s.
 
 Costs are below 2 ^ 20, so that OpenFst's floating point numbers are exact. Compositions are held to be equal line by line: state numbers and the order of
@@ -125,6 +126,17 @@ def same_picture(program, draw, folder):
     return "same"
 
 
+def after_sorting(program, ours_filter, theirs_filter, folder):
+    """Neither list is sorted: ours sorts both. OpenFst is given what ours sorts, since fstarcsort orders equal labels by the other label, and ours leaves their order."""
+    for k, side in enumerate(("output", "input")):
+        _, text, _ = run(program, "print", f"--sort={side}", "--keep-state-numbering", folder / f"{k}.txt")
+        (folder / f"{k}.fst").write_bytes(compiled(text.decode(), "--keep_state_numbering"))
+    status, ours, error = run(program, "compose", f"--filter={ours_filter}", folder / "0.txt", folder / "1.txt")
+    _, binary, message = run("fstcompose", "--connect=false", f"--compose_filter={theirs_filter}", folder / "0.fst", folder / "1.fst")
+    assert status == 0 and ours.decode() == printed(binary), (ours, error, message)
+    return "same after sorting"
+
+
 def same_composition(program, draw, folder):
     sort1, sort2 = draw.random.random() < 0.6, draw.random.random() < 0.6
     texts = draw.machine(3, sort1), draw.machine(2, sort2)
@@ -136,7 +148,7 @@ def same_composition(program, draw, folder):
     told, binary, message = run("fstcompose", "--connect=false", f"--compose_filter={theirs_filter}", folder / "0.fst", folder / "1.fst")
     if "cannot match on output labels" in message:
         assert status == 1 and "refused 7:" in error, (texts, ours, error)
-        return "no side"
+        return after_sorting(program, ours_filter, theirs_filter, folder)
     assert told == 0 and status == 0, (texts, error, message)
     theirs = printed(binary)
     assert ours.decode() == theirs, (ours_filter, texts, ours.decode(), theirs)
@@ -161,7 +173,7 @@ def same_examples(program):
 
 def main():
     program = Path(sys.argv[1]).resolve()
-    cases = int(sys.argv[2]) if len(sys.argv) > 2 else 300
+    cases = int(sys.argv[2]) if len(sys.argv) > 2 else 200
     seed = int(sys.argv[3]) if len(sys.argv) > 3 else 13
     lacking = [tool for tool in TOOLS if not shutil.which(tool)]
     if lacking:
