@@ -103,6 +103,48 @@ fn standard_input_and_weights() {
 }
 
 #[test]
+fn acceptors_and_inner_symbols() {
+    let folder = std::env::temp_dir().join(format!("rinkolza-inner-{}", std::process::id()));
+    std::fs::create_dir_all(&folder).unwrap();
+    let (table, file) = (
+        folder.join("t").display().to_string(),
+        folder.join("m").display().to_string(),
+    );
+    std::fs::write(&table, "<eps> 0\nx 5\n").unwrap();
+    std::fs::write(&file, "4 2 x 7\n2\n").unwrap();
+    let one = call(
+        &["compose", "--acceptor1", "--msymbols", &table, "-", &file],
+        "0 1 x 3\n1\n",
+    );
+    assert_eq!(said(&one), (0, "0\t1\t5\t7\t3\n1\n", ""));
+    let kept = call(
+        &[
+            "print",
+            "--keep-state-numbering",
+            "--isymbols",
+            &table,
+            &file,
+        ],
+        "",
+    );
+    assert_eq!(said(&kept).1.lines().next(), Some("4\t2\tx\t7"));
+    let unnamed = call(
+        &[
+            "compose",
+            "--symbols",
+            &table,
+            "--osymbols",
+            &table,
+            "-",
+            &file,
+        ],
+        "0 1 x x\n1\n",
+    );
+    assert_eq!(said(&unnamed).0, 3);
+    std::fs::remove_dir_all(&folder).unwrap();
+}
+
+#[test]
 fn what_is_wrong_is_said_with_its_line() {
     let (status, error) = complaint(&["print", "-"], "0 1 5 6\n0 1 5 6 0.25\n");
     assert_eq!(status, 3);
@@ -179,6 +221,10 @@ fn refusals_in_words() {
     let (status, error) = complaint(&["compose", &file, "-"], "0 0 2 2 1000000000\n0\n");
     assert!(
         status == 1 && error.starts_with("rinkolza: refused 12 at composed state 0: a weight"),
+        "{error}"
+    );
+    assert!(
+        error.contains("made of state 0 of the first machine"),
         "{error}"
     );
     std::fs::write(&file, "0 0 9 9\n0\n").unwrap();

@@ -4,8 +4,8 @@ use crate::args::{Args, Stop, INPUT, REFUSED};
 use crate::files::{self, write_out, Tables};
 use crate::{plain_format, shown, unwritable};
 use rinkolza::{
-    dot, text, to_sort, Composition, Error, Filter, Format, Machine, Options, Rewrite, Side, Sigma,
-    Sort, SymbolTable,
+    dot, text, to_sort, Composition, Error, Filter, Format, Machine, Options, Refusal, Rewrite,
+    Side, Sigma, Sort, SymbolTable,
 };
 
 /// States expanded between two lines of progress.
@@ -35,11 +35,12 @@ pub fn compose(args: &Args) -> Result<(), Stop> {
     let second = files::read_machine(file2, &second_format(args, &tables, &format))?;
     say_sorted(&first, &second, &options);
     let mut composition = Composition::open(&first, &second, &options).map_err(refused)?;
-    match args.has("progress") {
-        false => composition.run().map_err(refused)?,
-        true => with_progress(&mut composition)?,
-    }
-    let machine = composition.machine().map_err(refused)?;
+    let ran = match args.has("progress") {
+        false => composition.run(),
+        true => with_progress(&mut composition),
+    };
+    let made = ran.and_then(|()| composition.machine());
+    let machine = made.map_err(|error| refused_at(error, &composition))?;
     let shown = shown(args, &format);
     let text = match to {
         To::Text => text::write(&machine, &shown).map_err(unwritable)?,
@@ -173,14 +174,13 @@ fn say_sorted(first: &Machine, second: &Machine, options: &Options) {
     }
 }
 
-fn with_progress(composition: &mut Composition) -> Result<(), Stop> {
-    let shown = composition.run_with(STEP, |progress| {
+fn with_progress(composition: &mut Composition) -> Result<(), Error> {
+    composition.run_with(STEP, |progress| {
         eprintln!(
             "rinkolza: {} of {} states found are expanded, {} transitions",
             progress.expanded, progress.found, progress.trs
         );
-    });
-    shown.map_err(refused)
+    })
 }
 
 fn picture(
@@ -211,8 +211,25 @@ fn counts(composition: &Composition, machine: &Machine) -> String {
 }
 
 fn refused(error: Error) -> Stop {
-    match error {
-        Error::Refused { .. } => Stop::new(REFUSED, error),
-        _ => Stop::new(INPUT, error),
+    match error.refusal() {
+        Some(_) => Stop::new(REFUSED, error),
+        None => Stop::new(INPUT, error),
     }
+}
+
+/// A refusal at a composed state, with what helps to find its cause.
+fn refused_at(error: Error, composition: &Composition) -> Stop {
+    let Error::Refused { refusal, state } = &error else {
+        return refused(error);
+    };
+    let made_of = state.and_then(|state| composition.triple(state));
+    let hint = match (refusal, made_of) {
+        (Refusal::NoRoom, _) => "\nrinkolza: a composition has at most 65535 states and 65535 transitions".to_string(),
+        (_, Some(triple)) => format!(
+            "\nrinkolza: that state is made of state {} of the first machine and state {} of the second, as rinkolza print numbers them",
+            triple.first, triple.second
+        ),
+        (_, None) => String::new(),
+    };
+    Stop::new(REFUSED, format!("{error}{hint}"))
 }
