@@ -6,18 +6,16 @@ use common::{Draw, Fixed, World};
 use rinkolza::sys::{self, Memory, Session};
 use rinkolza::{words, Inputs, Room};
 
-/// Makes all calls on what is there; `damaged` may be anything.
-fn all_calls(draw: &mut Draw, damaged: &mut Fixed) {
-    for _ in 0..3 {
-        one_call(draw, damaged);
-    }
-}
+/// How often each number was answered.
+type Seen = [u32; 14];
 
-fn one_call(draw: &mut Draw, damaged: &mut Fixed) {
+/// Makes a call on what is there, which may be anything.
+fn one_call(draw: &mut Draw, damaged: &mut Fixed, seen: &mut Seen) {
     let n = draw.word();
     let (session, memory) = (damaged.session, damaged.memory.clone());
     let lent = damaged.inputs.lent();
-    let refused = match draw.below(5) {
+    let call = draw.below(5);
+    let number = match call {
         0 => sys::open(
             &damaged.inputs.settings,
             &lent,
@@ -30,26 +28,19 @@ fn one_call(draw: &mut Draw, damaged: &mut Fixed) {
         2 => sys::final_weight(&lent, &damaged.session, &damaged.memory, n)
             .err()
             .unwrap_or(0),
-        3 => {
-            let number = sys::run(&lent, &mut damaged.session, &mut damaged.memory);
-            assert!(number <= 13);
-            if number > 8 {
-                0
-            } else {
-                number
-            }
-        }
+        3 => sys::run(&lent, &mut damaged.session, &mut damaged.memory),
         _ => {
             let part = sys::records(&lent, &damaged.session, &damaged.memory, n);
             assert!(part.len().is_multiple_of(5) && part.len() <= damaged.memory.trs.len());
             0
         }
     };
-    assert!(refused <= 13);
-    if refused != 0 {
+    seen[number as usize] += 1;
+    let keeps = call == 3 && number > 8;
+    if number != 0 && !keeps {
         assert!(
             session == damaged.session && memory == damaged.memory,
-            "refused {refused}"
+            "refused {number}"
         );
     }
 }
@@ -57,6 +48,7 @@ fn one_call(draw: &mut Draw, damaged: &mut Fixed) {
 #[test]
 fn drawn_words() {
     let mut draw = Draw(5);
+    let mut seen = Seen::default();
     for _ in 0..20_000 {
         let listed = |draw: &mut Draw| draw.one_in(2).then(|| draw.words(4));
         let mut drawn = Fixed {
@@ -75,14 +67,18 @@ fn drawn_words() {
             },
         };
         let _ = words::decode(&drawn.inputs.first);
-        all_calls(&mut draw, &mut drawn);
+        for _ in 0..3 {
+            one_call(&mut draw, &mut drawn, &mut seen);
+        }
     }
+    assert!(seen[1] > 0, "{seen:?}");
 }
 
 #[test]
 fn one_word_changed() {
     let mut draw = Draw(6);
-    for _ in 0..20_000 {
+    let mut seen = Seen::default();
+    for _ in 0..60_000 {
         let inputs = draw.inputs(4, 4);
         let room = Room {
             heads: draw.below(6) as usize,
@@ -92,16 +88,19 @@ fn one_word_changed() {
         let Ok(mut opened) = Fixed::open(inputs, room) else {
             continue;
         };
-        if draw.one_in(2) {
-            let _ = opened.run();
-        } else {
-            let _ = opened.expand(0);
+        match draw.below(3) {
+            0 => drop(opened.run()),
+            1 => drop(opened.expand(0)),
+            _ => {}
         }
         for _ in 0..1 + draw.below(2) {
             damage(&mut draw, &mut opened);
         }
-        all_calls(&mut draw, &mut opened);
+        for _ in 0..3 {
+            one_call(&mut draw, &mut opened, &mut seen);
+        }
     }
+    assert!(seen.iter().all(|&count| count > 0), "{seen:?}");
 }
 
 /// Changes a word somewhere.
@@ -119,9 +118,10 @@ fn damage(draw: &mut Draw, opened: &mut Fixed) {
         return;
     }
     let place = draw.below(words.len() as u32) as usize;
-    words[place] = match draw.below(3) {
+    words[place] = match draw.below(4) {
         0 => words[place].wrapping_add(1),
         1 => words[place].wrapping_sub(1),
+        2 => 1 << 31,
         _ => draw.word(),
     };
 }
