@@ -183,6 +183,7 @@ fn wrong_calls() {
         &["print", "--kind=cost", "--kind=cost", "-"],
         &["compose", "-"],
         &["compose", "-", "-"],
+        &["print", "--symbols=-", "-"],
         &["compose", "--sigma1", "x", "-", "a"],
         &["compose", "--allowed1", "3", "-", "a"],
         &["draw", "--words", &glyphs],

@@ -177,8 +177,12 @@ impl Args {
     /// Exactly so many files.
     pub fn files<const N: usize>(&self, what: &str) -> Result<&[String; N], Stop> {
         let files = self.files.as_slice();
-        let dashes = files.iter().filter(|file| *file == "-").count();
-        if dashes > 1 {
+        let tables = ["symbols", "isymbols", "osymbols", "msymbols"].map(|name| self.value(name));
+        let named = files
+            .iter()
+            .map(String::as_str)
+            .chain(tables.into_iter().flatten());
+        if named.filter(|file| *file == "-").count() > 1 {
             return Err(Stop::usage("standard input (-) can be read once"));
         }
         files.try_into().map_err(|_| {

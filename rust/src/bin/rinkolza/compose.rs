@@ -5,7 +5,7 @@ use crate::files::{self, write_out, Tables};
 use crate::{plain_format, shown, unwritable};
 use rinkolza::{
     dot, text, to_sort, Composition, Error, Filter, Format, Machine, Options, Refusal, Rewrite,
-    Side, Sigma, Sort, SymbolTable,
+    Room, Side, Sigma, Sort, SymbolTable,
 };
 
 /// States expanded between two lines of progress.
@@ -100,6 +100,8 @@ fn options(args: &Args, tables: &Tables) -> Result<Options, Stop> {
         sigma1: sigma(args, "1", tables.inner())?,
         sigma2: sigma(args, "2", tables.inner())?,
         sort: args.choice("sort", &sorts)?,
+        // Some three megabytes; so nothing is done twice.
+        room: Room::LARGEST,
         ..Options::default()
     })
 }

@@ -5,9 +5,6 @@ use rinkolza::{text, Error, Format, Machine, SymbolTable};
 use std::fs;
 use std::io::{self, ErrorKind, Read, Write};
 
-/// What `-` is called in messages.
-const STDIN: &str = "standard input";
-
 /// The symbol tables that the command line names.
 pub struct Tables {
     all: Option<SymbolTable>,
@@ -45,16 +42,15 @@ impl Tables {
 
 fn read_table(file: &str) -> Result<SymbolTable, Stop> {
     let bytes = read_bytes(file)?;
-    let text = text::utf8(&bytes, file).map_err(unreadable)?;
-    SymbolTable::parse(text, file).map_err(unreadable)
+    let text = text::utf8(&bytes, name(file)).map_err(unreadable)?;
+    SymbolTable::parse(text, name(file)).map_err(unreadable)
 }
 
 /// Reads a machine from a file, or from standard input.
 pub fn read_machine(file: &str, format: &Format<'_>) -> Result<Machine, Stop> {
     let bytes = read_bytes(file)?;
-    let name = if file == "-" { STDIN } else { file };
-    let text = text::utf8(&bytes, name).map_err(unreadable)?;
-    text::read(text, name, format).map_err(unreadable)
+    let text = text::utf8(&bytes, name(file)).map_err(unreadable)?;
+    text::read(text, name(file), format).map_err(unreadable)
 }
 
 fn read_bytes(file: &str) -> Result<Vec<u8>, Stop> {
@@ -63,8 +59,15 @@ fn read_bytes(file: &str) -> Result<Vec<u8>, Stop> {
         "-" => io::stdin().read_to_end(&mut bytes).map(|_| bytes),
         _ => fs::read(file),
     };
-    let name = if file == "-" { STDIN } else { file };
-    read.map_err(|error| Stop::new(INPUT, format!("{name} cannot be read: {error}")))
+    read.map_err(|error| Stop::new(INPUT, format!("{} cannot be read: {error}", name(file))))
+}
+
+/// What a file is called in messages.
+fn name(file: &str) -> &str {
+    match file {
+        "-" => "standard input",
+        file => file,
+    }
 }
 
 fn unreadable(error: Error) -> Stop {
