@@ -63,8 +63,8 @@ fn same(small: &Composition, large: &Composition) {
     }
 }
 
-/// A composition with more states than there can be: the first loops with output epsilon through its states, the second likewise with input epsilon, so that
-/// 300 × 300 pairs are found.
+/// Two chains, the first with output epsilon all along, the second with input epsilon: every pair of their states is
+/// found, side × side.
 fn grid(side: u32) -> Inputs {
     let chain = |input: u32, output: u32| {
         let mut words = vec![side, side - 1, 1, 0, 0, 0];
