@@ -1,5 +1,5 @@
 #!/usr/bin/env python3
-"""Holds the program beside Debian's OpenFst tools on drawn machines.
+"""Holds the program beside OpenFst's tools on drawn machines.
 
     tests/openfst.py PROGRAM [CASES [SEED]]
 
@@ -177,7 +177,7 @@ def main():
     seed = int(sys.argv[3]) if len(sys.argv) > 3 else 13
     lacking = [tool for tool in TOOLS if not shutil.which(tool)]
     if lacking:
-        print(f"openfst: skipped: {', '.join(lacking)} not installed (Debian: libfst-tools)")
+        print(f"openfst: skipped: {', '.join(lacking)} not installed (OpenFst's command-line tools)")
         return
     same_examples(program)
     for check in (same_text, same_picture, same_composition):
