@@ -1,0 +1,72 @@
+-- The opening with the settings that the words hold.
+use mathlib.Core.Path.{_≡_, _∙_, ap}
+use mathlib.Core.List.{[]}
+use denote.Ref.{now}
+use borrow.Author.Tests.{eq-eqb, ne-eqb}
+use Rattle.calls.specs.Calls.{openOf}
+use Rattle.calls.specs.Sequences.{accepted}
+use Rattle.session_checks.specs.Meaning.{memoryOf}
+use Rattle.lazy_fst.specs.Meaning.{lentWith}
+use Rattle.rinkolza.specs.Exported.{inWords, openWords}
+use borrow.Author.Needs.{needs}
+use Rattle.rinkolza.proofs.rinkolza_open.Statement.{statement}
+use Rattle.rinkolza.proofs.rinkolza_open.Tie as tie
+
+returns : tie.Need-returns
+unfolding openWords
+returns c = rw (ne-eqb _ _ (c .if1 .taken))
+
+returns-2 : tie.Need-returns-2
+unfolding openWords
+returns-2 c = rw (eq-eqb _ _ (c .before .if1 .left), ne-eqb _ _ (c .if2 .taken))
+
+read-session-requires : tie.Need-read-session-requires
+read-session-requires c κs = search needs
+
+read-settings-requires : tie.Need-read-settings-requires
+read-settings-requires c κs = search needs
+
+listed-by-requires : tie.Need-listed-by-requires
+listed-by-requires c κs = search needs
+
+open-requires : tie.Need-open-requires
+open-requires c κs = search needs
+
+leave-requires : tie.Need-leave-requires
+leave-requires c κs = search needs
+
+same-length : tie.Need-same-length
+same-length c = search needs
+
+same-length-2 : tie.Need-same-length-2
+same-length-2 c = search needs
+
+same-length-3 : tie.Need-same-length-3
+same-length-3 c = search needs
+
+same-length-4 : tie.Need-same-length-4
+same-length-4 c = search needs
+
+returns-3 : tie.Need-returns-3
+unfolding openWords
+returns-3 c = let x = c .before .before .before .before .before .before .before .before .before .before .before .before .before .before .before .before .before .before .before .before .before .before .before .before .before .before .before .before .before .args in
+    let m = memoryOf (now (x .heads)) (now (x .states)) (now (x .trs)) in
+    rw (eq-eqb _ _ (c .before .before .before .before .before .before .before .before .before .before .before .before .before .before .before .before .before .before .before .if1 .left), eq-eqb _ _ (c .before .before .before .before .before .before .before .before .before .before .before .before .before .before .before .before .before .before .if2 .left))
+    (c .before .before .leave .ensures _ ∙ ap (inWords (λ u. accepted) []) (c .before .before .before .before .before .before .before .before .before .before .«open» .ensures ∙ (λ i. openOf (c .before .before .before .before .before .before .before .before .before .before .before .before .before .before .before .read-settings .ensures i) (lentWith (now (x .m1)) (now (x .m2)) (now (x .allowed1)) (now (x .allowed2)) (c .before .before .before .before .before .before .before .before .before .before .before .before .before .before .listed-by .ensures i)) (c .before .before .before .before .before .before .before .before .before .before .before .before .before .before .before .before .read-session .ensures i) m)))
+
+pub rinkolza-open-spec : {M : Type 1} → statement M
+rinkolza-open-spec =
+    tie.close
+    (tie.spec
+    returns
+    returns-2
+    read-session-requires
+    read-settings-requires
+    listed-by-requires
+    open-requires
+    leave-requires
+    same-length
+    same-length-2
+    same-length-3
+    same-length-4
+    returns-3)

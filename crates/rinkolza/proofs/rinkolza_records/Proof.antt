@@ -1,0 +1,63 @@
+-- The records in the session that the words hold.
+use mathlib.Core.Path.{_≡_, _∙_}
+use denote.Ref.{now}
+use borrow.Author.Tests.{eq-eqb, ne-eqb}
+use Rattle.calls.specs.Store.{roomOf}
+use Rattle.calls.specs.Calls.{recordsOf}
+use Rattle.session_checks.specs.Meaning.{memoryOf}
+use Rattle.lazy_fst.specs.Meaning.{lentWith}
+use Rattle.rinkolza.specs.Exported.{partWords, handedPart, recordsWords}
+use borrow.Author.Needs.{needs}
+use Rattle.rinkolza.proofs.rinkolza_records.Statement.{statement}
+use Rattle.rinkolza.proofs.rinkolza_records.Tie as tie
+
+returns : tie.Need-returns
+unfolding recordsWords
+returns c = rw (ne-eqb _ _ (c .if1 .taken))
+
+write-answer-requires : tie.Need-write-answer-requires
+write-answer-requires c κs = search needs
+
+same-length : tie.Need-same-length
+same-length c = search needs
+
+returns-2 : tie.Need-returns-2
+unfolding recordsWords roomOf
+returns-2 c = rw (c .before .before .write-answer .ensures, eq-eqb _ _ (c .before .before .before .before .before .if1 .left), ne-eqb _ _ (c .before .before .before .before .if2 .taken))
+
+read-session-requires : tie.Need-read-session-requires
+read-session-requires c κs = search needs
+
+listed-by-requires : tie.Need-listed-by-requires
+listed-by-requires c κs = search needs
+
+records-requires : tie.Need-records-requires
+records-requires c κs = search needs
+
+leave-handed-requires : tie.Need-leave-handed-requires
+leave-handed-requires c κs = search needs
+
+same-length-2 : tie.Need-same-length-2
+same-length-2 c = search needs
+
+returns-3 : tie.Need-returns-3
+unfolding recordsWords
+returns-3 c = let x = c .before .before .before .before .before .before .before .before .before .before .before .before .before .before .before .before .before .before .args in
+    let m = memoryOf (now (x .heads)) (now (x .states)) (now (x .trs)) in
+    rw (eq-eqb _ _ (c .before .before .before .before .before .before .before .before .if1 .left), eq-eqb _ _ (c .before .before .before .before .before .before .before .if2 .left))
+    (c .before .before .leave-handed .ensures ∙ (λ j. partWords (handedPart (now (x .states)) (x .n) ((c .before .before .before .before .records .ensures ∙ (λ i. recordsOf (lentWith (now (x .m1)) (now (x .m2)) (now (x .allowed1)) (now (x .allowed2)) (c .before .before .before .before .before .listed-by .ensures i)) (c .before .before .before .before .before .before .read-session .ensures i) m (x .n))) j))))
+
+pub rinkolza-records-spec : {M : Type 1} → statement M
+rinkolza-records-spec =
+    tie.close
+    (tie.spec
+    returns
+    write-answer-requires
+    same-length
+    returns-2
+    read-session-requires
+    listed-by-requires
+    records-requires
+    leave-handed-requires
+    same-length-2
+    returns-3)

@@ -1,0 +1,63 @@
+-- The run of the session that the words hold.
+use mathlib.Core.Path.{_≡_, _∙_, ap}
+use mathlib.Core.List.{[]}
+use denote.Ref.{now}
+use borrow.Author.Tests.{eq-eqb, ne-eqb}
+use Rattle.calls.specs.Calls.{runOf}
+use Rattle.calls.specs.Sequences.{accepted}
+use Rattle.session_checks.specs.Meaning.{memoryOf}
+use Rattle.lazy_fst.specs.Meaning.{lentWith}
+use Rattle.rinkolza.specs.Exported.{inWords, runWords}
+use borrow.Author.Needs.{needs}
+use Rattle.rinkolza.proofs.rinkolza_run.Statement.{statement}
+use Rattle.rinkolza.proofs.rinkolza_run.Tie as tie
+
+returns : tie.Need-returns
+unfolding runWords
+returns c = rw (ne-eqb _ _ (c .if1 .taken))
+
+read-session-requires : tie.Need-read-session-requires
+read-session-requires c κs = search needs
+
+listed-by-requires : tie.Need-listed-by-requires
+listed-by-requires c κs = search needs
+
+run-requires : tie.Need-run-requires
+run-requires c κs = search needs
+
+leave-requires : tie.Need-leave-requires
+leave-requires c κs = search needs
+
+same-length : tie.Need-same-length
+same-length c = search needs
+
+same-length-2 : tie.Need-same-length-2
+same-length-2 c = search needs
+
+same-length-3 : tie.Need-same-length-3
+same-length-3 c = search needs
+
+same-length-4 : tie.Need-same-length-4
+same-length-4 c = search needs
+
+returns-2 : tie.Need-returns-2
+unfolding runWords
+returns-2 c = let x = c .before .before .before .before .before .before .before .before .before .before .before .before .before .before .before .before .before .before .before .before .before .before .before .before .before .before .args in
+    let m = memoryOf (now (x .heads)) (now (x .states)) (now (x .trs)) in
+    rw (eq-eqb _ _ (c .before .before .before .before .before .before .before .before .before .before .before .before .before .before .before .before .before .if1 .left))
+    (c .before .before .leave .ensures _ ∙ ap (inWords (λ u. accepted) []) (c .before .before .before .before .before .before .before .before .before .before .run .ensures ∙ (λ i. runOf (lentWith (now (x .m1)) (now (x .m2)) (now (x .allowed1)) (now (x .allowed2)) (c .before .before .before .before .before .before .before .before .before .before .before .before .before .before .listed-by .ensures i)) (c .before .before .before .before .before .before .before .before .before .before .before .before .before .before .before .read-session .ensures i) m)))
+
+pub rinkolza-run-spec : {M : Type 1} → statement M
+rinkolza-run-spec =
+    tie.close
+    (tie.spec
+    returns
+    read-session-requires
+    listed-by-requires
+    run-requires
+    leave-requires
+    same-length
+    same-length-2
+    same-length-3
+    same-length-4
+    returns-2)

@@ -1,0 +1,201 @@
+// The five calls for C and Rust: `include/rinkolza.h` says what each word and number means. None has a precondition.
+mod answers;
+mod slices;
+
+ghost use mathlib.Core.Path.{_≡_};
+ghost use mathlib.Core.List.{[]};
+ghost use Rattle.session_checks.specs.Meaning.{memoryOf};
+ghost use Rattle.rinkolza.specs.Exported.{lentWords, leaves, openWords, expandWords, finalWeightWords, runWords, recordsWords};
+use answers::leave;
+use answers::leave_handed;
+use answers::leave_part;
+use answers::leave_weight;
+use fst::StateId;
+use slices::ANSWER_WORDS;
+use slices::SESSION_WORDS;
+use slices::SETTINGS_WORDS;
+use slices::listed_by;
+use slices::read_session;
+use slices::read_settings;
+use slices::sized;
+use slices::write_answer;
+
+// Opens a session with six settings.
+#[no_mangle]
+pub extern "C" fn rinkolza_open(
+    settings: &[u32],
+    session: &mut [u32],
+    m1: &[u32],
+    m2: &[u32],
+    allowed1: &[u32],
+    has1: u32,
+    allowed2: &[u32],
+    has2: u32,
+    heads: &mut [u32],
+    states: &mut [u32],
+    trs: &mut [u32],
+) -> u32
+    ensures { λ r. ⌜ leaves r (now (session .exit)) [] (memoryOf (now (heads .exit)) (now (states .exit)) (now (trs .exit))) ≡ openWords (now (settings .entry)) (lentWords (now (m1 .entry)) (now (m2 .entry)) (now (allowed1 .entry)) has1 (now (allowed2 .entry)) has2) (now (session .entry)) (memoryOf (now (heads .entry)) (now (states .entry)) (now (trs .entry))) ⌝ }
+{
+    if settings.len() != SETTINGS_WORDS {
+        return 1;
+    }
+    if session.len() != SESSION_WORDS {
+        return 1;
+    }
+    let given = read_session(session);
+    let wanted = read_settings(settings);
+    let listed = listed_by(has1, has2);
+    let answer = given.open(
+        wanted,
+        m1,
+        m2,
+        allowed1,
+        allowed2,
+        listed,
+        heads,
+        states,
+        trs,
+    );
+    leave(session, answer)
+}
+
+// Expands state n.
+#[no_mangle]
+pub extern "C" fn rinkolza_expand(
+    session: &mut [u32],
+    m1: &[u32],
+    m2: &[u32],
+    allowed1: &[u32],
+    has1: u32,
+    allowed2: &[u32],
+    has2: u32,
+    heads: &mut [u32],
+    states: &mut [u32],
+    trs: &mut [u32],
+    n: u32,
+    answer: &mut [u32],
+) -> u32
+    ensures { λ r. ⌜ leaves r (now (session .exit)) (now (answer .exit)) (memoryOf (now (heads .exit)) (now (states .exit)) (now (trs .exit))) ≡ expandWords (lentWords (now (m1 .entry)) (now (m2 .entry)) (now (allowed1 .entry)) has1 (now (allowed2 .entry)) has2) (now (session .entry)) (now (answer .entry)) (memoryOf (now (heads .entry)) (now (states .entry)) (now (trs .entry))) n ⌝ }
+{
+    if !sized(session, answer) {
+        return 1;
+    }
+    let given = read_session(session);
+    let listed = listed_by(has1, has2);
+    let done = given.expand(
+        m1,
+        m2,
+        allowed1,
+        allowed2,
+        listed,
+        heads,
+        states,
+        trs,
+        StateId(n),
+    );
+    leave_part(session, answer, done)
+}
+
+// The final weight of state n.
+#[no_mangle]
+pub extern "C" fn rinkolza_final_weight(
+    session: &[u32],
+    m1: &[u32],
+    m2: &[u32],
+    allowed1: &[u32],
+    has1: u32,
+    allowed2: &[u32],
+    has2: u32,
+    heads: &[u32],
+    states: &[u32],
+    trs: &[u32],
+    n: u32,
+    answer: &mut [u32],
+) -> u32
+    ensures { λ r. ⌜ leaves r (now (session .entry)) (now (answer .exit)) (memoryOf (now (heads .entry)) (now (states .entry)) (now (trs .entry))) ≡ finalWeightWords (lentWords (now (m1 .entry)) (now (m2 .entry)) (now (allowed1 .entry)) has1 (now (allowed2 .entry)) has2) (now (session .entry)) (now (answer .entry)) (memoryOf (now (heads .entry)) (now (states .entry)) (now (trs .entry))) n ⌝ }
+{
+    if !sized(session, answer) {
+        return 1;
+    }
+    let given = read_session(session);
+    let listed = listed_by(has1, has2);
+    let done = given.final_weight(
+        m1,
+        m2,
+        allowed1,
+        allowed2,
+        listed,
+        heads,
+        states,
+        trs,
+        StateId(n),
+    );
+    leave_weight(answer, done)
+}
+
+// Expands in number order until none is left or one is refused.
+#[no_mangle]
+pub extern "C" fn rinkolza_run(
+    session: &mut [u32],
+    m1: &[u32],
+    m2: &[u32],
+    allowed1: &[u32],
+    has1: u32,
+    allowed2: &[u32],
+    has2: u32,
+    heads: &mut [u32],
+    states: &mut [u32],
+    trs: &mut [u32],
+) -> u32
+    ensures { λ r. ⌜ leaves r (now (session .exit)) [] (memoryOf (now (heads .exit)) (now (states .exit)) (now (trs .exit))) ≡ runWords (lentWords (now (m1 .entry)) (now (m2 .entry)) (now (allowed1 .entry)) has1 (now (allowed2 .entry)) has2) (now (session .entry)) (memoryOf (now (heads .entry)) (now (states .entry)) (now (trs .entry))) ⌝ }
+{
+    if session.len() != SESSION_WORDS {
+        return 1;
+    }
+    let given = read_session(session);
+    let listed = listed_by(has1, has2);
+    let answer = given.run(m1, m2, allowed1, allowed2, listed, heads, states, trs);
+    leave(session, answer)
+}
+
+// The first and the count of an expanded state's records; no number.
+#[no_mangle]
+pub extern "C" fn rinkolza_records(
+    session: &[u32],
+    m1: &[u32],
+    m2: &[u32],
+    allowed1: &[u32],
+    has1: u32,
+    allowed2: &[u32],
+    has2: u32,
+    heads: &[u32],
+    states: &[u32],
+    trs: &[u32],
+    n: u32,
+    answer: &mut [u32],
+)
+    ensures { λ _. ⌜ now (answer .exit) ≡ recordsWords (lentWords (now (m1 .entry)) (now (m2 .entry)) (now (allowed1 .entry)) has1 (now (allowed2 .entry)) has2) (now (session .entry)) (now (answer .entry)) (memoryOf (now (heads .entry)) (now (states .entry)) (now (trs .entry))) n ⌝ }
+{
+    if answer.len() != ANSWER_WORDS {
+        return;
+    }
+    if session.len() != SESSION_WORDS {
+        write_answer(answer, 0, 0);
+        return;
+    }
+    let given = read_session(session);
+    let listed = listed_by(has1, has2);
+    let handed = given.records(
+        m1,
+        m2,
+        allowed1,
+        allowed2,
+        listed,
+        heads,
+        states,
+        trs,
+        StateId(n),
+    );
+    leave_handed(answer, states, StateId(n), handed);
+}

@@ -1,0 +1,98 @@
+// Settings, session and answers as words in lent slices.
+ghost use mathlib.Core.Path.{_≡_};
+ghost use mathlib.Core.List.{[], _∷_};
+ghost use mathlib.Core.Bool.{_&&_};
+ghost use Prim.Native.Nat.{ℕ};
+ghost use lib.ListN.{length};
+ghost use Rattle.calls.specs.Listing.{settingsOf};
+ghost use Rattle.session_checks.specs.Meaning.{settingsMeans};
+ghost use Rattle.lazy_fst.specs.Meaning.{sessionMeans};
+ghost use Rattle.rinkolza.specs.Exported.{sessionWords, sessionAt, listedBy, nine, two};
+use fst::Label;
+use fst::word;
+use lazy_fst::Listed;
+use lazy_fst::Session;
+use session_checks::Settings;
+use store_records::Used;
+
+pub const SETTINGS_WORDS: usize = 6;
+
+pub const SESSION_WORDS: usize = 9;
+
+pub const ANSWER_WORDS: usize = 2;
+
+// Whether session and answer have their lengths.
+pub fn sized(session: &[u32], answer: &[u32]) -> bool
+    ensures { λ r. ⌜ r ≡ (nine (now (session .entry)) && two (now (answer .entry))) ⌝ }
+{
+    if session.len() != SESSION_WORDS {
+        return false;
+    }
+    answer.len() == ANSWER_WORDS
+}
+
+// The six settings.
+pub fn read_settings(words: &[u32]) -> Settings
+    ensures { λ r. ⌜ settingsMeans r ≡ settingsOf (now (words .entry)) ⌝ }
+{
+    Settings {
+        kind: word(words, 0),
+        filter: word(words, 1),
+        sigma1: Label(word(words, 2)),
+        mode1: word(words, 3),
+        sigma2: Label(word(words, 4)),
+        mode2: word(words, 5),
+    }
+}
+
+// The session of nine words.
+pub fn read_session(words: &[u32]) -> Session
+    ensures { λ r. ⌜ sessionMeans r ≡ sessionAt (now (words .entry)) ⌝ }
+{
+    let settings = read_settings(words);
+    Session {
+        settings,
+        side: word(words, 6),
+        used: Used {
+            states: word(words, 7),
+            trs: word(words, 8),
+        },
+    }
+}
+
+// The nine words of a session.
+pub fn write_session(words: &mut [u32], session: Session)
+    requires { ⌜ length (now words) ≡ 9 ⌝ }
+    ensures { λ _. ⌜ now (words .exit) ≡ sessionWords (sessionMeans session) ⌝ }
+{
+    let settings = session.settings;
+    let used = session.used;
+    words[0] = settings.kind;
+    words[1] = settings.filter;
+    words[2] = settings.sigma1.0;
+    words[3] = settings.mode1;
+    words[4] = settings.sigma2.0;
+    words[5] = settings.mode2;
+    words[6] = session.side;
+    words[7] = used.states;
+    words[8] = used.trs;
+}
+
+// The two words of an answer.
+pub fn write_answer(words: &mut [u32], first: u32, second: u32)
+    requires { ⌜ length (now words) ≡ 2 ⌝ }
+    ensures { λ _. ⌜ now (words .exit) ≡ first ∷ second ∷ [] ⌝ }
+{
+    words[0] = first;
+    words[1] = second;
+}
+
+// Whether there are allowed lists.
+pub fn listed_by(has1: u32, has2: u32) -> Listed
+    ensures { λ r. ⌜ r ≡ listedBy has1 has2 ⌝ }
+{
+    Listed {
+        first: has1 != 0,
+        second: has2 != 0,
+    }
+}

@@ -1,0 +1,327 @@
+/*
+ * rinkolza.h: composition of two weighted transducers, state by state.
+ *
+ * The library is an archive made by `rt staticlib rinkolza` from the crate
+ * crates/rinkolza, for x86-64 Linux. Every function below is proved to meet
+ * its contract (crates/rinkolza/src/lib.rt), an equation with the definitions
+ * in crates/rinkolza/specs/Exported.antt and crates/calls/specs.
+ *
+ * ---------------------------------------------------------------------------
+ * Rules for every call
+ *
+ * - All words are uint32_t. A slice is a pointer and then its length, counted
+ *   in words (not in bytes). A pointer must point to that many words; where
+ *   the length is 0 nothing is read or written through it.
+ * - A slice that is not const must not overlap any other slice of the same
+ *   call. Slices that are const may overlap each other.
+ * - Nothing else is asked of a caller: any words in any slice, of any length,
+ *   and any number are answered. Bad machines, settings, sessions, memory and
+ *   lengths get a refusal.
+ * - There is no global state, no allocation and no input or output. A call
+ *   writes to nothing but the slices that are not const. Two threads may call
+ *   at the same time, as long as no slice that one call may write is lent to
+ *   the other.
+ * - A call returns 0 where it is accepted, else the number of the refusal
+ *   (RINKOLZA_REFUSED_..., 1 to 13). A refused call changes no word of any
+ *   slice. The one exception is rinkolza_run: refused at a state, it keeps
+ *   the expansions before it, with the session that belongs to them.
+ *   rinkolza_records returns no number.
+ * - Lengths: settings has 6 words, session 9, answer 2. With any other length
+ *   the call is refused with 1 and changes nothing (rinkolza_records: see
+ *   there).
+ *
+ * ---------------------------------------------------------------------------
+ * A machine in words (const, both machines, lent at every call)
+ *
+ *   header, 6 words:
+ *     0  S, the number of states, at most RINKOLZA_LIMIT
+ *     1  T, the number of transitions, at most RINKOLZA_LIMIT
+ *     2  start state plus one; 0: no start
+ *     3  input mark    (RINKOLZA_MARK_...)
+ *     4  output mark   (RINKOLZA_MARK_...)
+ *     5  acceptor mark: 1 says that input equals output in every
+ *        transition, 0 says nothing
+ *   then S state records of 3 words:
+ *     0  first transition of the state's list, counted from 1; 0: none
+ *     1  final: 0 or 1
+ *     2  final weight; 0 where it is not final
+ *   then T transition records of 5 words:
+ *     0  input label
+ *     1  output label
+ *     2  weight
+ *     3  target state, counted from 0
+ *     4  next transition of the list, above the own number; 0 ends the list
+ *
+ * The length is exactly 6 + 3 S + 5 T. Transitions count from 1, states from
+ * 0. Lists may share tails. Label RINKOLZA_EPSILON (0) is epsilon; label
+ * RINKOLZA_NO_LABEL (RINKOLZA_MAX) is never a label of a machine. A side's mark
+ * is unknown, sorted (no label falls within any state's list) or not sorted;
+ * a mark that is false makes the machine malformed, as does a start above S,
+ * a first above T, a target not below S, a next not above its own number.
+ *
+ * Machine 1 is matched on its output labels, machine 2 on its input labels.
+ *
+ * ---------------------------------------------------------------------------
+ * Settings, 6 words (const, for rinkolza_open)
+ *
+ *     0  kind of the weights: RINKOLZA_COST or RINKOLZA_COUNT
+ *     1  filter: RINKOLZA_SEQUENCE, RINKOLZA_ALTERNATE or RINKOLZA_MATCH
+ *     2  sigma label of machine 1; RINKOLZA_NO_LABEL: none; 0 is refused
+ *     3  rewrite mode of machine 1: RINKOLZA_REWRITE_...
+ *     4  sigma label of machine 2; RINKOLZA_NO_LABEL: none; 0 is refused
+ *     5  rewrite mode of machine 2: RINKOLZA_REWRITE_...
+ *
+ * Cost: the product of two weights is their sum, one is 0, zero is
+ * RINKOLZA_MAX, and zero with anything is zero. Count: the product is the
+ * product, one is 1, zero is 0. A sum of two finite costs that reaches
+ * RINKOLZA_MAX, or a product of counts above it, is too large: refusal 12. A
+ * final weight equal to zero counts as final for the filters, but the composed
+ * state is then not final.
+ *
+ * Sigma stands for the rest: a label without a match of its own, neither 0 nor
+ * RINKOLZA_NO_LABEL and in the machine's allowed list, is given each sigma
+ * transition, rewritten. A machine with a sigma label must be sorted on its
+ * matched side.
+ *
+ * Allowed lists (const, one for each machine, lent at every call): any words in
+ * any order. `has1`, `has2` say whether there is a list: 0, no list, and every
+ * label is allowed; anything else, the list counts, and an empty one allows no
+ * label. Lend the same lists at every call of a session.
+ *
+ * ---------------------------------------------------------------------------
+ * The session, 9 words
+ *
+ *     0 to 5  the six settings
+ *     6       side: RINKOLZA_SIDE_INPUT, _OUTPUT or _BOTH
+ *     7       used states: state records in use
+ *     8       used transitions: transition records in use
+ *
+ * rinkolza_open writes it, an accepted rinkolza_expand and rinkolza_run carry
+ * it on. Give every call the session as the call before it left it. Before
+ * the first opening its words may be anything.
+ *
+ * ---------------------------------------------------------------------------
+ * Memory: three slices, lent at every call of a session
+ *
+ *   heads   any number of words, at least one where both machines have a start.
+ *           Head (s1 + 31 s2 + f) mod heads_len has the number of the newest
+ *           state record of its chain; 0: none. More heads, shorter chains.
+ *   states  records of RINKOLZA_STATE_WORDS words; record n + 1 is state n:
+ *             0  s1 * 65536 + s2, the states of machine 1 and of machine 2
+ *             1  f, the filter state: 0, 1 or 2
+ *             2  expanded: 0 or 1
+ *             3  first transition record of its list, counted from 1; 0: none
+ *             4  the next record of its chain; 0 ends it
+ *   trs     records of RINKOLZA_TR_WORDS words, counted from 1:
+ *             0  input label     1  output label     2  weight
+ *             3  target: the number of a composed state
+ *             4  next record of the list: the own number plus one; 0 ends it
+ *
+ * A state's records stand one after the other, in the order of its list: with
+ * first and count from rinkolza_expand or rinkolza_records they are the words
+ * trs[5 * (first - 1)] up to, not including, trs[5 * (first - 1 + count)].
+ *
+ * Room is whole records: states_len / 5 and trs_len / 5, of each at most
+ * RINKOLZA_LIMIT; what is past that is never read or written. A composition
+ * has at most 3 S1 S2 states. There is no bound for its transitions that is
+ * worth lending at once: where a call is refused with 13, open again with
+ * larger slices. No slice shorter, every call answers as before, up to where
+ * the smaller memory was refused with 13.
+ *
+ * Before the opening the words of memory may be anything. After it, nobody
+ * but these calls may write to memory, or the answers are those of whatever
+ * stands there; where the form is broken the call is refused with 8.
+ *
+ * ---------------------------------------------------------------------------
+ * The order of the checks
+ *
+ *   rinkolza_open          1 to 7 in their order, then 13 (not where a machine
+ *                          has no start: then no state is found)
+ *   rinkolza_expand        1 to 9 in their order; a state that is expanded is
+ *                          then answered as stored; else 10, then in the order
+ *                          of the moves 11 before a walked label's matches, and
+ *                          12, 13 for each move that is kept
+ *   rinkolza_final_weight  1 to 9, then 12
+ *   rinkolza_run           1 to 8, then as for the expansions that it makes
+ *   rinkolza_records       1 to 9, each of which gives an empty part
+ */
+#ifndef RINKOLZA_H
+#define RINKOLZA_H
+
+#include <stddef.h>
+#include <stdint.h>
+
+#ifdef __cplusplus
+extern "C" {
+#endif
+
+#define RINKOLZA_MAX UINT32_C(4294967295)
+#define RINKOLZA_EPSILON UINT32_C(0)
+#define RINKOLZA_NO_LABEL RINKOLZA_MAX
+
+/* The most states and transitions of a machine, and records of each sort. */
+#define RINKOLZA_LIMIT UINT32_C(65535)
+
+/* Lengths in words. */
+#define RINKOLZA_SETTINGS_WORDS 6
+#define RINKOLZA_SESSION_WORDS 9
+#define RINKOLZA_ANSWER_WORDS 2
+#define RINKOLZA_STATE_WORDS 5
+#define RINKOLZA_TR_WORDS 5
+
+/* Marks of a machine's side. */
+#define RINKOLZA_MARK_UNKNOWN UINT32_C(0)
+#define RINKOLZA_MARK_SORTED UINT32_C(1)
+#define RINKOLZA_MARK_NOT_SORTED UINT32_C(2)
+
+/* Settings, word 0. */
+#define RINKOLZA_COST UINT32_C(0)
+#define RINKOLZA_COUNT UINT32_C(1)
+
+/* Settings, word 1. */
+#define RINKOLZA_SEQUENCE UINT32_C(0)
+#define RINKOLZA_ALTERNATE UINT32_C(1)
+#define RINKOLZA_MATCH UINT32_C(2)
+
+/* Settings, words 3 and 5: where sigma is replaced by the label asked for. By
+ * the acceptor mark: on each side that holds sigma where it is 1, else on the
+ * matched side alone. */
+#define RINKOLZA_REWRITE_BY_MARK UINT32_C(0)
+#define RINKOLZA_REWRITE_BOTH UINT32_C(1)
+#define RINKOLZA_REWRITE_MATCHED UINT32_C(2)
+
+/* Session, word 6: machine 2 is looked up by input; machine 1 by output; at
+ * each pair of states the one or the other. */
+#define RINKOLZA_SIDE_INPUT UINT32_C(0)
+#define RINKOLZA_SIDE_OUTPUT UINT32_C(1)
+#define RINKOLZA_SIDE_BOTH UINT32_C(2)
+
+/* Places in the session. */
+#define RINKOLZA_SESSION_SIDE 6
+#define RINKOLZA_SESSION_USED_STATES 7
+#define RINKOLZA_SESSION_USED_TRS 8
+
+/* What a call returns. */
+#define RINKOLZA_ACCEPTED UINT32_C(0)
+/* kind, filter or rewrite mode outside its range; or a slice of settings,
+ * session or answer that is not of its length */
+#define RINKOLZA_REFUSED_SETTINGS UINT32_C(1)
+/* machine 1 malformed */
+#define RINKOLZA_REFUSED_MACHINE_1 UINT32_C(2)
+/* machine 2 malformed */
+#define RINKOLZA_REFUSED_MACHINE_2 UINT32_C(3)
+/* a sigma label 0 */
+#define RINKOLZA_REFUSED_SIGMA_EPSILON UINT32_C(4)
+/* sigma on machine 1, and its outputs are not sorted */
+#define RINKOLZA_REFUSED_SIGMA_1_UNSORTED UINT32_C(5)
+/* sigma on machine 2, and its inputs are not sorted */
+#define RINKOLZA_REFUSED_SIGMA_2_UNSORTED UINT32_C(6)
+/* no side to match: neither machine 1's outputs nor machine 2's inputs are
+ * sorted */
+#define RINKOLZA_REFUSED_NO_SIDE UINT32_C(7)
+/* the session's side differs from the rule, more is used than there is room
+ * for, or the form of memory is broken */
+#define RINKOLZA_REFUSED_SESSION UINT32_C(8)
+/* the state is not found yet: its number is not below the used states */
+#define RINKOLZA_REFUSED_NOT_FOUND UINT32_C(9)
+/* side both: the states of both machines have sigma transitions */
+#define RINKOLZA_REFUSED_BOTH_SIGMA UINT32_C(10)
+/* the walked label is the sigma label of the machine that is looked up */
+#define RINKOLZA_REFUSED_SIGMA_WALKED UINT32_C(11)
+/* a weight is too large */
+#define RINKOLZA_REFUSED_WEIGHT UINT32_C(12)
+/* a record or, at opening, a head is lacking */
+#define RINKOLZA_REFUSED_NO_ROOM UINT32_C(13)
+
+/*
+ * Opens a session with the six settings: chooses the side, clears the heads,
+ * and stores the composed start as state 0, where both machines have a start.
+ * The words of `session` are not read. Accepted: they are the new session.
+ * The allowed lists play no part yet.
+ * Refusals: 1 to 7, 13.
+ */
+uint32_t rinkolza_open(const uint32_t *settings, size_t settings_len,
+                       uint32_t *session, size_t session_len,
+                       const uint32_t *m1, size_t m1_len,
+                       const uint32_t *m2, size_t m2_len,
+                       const uint32_t *allowed1, size_t allowed1_len, uint32_t has1,
+                       const uint32_t *allowed2, size_t allowed2_len, uint32_t has2,
+                       uint32_t *heads, size_t heads_len,
+                       uint32_t *states, size_t states_len,
+                       uint32_t *trs, size_t trs_len);
+
+/*
+ * Expands state n: finds its transitions, stores them from the first unused
+ * record on, and stores each target that is new. Accepted: answer[0] is the
+ * number of the first of its transition records, counted from 1 (0: it has
+ * none), answer[1] their count. A state that is expanded already is answered
+ * as stored, and nothing changes.
+ * Refusals: 1 to 13.
+ */
+uint32_t rinkolza_expand(uint32_t *session, size_t session_len,
+                         const uint32_t *m1, size_t m1_len,
+                         const uint32_t *m2, size_t m2_len,
+                         const uint32_t *allowed1, size_t allowed1_len, uint32_t has1,
+                         const uint32_t *allowed2, size_t allowed2_len, uint32_t has2,
+                         uint32_t *heads, size_t heads_len,
+                         uint32_t *states, size_t states_len,
+                         uint32_t *trs, size_t trs_len,
+                         uint32_t n,
+                         uint32_t *answer, size_t answer_len);
+
+/*
+ * The final weight of state n, expanded or not. Accepted: answer[0] is 1 and
+ * answer[1] the weight, or both are 0 where the composed state is not final.
+ * Session and memory stay as they are.
+ * Refusals: 1 to 9, 12.
+ */
+uint32_t rinkolza_final_weight(const uint32_t *session, size_t session_len,
+                               const uint32_t *m1, size_t m1_len,
+                               const uint32_t *m2, size_t m2_len,
+                               const uint32_t *allowed1, size_t allowed1_len, uint32_t has1,
+                               const uint32_t *allowed2, size_t allowed2_len, uint32_t has2,
+                               const uint32_t *heads, size_t heads_len,
+                               const uint32_t *states, size_t states_len,
+                               const uint32_t *trs, size_t trs_len,
+                               uint32_t n,
+                               uint32_t *answer, size_t answer_len);
+
+/*
+ * Expands states in number order until none is left or one is refused. Refused
+ * at a state (10 to 13), it keeps the expansions before it: session and memory
+ * are then as those left them. Refused by 1 to 8, it changes nothing.
+ * Refusals: 1 to 8, 10 to 13.
+ */
+uint32_t rinkolza_run(uint32_t *session, size_t session_len,
+                      const uint32_t *m1, size_t m1_len,
+                      const uint32_t *m2, size_t m2_len,
+                      const uint32_t *allowed1, size_t allowed1_len, uint32_t has1,
+                      const uint32_t *allowed2, size_t allowed2_len, uint32_t has2,
+                      uint32_t *heads, size_t heads_len,
+                      uint32_t *states, size_t states_len,
+                      uint32_t *trs, size_t trs_len);
+
+/*
+ * Hands back the transition records of state n: answer[0] is the number of the
+ * first, counted from 1, answer[1] their count. Both are 0 where n is not
+ * expanded, where it has no transitions, where 1 to 9 would stand, or where the
+ * session has another length than 9; which of these it is, rinkolza_expand
+ * tells. An answer of another length than 2 is not written to. Session and
+ * memory stay as they are.
+ */
+void rinkolza_records(const uint32_t *session, size_t session_len,
+                      const uint32_t *m1, size_t m1_len,
+                      const uint32_t *m2, size_t m2_len,
+                      const uint32_t *allowed1, size_t allowed1_len, uint32_t has1,
+                      const uint32_t *allowed2, size_t allowed2_len, uint32_t has2,
+                      const uint32_t *heads, size_t heads_len,
+                      const uint32_t *states, size_t states_len,
+                      const uint32_t *trs, size_t trs_len,
+                      uint32_t n,
+                      uint32_t *answer, size_t answer_len);
+
+#ifdef __cplusplus
+}
+#endif
+
+#endif

@@ -1,0 +1,178 @@
+/* Calls the library from C: document 01's case 1, listed and compared with 01's listing by tests/c_example.sh; then slices of every short length and damaged words, where it checks that a
+ * refused call changes nothing. It prints the listing, then what it counted; it ends with 1 at the first thing that is wrong. */
+#include <stdio.h>
+#include <stdlib.h>
+#include <string.h>
+
+#include "../include/rinkolza.h"
+
+#define HEADS 64
+#define RECORDS 1024
+
+#define LEN(a) (sizeof(a) / sizeof((a)[0]))
+
+static const uint32_t settings[6] = {RINKOLZA_COST, RINKOLZA_SEQUENCE, RINKOLZA_NO_LABEL, 0, RINKOLZA_NO_LABEL, 0};
+static const uint32_t m1[25] = {3, 2, 1, 0, 0, 0, 1, 0, 0, 2, 0, 0, 0, 1, 0, 1, 0, 1, 1, 0, 2, 5, 2, 2, 0};
+static const uint32_t m2[25] = {3, 2, 1, 0, 0, 0, 1, 0, 0, 2, 0, 0, 0, 1, 3, 0, 7, 4, 1, 0, 5, 8, 1, 2, 0};
+
+static uint32_t session[9], answer[2], heads[HEADS], states[5 * RECORDS], trs[5 * RECORDS];
+
+static void need(int ok, const char *what) {
+    if (!ok) {
+        printf("wrong: %s\n", what);
+        exit(1);
+    }
+}
+
+/* The five calls on the words above, without allowed lists: NULL and 0. */
+static uint32_t open_it(void) {
+    return rinkolza_open(settings, 6, session, 9, m1, LEN(m1), m2, LEN(m2), NULL, 0, 0, NULL, 0, 0, heads, HEADS, states, LEN(states), trs, LEN(trs));
+}
+
+static uint32_t run_it(void) {
+    return rinkolza_run(session, 9, m1, LEN(m1), m2, LEN(m2), NULL, 0, 0, NULL, 0, 0, heads, HEADS, states, LEN(states), trs, LEN(trs));
+}
+
+static uint32_t expand_it(uint32_t n) {
+    return rinkolza_expand(session, 9, m1, LEN(m1), m2, LEN(m2), NULL, 0, 0, NULL, 0, 0, heads, HEADS, states, LEN(states), trs, LEN(trs), n, answer, 2);
+}
+
+static uint32_t final_it(uint32_t n) {
+    return rinkolza_final_weight(session, 9, m1, LEN(m1), m2, LEN(m2), NULL, 0, 0, NULL, 0, 0, heads, HEADS, states, LEN(states), trs, LEN(trs), n, answer, 2);
+}
+
+static void records_it(uint32_t n) {
+    rinkolza_records(session, 9, m1, LEN(m1), m2, LEN(m2), NULL, 0, 0, NULL, 0, 0, heads, HEADS, states, LEN(states), trs, LEN(trs), n, answer, 2);
+}
+
+/* The listing of document 01. */
+static void list(void) {
+    static const char *const sides[3] = {"input", "output", "both"};
+    uint32_t n, k;
+    need(open_it() == 0, "the opening");
+    need(run_it() == 0, "the run");
+    printf("side %s\n", sides[session[RINKOLZA_SESSION_SIDE]]);
+    for (n = 0; n < session[RINKOLZA_SESSION_USED_STATES]; n++) {
+        const uint32_t *s = states + 5 * n;
+        need(final_it(n) == 0, "a final weight");
+        printf("s %u %u %u %u ", n, s[0] / 65536, s[0] % 65536, s[1]);
+        if (answer[0]) {
+            printf("%u\n", answer[1]);
+        } else {
+            printf("-\n");
+        }
+        records_it(n);
+        for (k = 0; k < answer[1]; k++) {
+            const uint32_t *t = trs + 5 * (answer[0] - 1 + k);
+            printf("t %u %u %u %u\n", t[0], t[1], t[2], t[3]);
+        }
+    }
+    printf("end %u %u\n", session[RINKOLZA_SESSION_USED_STATES], session[RINKOLZA_SESSION_USED_TRS]);
+}
+
+/* Words in a block of their own length, so that a sanitizer sees each word read or written past its end. */
+typedef struct {
+    uint32_t *w, *old;
+    size_t n;
+} slice;
+
+static slice lend(const uint32_t *from, size_t n, size_t held) {
+    slice s;
+    size_t i;
+    s.n = n;
+    s.w = malloc(n ? n * sizeof(uint32_t) : 1);
+    s.old = malloc(n ? n * sizeof(uint32_t) : 1);
+    need(s.w != NULL && s.old != NULL, "memory of the test");
+    for (i = 0; i < n; i++) {
+        s.w[i] = i < held ? from[i] : 77;
+    }
+    memcpy(s.old, s.w, n * sizeof(uint32_t));
+    return s;
+}
+
+static int same(slice s) { return memcmp(s.w, s.old, s.n * sizeof(uint32_t)) == 0; }
+
+static void give_back(slice s) {
+    free(s.w);
+    free(s.old);
+}
+
+static uint32_t seed = 1;
+
+static uint32_t draw(void) {
+    seed = seed * UINT32_C(1664525) + UINT32_C(1013904223);
+    return seed >> 8;
+}
+
+static unsigned long calls, refused;
+
+/* All five calls on fresh copies of the words, with slices of the given lengths and, where `damage` is not 0, some words replaced. */
+static void all_calls(size_t settings_len, size_t session_len, size_t answer_len, size_t heads_len, size_t states_len, size_t trs_len, int damage) {
+    int call, i;
+    for (call = 0; call < 5; call++) {
+        slice six = lend(settings, settings_len, 6), s = lend(session, session_len, 9), a = lend(answer, answer_len, 2);
+        slice x = lend(m1, LEN(m1), LEN(m1)), y = lend(m2, LEN(m2), LEN(m2)), l = lend(m1, 3, 3);
+        slice h = lend(heads, heads_len, HEADS), st = lend(states, states_len, LEN(states)), t = lend(trs, trs_len, LEN(trs));
+        slice all[9];
+        uint32_t n = draw() % 6, r = 0, has = draw() % 3;
+        all[0] = six, all[1] = s, all[2] = x, all[3] = y, all[4] = h, all[5] = st, all[6] = t, all[7] = a, all[8] = l;
+        for (i = 0; i < damage; i++) {
+            slice hurt = all[draw() % 7];
+            if (hurt.n) {
+                size_t at = draw() % hurt.n % 32;
+                hurt.w[at] = draw() % 4 ? draw() % 8 : RINKOLZA_MAX - draw() % 2;
+                hurt.old[at] = hurt.w[at];
+            }
+        }
+        switch (call) {
+        case 0: r = rinkolza_open(six.w, six.n, s.w, s.n, x.w, x.n, y.w, y.n, l.w, l.n, has, l.w, l.n, has, h.w, h.n, st.w, st.n, t.w, t.n); break;
+        case 1: r = rinkolza_expand(s.w, s.n, x.w, x.n, y.w, y.n, l.w, l.n, has, l.w, l.n, has, h.w, h.n, st.w, st.n, t.w, t.n, n, a.w, a.n); break;
+        case 2: r = rinkolza_final_weight(s.w, s.n, x.w, x.n, y.w, y.n, l.w, l.n, has, l.w, l.n, has, h.w, h.n, st.w, st.n, t.w, t.n, n, a.w, a.n); break;
+        case 3: r = rinkolza_run(s.w, s.n, x.w, x.n, y.w, y.n, l.w, l.n, has, l.w, l.n, has, h.w, h.n, st.w, st.n, t.w, t.n); break;
+        default: rinkolza_records(s.w, s.n, x.w, x.n, y.w, y.n, l.w, l.n, has, l.w, l.n, has, h.w, h.n, st.w, st.n, t.w, t.n, n, a.w, a.n); break;
+        }
+        calls++;
+        refused += r != 0;
+        need(r <= 13, "a number of no refusal");
+        need(same(six) && same(x) && same(y) && same(l), "a const slice was written to");
+        if (call == 0 && (settings_len != 6 || session_len != 9)) need(r == 1, "open: lengths");
+        if ((call == 1 || call == 2) && (session_len != 9 || answer_len != 2)) need(r == 1, "expand or final weight: lengths");
+        if (call == 3 && session_len != 9) need(r == 1, "run: length");
+        if (call == 4 && answer_len == 2 && session_len != 9) need(a.w[0] == 0 && a.w[1] == 0, "records: length");
+        if (call == 4 && answer_len != 2) need(same(a), "records: answer");
+        if (call == 2 || call == 4) need(same(s) && same(h) && same(st) && same(t), "final weight or records wrote");
+        /* "A refused call changes no lent word"; a run keeps what it expanded before it was refused at a state. */
+        if (r != 0 && (call != 3 || r < 10)) need(same(s) && same(h) && same(st) && same(t) && same(a), "a refused call wrote");
+        for (i = 0; i < 9; i++) give_back(all[i]);
+    }
+}
+
+int main(void) {
+    size_t n;
+    int round;
+    list();
+
+    /* expand again: as stored */
+    need(expand_it(2) == 0 && answer[0] == 3 && answer[1] == 1, "expand as stored");
+    need(expand_it(4) == RINKOLZA_REFUSED_NOT_FOUND, "a state not found");
+    need(answer[0] == 3 && answer[1] == 1, "a refused call wrote into the answer");
+
+    for (n = 0; n <= 12; n++) {
+        all_calls(n, 9, 2, HEADS, LEN(states), LEN(trs), 0);
+        all_calls(6, n, 2, HEADS, LEN(states), LEN(trs), 0);
+        all_calls(6, 9, n, HEADS, LEN(states), LEN(trs), 0);
+        all_calls(6, 9, 2, n, LEN(states), LEN(trs), 0);
+        all_calls(6, 9, 2, HEADS, n, LEN(trs), 0);
+        all_calls(6, 9, 2, HEADS, LEN(states), n, 0);
+    }
+    need(open_it() == 0 && expand_it(0) == 0, "half a run");
+    for (n = 0; n <= 24; n++) {
+        all_calls(6, 9, 2, HEADS, n, LEN(trs), 0);
+        all_calls(6, 9, 2, HEADS, LEN(states), n, 0);
+    }
+    for (round = 0; round < 20000; round++) {
+        all_calls(6, 9, 2, 1 + draw() % 4, draw() % 40, draw() % 40, (int)(draw() % 4));
+    }
+    fprintf(stderr, "%lu calls, %lu refused\n", calls, refused);
+    return 0;
+}
