@@ -1,1 +1,3 @@
 pub mod WordLaws
+pub mod Numbers
+pub mod CallerLaws

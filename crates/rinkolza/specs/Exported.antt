@@ -1,11 +1,11 @@
 -- The calls of 01, "Session and memory" and "Answers", as C functions have them: the session, the settings and the answers are words in lent slices.
 use mathlib.Core.Bool.{Bool, true, false, not, _&&_, cond}
-use mathlib.Core.List.{List, [], _∷_}
+use mathlib.Core.List.{List, [], _∷_, _++_}
 use mathlib.Core.Option.{Option, none, some}
 use Prim.Native.Nat.{ℕ}
 use lib.Dec.{eqb}
 use lib.ListN.{length, getD}
-use Rattle.words.specs.Settings.{Lent}
+use Rattle.words.specs.Settings.{Settings, Lent}
 use Rattle.calls.specs.Store.{Memory, Part, trSize, roomOf, firstAt}
 use Rattle.calls.specs.Checks.{Session}
 use Rattle.calls.specs.Calls.{Outcome, openOf, expandOf, finalWeightOf, runOf, recordsOf}
@@ -14,11 +14,13 @@ use Rattle.calls.specs.Listing.{settingsOf}
 use Rattle.lazy_fst.specs.Meaning.{lentWith}
 use Rattle.lazy_fst.specs.declared.Listed.{Listed}
 
--- Nine words: "kind, filter, sigma 1, mode 1, sigma 2, mode 2", side, used states, used transitions.
+-- "kind, filter, sigma 1, mode 1, sigma 2, mode 2"; `settingsOf` reads them
+abbrev pub settingsWords : Settings → List ℕ
+settingsWords s = s .kind ∷ s .filter ∷ s .sigma1 ∷ s .mode1 ∷ s .sigma2 ∷ s .mode2 ∷ []
+
+-- nine words: "The session also holds the six settings"; then its side, used states, used transitions
 abbrev pub sessionWords : Session → List ℕ
-sessionWords s =
-    s .settings .kind ∷ s .settings .filter ∷ s .settings .sigma1 ∷ s .settings .mode1 ∷ s .settings .sigma2 ∷ s .settings .mode2
-    ∷ s .side ∷ s .used .states ∷ s .used .trs ∷ []
+sessionWords s = settingsWords (s .settings) ++ (s .side ∷ s .used .states ∷ s .used .trs ∷ [])
 
 -- the session of nine words
 abbrev pub sessionAt : List ℕ → Session
