@@ -14,12 +14,13 @@ use Rattle.words.specs.Steps.{Composition}
 use Rattle.calls.specs.Store.{Memory, Store, Part, roomOf, trRoom, firstAt, expandedAt, partAt}
 use Rattle.calls.specs.Checks.{Session, storeOf, entered, enteredAt}
 use Rattle.calls.specs.Calls.{Outcome, openOf, expandOf, finalWeightOf, runOf, wordsOf, recordsBy, recordsOf}
-use Rattle.calls.specs.Sequences.{World, Call, opening, expand, finalWeight, records, run, Said, refusal, accepted, part, weight, Reply, answered, handed, saidOf, callOf, replies}
+use Rattle.calls.specs.Sequences.{World, Call, opening, expand, finalWeight, records, run, Said, refusal, accepted, part, weight, Reply, answered, handed, saidOf, callOf, replies, after}
 use Rattle.calls.proofs.RecordLaws.{room-words}
 use Rattle.calls.proofs.ExpandKept.{entered-is}
 use Rattle.calls.proofs.Parts.{part-within}
 use Rattle.rinkolza.specs.Exported.{sessionWords, sessionAt, numberOf, answerOf, partWords, weightWords, handedPart, inWords, Left, openWords, expandWords, finalWeightWords, runWords, recordsWords}
-use Rattle.rinkolza.specs.Caller.{exported, partOf, weightOf, saidBy, heard, Made, lefts, heardAll}
+use Rattle.rinkolza.specs.Caller.{exported, partOf, weightOf, saidBy, heard, Made, lefts, heardAll, heldAfter}
+use Rattle.rinkolza.proofs.WordLaws.{words-of-session}
 use Rattle.rinkolza.proofs.Numbers.{Numbered, open-numbered, expand-numbered, final-numbered, run-numbered, at-entered}
 
 -- no words, no part
@@ -101,3 +102,17 @@ heard-all l s m (d ∷ ds) =
     let w = callOf l (record { session = s; memory = m }) (d .call) .world in
     let same = exported-same l s m (d .first) (d .second) (d .call) in
     λ i. same .reply i ∷ ((λ j. heardAll ds (lefts l (same .session j) (same .memory j) ds)) ∙ heard-all l (w .session) (w .memory) ds) i
+
+-- and the words held after it are those of the world after it
+pub held-after : (l : Lent) (s : Session) (m : Memory) (ds : List Made)
+    → let w = after l (record { session = s; memory = m }) (map (λ d. d .call) ds) in heldAfter l (sessionWords s) m ds ≡ record { session = sessionWords (w .session); memory = w .memory }
+unfolding heldAfter after
+held-after l s m [] = refl
+held-after l s m (d ∷ ds) =
+    let w = callOf l (record { session = s; memory = m }) (d .call) .world in
+    let same = exported-same l s m (d .first) (d .second) (d .call) in
+    (λ j. heldAfter l (same .session j) (same .memory j) ds) ∙ held-after l (w .session) (w .memory) ds
+
+-- the same for any nine words
+pub heard-from : (l : Lent) (w : List ℕ) (m : Memory) (ds : List Made) → length w ≡ 9 → heardAll ds (lefts l w m ds) ≡ replies l (record { session = sessionAt w; memory = m }) (map (λ d. d .call) ds)
+heard-from l w m ds e = ap (λ (v : List ℕ). heardAll ds (lefts l v m ds)) (sym (words-of-session w e)) ∙ heard-all l (sessionAt w) m ds

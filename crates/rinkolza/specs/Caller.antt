@@ -55,3 +55,13 @@ unfoldable pub heardAll : List Made → List Left → List Reply
 heardAll [] xs = []
 heardAll (d ∷ ds) [] = []
 heardAll (d ∷ ds) (x ∷ xs) = heard (d .call) x ∷ heardAll ds xs
+
+-- the session's words and memory between two calls
+pub record Held : Type 0 where
+  pub session : List ℕ
+  pub memory : Memory
+
+-- and after a list of exported calls
+unfoldable pub heldAfter : Lent → List ℕ → Memory → List Made → Held
+heldAfter l session m [] = record { session = session; memory = m }
+heldAfter l session m (d ∷ ds) = let x = exported l session (d .first ∷ d .second ∷ []) m (d .call) in heldAfter l (x .session) (x .memory) ds
