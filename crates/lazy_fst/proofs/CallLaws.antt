@@ -24,7 +24,7 @@ use Rattle.lazy_fst.specs.declared.Listed.{Listed}
 
 module _ (l : Lent) where
   -- the checks 1 to 9 are the checks 1 to 8, and that the state is found
-  at-entered : (s : Session) (m : Memory) (n : ℕ) (c : Composition) → enteredAt l s m n ≡ good c → (entered l s m ≡ good c) × (n < s .used .states)
+  pub at-entered : (s : Session) (m : Memory) (n : ℕ) (c : Composition) → enteredAt l s m n ≡ good c → (entered l s m ≡ good c) × (n < s .used .states)
   unfolding enteredAt
   at-entered s m n c e =
       let x = past-then (entered l s m) _ c e in

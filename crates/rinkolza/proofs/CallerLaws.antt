@@ -18,10 +18,11 @@ use Rattle.calls.specs.Sequences.{World, Call, opening, expand, finalWeight, re
 use Rattle.calls.proofs.RecordLaws.{room-words}
 use Rattle.calls.proofs.ExpandKept.{entered-is}
 use Rattle.calls.proofs.Parts.{part-within}
+use Rattle.lazy_fst.proofs.CallLaws.{at-entered}
 use Rattle.rinkolza.specs.Exported.{sessionWords, sessionAt, numberOf, answerOf, partWords, weightWords, handedPart, inWords, Left, openWords, expandWords, finalWeightWords, runWords, recordsWords}
 use Rattle.rinkolza.specs.Caller.{exported, partOf, weightOf, saidBy, heard, Made, lefts, heardAll, heldAfter}
 use Rattle.rinkolza.proofs.WordLaws.{words-of-session}
-use Rattle.rinkolza.proofs.Numbers.{Numbered, open-numbered, expand-numbered, final-numbered, run-numbered, at-entered}
+use Rattle.rinkolza.proofs.Numbers.{Numbered, open-numbered, expand-numbered, final-numbered, run-numbered}
 
 -- no words, no part
 none-handed : (trs states : List ℕ) (n : ℕ) → wordsOf trs (handedPart states n []) ≡ []

@@ -2,20 +2,19 @@
 use mathlib.Core.Path.{_≡_, refl, sym, ap, _∙_}
 use mathlib.Core.Bool.{Bool, true, false, not, _&&_, _||_}
 use mathlib.Core.Option.{Option, none, some}
-use Prim.Native.Nat.{ℕ, zero, suc, _≤_, _<_}
+use Prim.Native.Nat.{ℕ, zero, suc, _≤_}
 use native.Mathlib.Omega.{arith}
 use lib.Dec.{eqb, leb}
-use borrow.Author.Tests.{leb-false}
 use Rattle.words.specs.Labels.{epsLabel, Checked, good, refused, refuseIf, andThen}
 use Rattle.words.specs.Machines.{wellFormed}
 use Rattle.words.specs.Sides.{Side, sideBy, inOrder, sideOf, nonEmpty}
 use Rattle.words.specs.Sigmas.{Operand, isSet}
 use Rattle.words.specs.Steps.{Composition, Triple, stepsAt, startAt, finalAt}
 use Rattle.words.specs.Settings.{Settings, settingsOk, Lent, operand1, operand2, compositionOf}
-use Rattle.words.proofs.CheckedLaws.{past-check, past-then}
 use Rattle.calls.specs.Store.{Memory, Part, stateRoom, tripleAt, expandedAt}
 use Rattle.calls.specs.Checks.{Session, storeOf, sideFor, sessionOk, entered, enteredAt}
 use Rattle.calls.specs.Calls.{Outcome, Done, settle, unchanged, begun, opened, openOf, storeSteps, expansion, expandBy, expandOf, finalWeightOf, onward, runBy, runFrom, runAfter, runOf}
+use Rattle.lazy_fst.proofs.CallLaws.{at-entered}
 use Rattle.calls.proofs.ExpandCases.{store-refusals, final-refusals}
 
 -- a value, or a refusal by a number of the table of "Answers"
@@ -73,14 +72,6 @@ entered-numbered l s m =
 at-numbered : (l : Lent) (s : Session) (m : Memory) (n : ℕ) → Numbered (enteredAt l s m n)
 unfolding enteredAt
 at-numbered l s m n = and-then (entered l s m) _ (entered-numbered l s m) (λ c e. checked (leb (s .used .states) n) 9 _ (omega arith, omega arith) tt)
-
--- the checks 1 to 9 are the checks 1 to 8, and that the state is found
-pub at-entered : (l : Lent) (s : Session) (m : Memory) (n : ℕ) (c : Composition) → enteredAt l s m n ≡ good c → (entered l s m ≡ good c) × (n < s .used .states)
-unfolding enteredAt
-at-entered l s m n c e =
-    let x = past-then (entered l s m) _ c e in
-    let k = past-check (leb (s .used .states) n) 9 _ c (x .2) in
-    (x .1 ∙ k .1, leb-false _ _ (k .0))
 
 pub open-numbered : (s : Settings) (l : Lent) (got : Session) (m : Memory) → Numbered (openOf s l got m .answer)
 unfolding openOf begun

@@ -15,34 +15,17 @@ use borrow.Author.Needs.{needs}
 use Rattle.rinkolza.proofs.rinkolza_final_weight.Statement.{statement}
 use Rattle.rinkolza.proofs.rinkolza_final_weight.Tie as tie
 
-sized-requires : tie.Need-sized-requires
-sized-requires c κs = search needs
-
-same-length : tie.Need-same-length
-same-length c = search needs
-
 returns : tie.Need-returns
 unfolding finalWeightWords
 returns c = rw (fails (c .before .sized .ensures) (c .if1 .taken))
 
-read-session-requires : tie.Need-read-session-requires
-read-session-requires c κs = search needs
-
-listed-by-requires : tie.Need-listed-by-requires
-listed-by-requires c κs = search needs
-
-final-weight-requires : tie.Need-final-weight-requires
-final-weight-requires c κs = search needs
-
 leave-weight-requires : tie.Need-leave-weight-requires
 leave-weight-requires c κs = both-sized (now (c .before .before .before .before .before .before .before .before .before .before .before .before .before .before .before .before .args .session)) (now (c .before .before .before .before .before .before .before .before .before .before .before .before .before .before .before .before .args .answer)) (holds (c .before .before .before .before .before .sized .ensures) (c .before .before .before .before .if1 .left)) .1
 
-same-length-2 : tie.Need-same-length-2
-same-length-2 c = search needs
-
 returns-2 : tie.Need-returns-2
 unfolding finalWeightWords
-returns-2 c = let x = c .before .before .before .before .before .before .before .before .before .before .before .before .before .before .before .before .before .before .before .args in
+returns-2 c =
+    let x = c .before .before .before .before .before .before .before .before .before .before .before .before .before .before .before .before .before .before .before .args in
     let m = memoryOf (now (x .heads)) (now (x .states)) (now (x .trs)) in
     let h = holds (c .before .before .before .before .before .before .before .before .sized .ensures) (c .before .before .before .before .before .before .before .if1 .left) in
     let w = now (x .session) in
@@ -55,12 +38,12 @@ pub rinkolza-final-weight-spec : {M : Type 1} → statement M
 rinkolza-final-weight-spec =
     tie.close
     (tie.spec
-    sized-requires
-    same-length
+    (λ c κs. search needs)
+    (λ c. search needs)
     returns
-    read-session-requires
-    listed-by-requires
-    final-weight-requires
+    (λ c κs. search needs)
+    (λ c κs. search needs)
+    (λ c κs. search needs)
     leave-weight-requires
-    same-length-2
+    (λ c. search needs)
     returns-2)

@@ -20,36 +20,10 @@ returns-2 : tie.Need-returns-2
 unfolding openWords
 returns-2 c = rw (eq-eqb _ _ (c .before .if1 .left), ne-eqb _ _ (c .if2 .taken))
 
-read-session-requires : tie.Need-read-session-requires
-read-session-requires c κs = search needs
-
-read-settings-requires : tie.Need-read-settings-requires
-read-settings-requires c κs = search needs
-
-listed-by-requires : tie.Need-listed-by-requires
-listed-by-requires c κs = search needs
-
-open-requires : tie.Need-open-requires
-open-requires c κs = search needs
-
-leave-requires : tie.Need-leave-requires
-leave-requires c κs = search needs
-
-same-length : tie.Need-same-length
-same-length c = search needs
-
-same-length-2 : tie.Need-same-length-2
-same-length-2 c = search needs
-
-same-length-3 : tie.Need-same-length-3
-same-length-3 c = search needs
-
-same-length-4 : tie.Need-same-length-4
-same-length-4 c = search needs
-
 returns-3 : tie.Need-returns-3
 unfolding openWords
-returns-3 c = let x = c .before .before .before .before .before .before .before .before .before .before .before .before .before .before .before .before .before .before .before .before .before .before .before .before .before .before .before .before .before .args in
+returns-3 c =
+    let x = c .before .before .before .before .before .before .before .before .before .before .before .before .before .before .before .before .before .before .before .before .before .before .before .before .before .before .before .before .before .args in
     let m = memoryOf (now (x .heads)) (now (x .states)) (now (x .trs)) in
     rw (eq-eqb _ _ (c .before .before .before .before .before .before .before .before .before .before .before .before .before .before .before .before .before .before .before .if1 .left), eq-eqb _ _ (c .before .before .before .before .before .before .before .before .before .before .before .before .before .before .before .before .before .before .if2 .left))
     (c .before .before .leave .ensures _ ∙ ap (inWords (λ u. accepted) []) (c .before .before .before .before .before .before .before .before .before .before .«open» .ensures ∙ (λ i. openOf (c .before .before .before .before .before .before .before .before .before .before .before .before .before .before .before .read-settings .ensures i) (lentWith (now (x .m1)) (now (x .m2)) (now (x .allowed1)) (now (x .allowed2)) (c .before .before .before .before .before .before .before .before .before .before .before .before .before .before .listed-by .ensures i)) (c .before .before .before .before .before .before .before .before .before .before .before .before .before .before .before .before .read-session .ensures i) m)))
@@ -60,13 +34,13 @@ rinkolza-open-spec =
     (tie.spec
     returns
     returns-2
-    read-session-requires
-    read-settings-requires
-    listed-by-requires
-    open-requires
-    leave-requires
-    same-length
-    same-length-2
-    same-length-3
-    same-length-4
+    (λ c κs. search needs)
+    (λ c κs. search needs)
+    (λ c κs. search needs)
+    (λ c κs. search needs)
+    (λ c κs. search needs)
+    (λ c. search needs)
+    (λ c. search needs)
+    (λ c. search needs)
+    (λ c. search needs)
     returns-3)

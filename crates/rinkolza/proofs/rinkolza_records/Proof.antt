@@ -15,34 +15,14 @@ returns : tie.Need-returns
 unfolding recordsWords
 returns c = rw (ne-eqb _ _ (c .if1 .taken))
 
-write-answer-requires : tie.Need-write-answer-requires
-write-answer-requires c κs = search needs
-
-same-length : tie.Need-same-length
-same-length c = search needs
-
 returns-2 : tie.Need-returns-2
 unfolding recordsWords roomOf
 returns-2 c = rw (c .before .before .write-answer .ensures, eq-eqb _ _ (c .before .before .before .before .before .if1 .left), ne-eqb _ _ (c .before .before .before .before .if2 .taken))
 
-read-session-requires : tie.Need-read-session-requires
-read-session-requires c κs = search needs
-
-listed-by-requires : tie.Need-listed-by-requires
-listed-by-requires c κs = search needs
-
-records-requires : tie.Need-records-requires
-records-requires c κs = search needs
-
-leave-handed-requires : tie.Need-leave-handed-requires
-leave-handed-requires c κs = search needs
-
-same-length-2 : tie.Need-same-length-2
-same-length-2 c = search needs
-
 returns-3 : tie.Need-returns-3
 unfolding recordsWords
-returns-3 c = let x = c .before .before .before .before .before .before .before .before .before .before .before .before .before .before .before .before .before .before .args in
+returns-3 c =
+    let x = c .before .before .before .before .before .before .before .before .before .before .before .before .before .before .before .before .before .before .args in
     let m = memoryOf (now (x .heads)) (now (x .states)) (now (x .trs)) in
     rw (eq-eqb _ _ (c .before .before .before .before .before .before .before .before .if1 .left), eq-eqb _ _ (c .before .before .before .before .before .before .before .if2 .left))
     (c .before .before .leave-handed .ensures ∙ (λ j. partWords (handedPart (now (x .states)) (x .n) ((c .before .before .before .before .records .ensures ∙ (λ i. recordsOf (lentWith (now (x .m1)) (now (x .m2)) (now (x .allowed1)) (now (x .allowed2)) (c .before .before .before .before .before .listed-by .ensures i)) (c .before .before .before .before .before .before .read-session .ensures i) m (x .n))) j))))
@@ -52,12 +32,12 @@ rinkolza-records-spec =
     tie.close
     (tie.spec
     returns
-    write-answer-requires
-    same-length
+    (λ c κs. search needs)
+    (λ c. search needs)
     returns-2
-    read-session-requires
-    listed-by-requires
-    records-requires
-    leave-handed-requires
-    same-length-2
+    (λ c κs. search needs)
+    (λ c κs. search needs)
+    (λ c κs. search needs)
+    (λ c κs. search needs)
+    (λ c. search needs)
     returns-3)

@@ -16,33 +16,10 @@ returns : tie.Need-returns
 unfolding runWords
 returns c = rw (ne-eqb _ _ (c .if1 .taken))
 
-read-session-requires : tie.Need-read-session-requires
-read-session-requires c κs = search needs
-
-listed-by-requires : tie.Need-listed-by-requires
-listed-by-requires c κs = search needs
-
-run-requires : tie.Need-run-requires
-run-requires c κs = search needs
-
-leave-requires : tie.Need-leave-requires
-leave-requires c κs = search needs
-
-same-length : tie.Need-same-length
-same-length c = search needs
-
-same-length-2 : tie.Need-same-length-2
-same-length-2 c = search needs
-
-same-length-3 : tie.Need-same-length-3
-same-length-3 c = search needs
-
-same-length-4 : tie.Need-same-length-4
-same-length-4 c = search needs
-
 returns-2 : tie.Need-returns-2
 unfolding runWords
-returns-2 c = let x = c .before .before .before .before .before .before .before .before .before .before .before .before .before .before .before .before .before .before .before .before .before .before .before .before .before .before .args in
+returns-2 c =
+    let x = c .before .before .before .before .before .before .before .before .before .before .before .before .before .before .before .before .before .before .before .before .before .before .before .before .before .before .args in
     let m = memoryOf (now (x .heads)) (now (x .states)) (now (x .trs)) in
     rw (eq-eqb _ _ (c .before .before .before .before .before .before .before .before .before .before .before .before .before .before .before .before .before .if1 .left))
     (c .before .before .leave .ensures _ ∙ ap (inWords (λ u. accepted) []) (c .before .before .before .before .before .before .before .before .before .before .run .ensures ∙ (λ i. runOf (lentWith (now (x .m1)) (now (x .m2)) (now (x .allowed1)) (now (x .allowed2)) (c .before .before .before .before .before .before .before .before .before .before .before .before .before .before .listed-by .ensures i)) (c .before .before .before .before .before .before .before .before .before .before .before .before .before .before .before .read-session .ensures i) m)))
@@ -52,12 +29,12 @@ rinkolza-run-spec =
     tie.close
     (tie.spec
     returns
-    read-session-requires
-    listed-by-requires
-    run-requires
-    leave-requires
-    same-length
-    same-length-2
-    same-length-3
-    same-length-4
+    (λ c κs. search needs)
+    (λ c κs. search needs)
+    (λ c κs. search needs)
+    (λ c κs. search needs)
+    (λ c. search needs)
+    (λ c. search needs)
+    (λ c. search needs)
+    (λ c. search needs)
     returns-2)

@@ -8,18 +8,6 @@ use borrow.Author.Needs.{needs}
 use Rattle.rinkolza.proofs.slices.read_session.Statement.{statement}
 use Rattle.rinkolza.proofs.slices.read_session.Tie as tie
 
-read-settings-requires : tie.Need-read-settings-requires
-read-settings-requires c κs = search needs
-
-word-requires : tie.Need-word-requires
-word-requires c κs = search needs
-
-word-requires-2 : tie.Need-word-requires-2
-word-requires-2 c κs = search needs
-
-word-requires-3 : tie.Need-word-requires-3
-word-requires-3 c κs = search needs
-
 returns : tie.Need-returns
 returns c = rw (c .before .before .word .ensures, c .before .word2 .ensures, c .word3 .ensures)
     (ap (λ (s : Settings). let w = now (c .before .before .before .before .before .args .words) in record { settings = s; side = getD w 6 0; used = record { states = getD w 7 0; trs = getD w 8 0 } }) (c .before .before .before .read-settings .ensures))
@@ -27,4 +15,4 @@ returns c = rw (c .before .before .word .ensures, c .before .word2 .ensures, c .
 pub read-session-spec : {M : Type 1} → statement M
 read-session-spec =
     tie.close
-    (tie.spec read-settings-requires word-requires word-requires-2 word-requires-3 returns)
+    (tie.spec (λ c κs. search needs) (λ c κs. search needs) (λ c κs. search needs) (λ c κs. search needs) returns)

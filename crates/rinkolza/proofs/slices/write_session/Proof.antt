@@ -9,18 +9,6 @@ use borrow.Author.Needs.{needs}
 use Rattle.rinkolza.proofs.slices.write_session.Statement.{statement}
 use Rattle.rinkolza.proofs.slices.write_session.Tie as tie
 
-slice-write-words : tie.Need-slice-write-words
-slice-write-words c = search needs
-
-slice-write-words-2 : tie.Need-slice-write-words-2
-slice-write-words-2 c = search needs
-
-slice-write-words-3 : tie.Need-slice-write-words-3
-slice-write-words-3 c = search needs
-
-slice-write-words-4 : tie.Need-slice-write-words-4
-slice-write-words-4 c = search needs
-
 slice-write-words-5 : tie.Need-slice-write-words-5
 slice-write-words-5 c = simp length-set (omega (arith, c .before .before .pre))
 
@@ -36,9 +24,6 @@ slice-write-words-8 c = simp length-set (omega (arith, c .before .before .pre))
 slice-write-words-9 : tie.Need-slice-write-words-9
 slice-write-words-9 c = simp length-set (omega (arith, c .before .before .pre))
 
-same-length : tie.Need-same-length
-same-length c = search needs
-
 returns : tie.Need-returns
 returns c = sets-all (now (c .before .before .args .words)) (sessionWords (sessionMeans (c .before .before .args .session))) (c .before .before .pre)
 
@@ -46,14 +31,14 @@ pub write-session-spec : {M : Type 1} → statement M
 write-session-spec =
     tie.close
     (tie.spec
-    slice-write-words
-    slice-write-words-2
-    slice-write-words-3
-    slice-write-words-4
+    (λ c. search needs)
+    (λ c. search needs)
+    (λ c. search needs)
+    (λ c. search needs)
     slice-write-words-5
     slice-write-words-6
     slice-write-words-7
     slice-write-words-8
     slice-write-words-9
-    same-length
+    (λ c. search needs)
     returns)
