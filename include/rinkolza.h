@@ -10,8 +10,9 @@
  * Rules for every call
  *
  * - All words are uint32_t. A slice is a pointer and then its length, counted
- *   in words (not in bytes). A pointer must point to that many words; where
- *   the length is 0 nothing is read or written through it.
+ *   in words (not in bytes). The pointer must point to that many words, placed
+ *   as uint32_t are; where the length is 0 nothing is read or written through
+ *   it, and it may be NULL.
  * - A slice that is not const must not overlap any other slice of the same
  *   call. Slices that are const may overlap each other.
  * - Nothing else is asked of a caller: any words in any slice, of any length,
@@ -59,7 +60,36 @@
  * a mark that is false makes the machine malformed, as does a start above S,
  * a first above T, a target not below S, a next not above its own number.
  *
- * Machine 1 is matched on its output labels, machine 2 on its input labels.
+ * Machine 1 is matched on its output labels, machine 2 on its input labels:
+ * these are the inner labels, and the composition is the input of machine 1 and
+ * the output of machine 2.
+ *
+ * The side is chosen at the opening. Output mark of machine 1 and input mark of
+ * machine 2 both "sorted": both; the first alone: output; the second alone:
+ * input; else machine 1 sorted in fact: output; else machine 2 sorted in fact:
+ * input; else refusal 7. Under "both" the pair of states decides: one with a
+ * sigma transition is looked up on its own side, two such are refusal 10; else
+ * the shorter list is walked and looked up in the longer, and equal lengths give
+ * input.
+ *
+ * Moves of a composed state (s1, s2, f), side input: first each epsilon-input
+ * transition of s2 alone; then along the list of s1, for output 0 that
+ * transition alone and then with each epsilon of s2, for another label with
+ * each match in s2. Side output mirrors this, walking s2. The machine that rests
+ * supplies label 0, weight one and its own state. The filter keeps a move and
+ * gives the next f, or drops it. "none" means that the machine's state has no
+ * epsilon on its inner side, "all" that it has only such and is not final; the
+ * order within a cell counts:
+ *
+ *   move          sequence            alternate           match
+ *   1 alone       f=0: 0; else drop   all2: drop;         f=0: none2: 0; all2: drop;
+ *                                     none2: 0; else 1         else 1; f=1: 1; f=2: drop
+ *   2 alone       all1: drop;         f=1: drop; else 0   f=0: none1: 0; all1: drop;
+ *                 none1: 0; else 1                             else 2; f=2: 2; f=1: drop
+ *   both epsilon  drop                drop                f=0: 0; else drop
+ *   a label       0                   0                   0
+ *
+ * The start has f = 0. State numbers count from 0 in the order of first finding.
  *
  * ---------------------------------------------------------------------------
  * Settings, 6 words (const, for rinkolza_open)
@@ -80,8 +110,9 @@
  *
  * Sigma stands for the rest: a label without a match of its own, neither 0 nor
  * RINKOLZA_NO_LABEL and in the machine's allowed list, is given each sigma
- * transition, rewritten. A machine with a sigma label must be sorted on its
- * matched side.
+ * transition, rewritten. A label with matches of its own gets those only. Asked
+ * for the sigma label itself: refusal 11. A machine with a sigma label must be
+ * sorted on its matched side.
  *
  * Allowed lists (const, one for each machine, lent at every call): any words in
  * any order. `has1`, `has2` say whether there is a list: 0, no list, and every
@@ -125,7 +156,7 @@
  * RINKOLZA_LIMIT; what is past that is never read or written. A composition
  * has at most 3 S1 S2 states. There is no bound for its transitions that is
  * worth lending at once: where a call is refused with 13, open again with
- * larger slices. No slice shorter, every call answers as before, up to where
+ * larger slices. With no slice shorter every call answers as before, up to where
  * the smaller memory was refused with 13.
  *
  * Before the opening the words of memory may be anything. After it, nobody

@@ -1,8 +1,11 @@
 /* Calls the library from C: document 01's case 1, listed and compared with 01's listing by tests/c_example.sh; then slices of every short length and damaged words, where it checks that a
  * refused call changes nothing. It prints the listing, then what it counted; it ends with 1 at the first thing that is wrong. */
+#define _DEFAULT_SOURCE
 #include <stdio.h>
 #include <stdlib.h>
 #include <string.h>
+#include <sys/mman.h>
+#include <unistd.h>
 
 #include "../include/rinkolza.h"
 
@@ -70,32 +73,37 @@ static void list(void) {
     printf("end %u %u\n", session[RINKOLZA_SESSION_USED_STATES], session[RINKOLZA_SESSION_USED_TRS]);
 }
 
-/* Words in a block of their own length, so that a sanitizer sees each word read or written past its end. */
+/* A slice that ends where a page begins that nobody may touch: a word read or written past its end stops the program. (The archive is not compiled with a sanitizer, which would not see it.) */
 typedef struct {
     uint32_t *w, *old;
     size_t n;
 } slice;
 
-static slice lend(const uint32_t *from, size_t n, size_t held) {
+#define SLICES 9
+#define PAGES 8
+
+static slice lend(int which, const uint32_t *from, size_t n, size_t held) {
+    static unsigned char *ends[SLICES];
+    static uint32_t olds[SLICES][5 * RECORDS];
     slice s;
     size_t i;
-    s.n = n;
-    s.w = malloc(n ? n * sizeof(uint32_t) : 1);
-    s.old = malloc(n ? n * sizeof(uint32_t) : 1);
-    need(s.w != NULL && s.old != NULL, "memory of the test");
-    for (i = 0; i < n; i++) {
-        s.w[i] = i < held ? from[i] : 77;
+    if (ends[which] == NULL) {
+        size_t page = (size_t)sysconf(_SC_PAGESIZE);
+        unsigned char *p = mmap(NULL, (PAGES + 1) * page, PROT_READ | PROT_WRITE, MAP_PRIVATE | MAP_ANONYMOUS, -1, 0);
+        need(p != MAP_FAILED && sizeof(olds[0]) <= PAGES * page, "memory of the test");
+        need(mprotect(p + PAGES * page, page, PROT_NONE) == 0, "memory of the test");
+        ends[which] = p + PAGES * page;
     }
-    memcpy(s.old, s.w, n * sizeof(uint32_t));
+    s.n = n;
+    s.w = (uint32_t *)(void *)ends[which] - n;
+    s.old = olds[which];
+    for (i = 0; i < n; i++) {
+        s.w[i] = s.old[i] = i < held ? from[i] : 77;
+    }
     return s;
 }
 
 static int same(slice s) { return memcmp(s.w, s.old, s.n * sizeof(uint32_t)) == 0; }
-
-static void give_back(slice s) {
-    free(s.w);
-    free(s.old);
-}
 
 static uint32_t seed = 1;
 
@@ -110,10 +118,10 @@ static unsigned long calls, refused;
 static void all_calls(size_t settings_len, size_t session_len, size_t answer_len, size_t heads_len, size_t states_len, size_t trs_len, int damage) {
     int call, i;
     for (call = 0; call < 5; call++) {
-        slice six = lend(settings, settings_len, 6), s = lend(session, session_len, 9), a = lend(answer, answer_len, 2);
-        slice x = lend(m1, LEN(m1), LEN(m1)), y = lend(m2, LEN(m2), LEN(m2)), l = lend(m1, 3, 3);
-        slice h = lend(heads, heads_len, HEADS), st = lend(states, states_len, LEN(states)), t = lend(trs, trs_len, LEN(trs));
-        slice all[9];
+        slice six = lend(0, settings, settings_len, 6), s = lend(1, session, session_len, 9), a = lend(7, answer, answer_len, 2);
+        slice x = lend(2, m1, LEN(m1), LEN(m1)), y = lend(3, m2, LEN(m2), LEN(m2)), l = lend(8, m1, 3, 3);
+        slice h = lend(4, heads, heads_len, HEADS), st = lend(5, states, states_len, LEN(states)), t = lend(6, trs, trs_len, LEN(trs));
+        slice all[SLICES];
         uint32_t n = draw() % 6, r = 0, has = draw() % 3;
         all[0] = six, all[1] = s, all[2] = x, all[3] = y, all[4] = h, all[5] = st, all[6] = t, all[7] = a, all[8] = l;
         for (i = 0; i < damage; i++) {
@@ -143,7 +151,6 @@ static void all_calls(size_t settings_len, size_t session_len, size_t answer_len
         if (call == 2 || call == 4) need(same(s) && same(h) && same(st) && same(t), "final weight or records wrote");
         /* "A refused call changes no lent word"; a run keeps what it expanded before it was refused at a state. */
         if (r != 0 && (call != 3 || r < 10)) need(same(s) && same(h) && same(st) && same(t) && same(a), "a refused call wrote");
-        for (i = 0; i < 9; i++) give_back(all[i]);
     }
 }
 

@@ -1,5 +1,5 @@
 -- Lists of exported calls are lists of calls: the caller reads off the words what `callOf` replies, and the words left hold the session and memory of the world after it.
-use mathlib.Core.Path.{_≡_, refl, sym, ap, subst, _∙_}
+use mathlib.Core.Path.{_≡_, refl, sym, ap, _∙_}
 use mathlib.Core.Bool.{Bool, true, false, cond}
 use mathlib.Core.List.{List, [], _∷_, map}
 use mathlib.Core.Option.{Option, none, some}
@@ -12,14 +12,14 @@ use Rattle.words.specs.Labels.{Checked, good, refused}
 use Rattle.words.specs.Settings.{Lent}
 use Rattle.words.specs.Steps.{Composition}
 use Rattle.calls.specs.Store.{Memory, Store, Part, roomOf, trRoom, firstAt, expandedAt, partAt}
-use Rattle.calls.specs.Checks.{Session, storeOf, entered, enteredAt}
-use Rattle.calls.specs.Calls.{Outcome, openOf, expandOf, finalWeightOf, runOf, wordsOf, recordsBy, recordsOf}
-use Rattle.calls.specs.Sequences.{World, Call, opening, expand, finalWeight, records, run, Said, refusal, accepted, part, weight, Reply, answered, handed, saidOf, callOf, replies, after}
+use Rattle.calls.specs.Checks.{Session, storeOf, enteredAt}
+use Rattle.calls.specs.Calls.{openOf, expandOf, finalWeightOf, runOf, wordsOf, recordsBy, recordsOf}
+use Rattle.calls.specs.Sequences.{World, Call, opening, expand, finalWeight, records, run, Said, accepted, part, weight, answered, handed, saidOf, callOf, replies, after}
 use Rattle.calls.proofs.RecordLaws.{room-words}
 use Rattle.calls.proofs.ExpandKept.{entered-is}
 use Rattle.calls.proofs.Parts.{part-within}
 use Rattle.lazy_fst.proofs.CallLaws.{at-entered}
-use Rattle.rinkolza.specs.Exported.{sessionWords, sessionAt, numberOf, answerOf, partWords, weightWords, handedPart, inWords, Left, openWords, expandWords, finalWeightWords, runWords, recordsWords}
+use Rattle.rinkolza.specs.Exported.{sessionWords, sessionAt, numberOf, answerOf, handedPart, Left, openWords, expandWords, finalWeightWords, runWords, recordsWords}
 use Rattle.rinkolza.specs.Caller.{exported, partOf, weightOf, saidBy, heard, Made, lefts, heardAll, heldAfter}
 use Rattle.rinkolza.proofs.WordLaws.{words-of-session}
 use Rattle.rinkolza.proofs.Numbers.{Numbered, open-numbered, expand-numbered, final-numbered, run-numbered}

@@ -1,5 +1,5 @@
 -- The number of a refusal is from 1 to 13: so 0 says that a call is accepted.
-use mathlib.Core.Path.{_≡_, refl, sym, ap, _∙_}
+use mathlib.Core.Path.{_≡_, refl}
 use mathlib.Core.Bool.{Bool, true, false, not, _&&_, _||_}
 use mathlib.Core.Option.{Option, none, some}
 use Prim.Native.Nat.{ℕ, zero, suc, _≤_}
@@ -13,7 +13,7 @@ use Rattle.words.specs.Steps.{Composition, Triple, stepsAt, startAt, finalAt}
 use Rattle.words.specs.Settings.{Settings, settingsOk, Lent, operand1, operand2, compositionOf}
 use Rattle.calls.specs.Store.{Memory, Part, stateRoom, tripleAt, expandedAt}
 use Rattle.calls.specs.Checks.{Session, storeOf, sideFor, sessionOk, entered, enteredAt}
-use Rattle.calls.specs.Calls.{Outcome, Done, settle, unchanged, begun, opened, openOf, storeSteps, expansion, expandBy, expandOf, finalWeightOf, onward, runBy, runFrom, runAfter, runOf}
+use Rattle.calls.specs.Calls.{Done, settle, unchanged, begun, opened, openOf, storeSteps, expansion, expandBy, expandOf, finalWeightOf, onward, runBy, runFrom, runAfter, runOf}
 use Rattle.lazy_fst.proofs.CallLaws.{at-entered}
 use Rattle.calls.proofs.ExpandCases.{store-refusals, final-refusals}
 

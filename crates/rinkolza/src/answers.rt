@@ -1,7 +1,6 @@
 // What a call answered, written into the lent words; the number is returned.
 ghost use mathlib.Core.Path.{_≡_};
-ghost use mathlib.Core.List.{List, []};
-ghost use Prim.Native.Nat.{ℕ};
+ghost use mathlib.Core.List.{[]};
 ghost use lib.ListN.{length};
 ghost use Rattle.calls.specs.Store.{Memory};
 ghost use Rattle.calls.specs.Sequences.{accepted, part, weight};

@@ -1,5 +1,5 @@
 -- The expansion in the session that the words hold.
-use mathlib.Core.Path.{_≡_, _∙_, ap}
+use mathlib.Core.Path.{_∙_, ap}
 use denote.Ref.{now}
 use Rattle.fst.proofs.Tests.{fails, holds}
 use Rattle.calls.specs.Calls.{expandOf}

@@ -1,5 +1,5 @@
 -- The run of the session that the words hold.
-use mathlib.Core.Path.{_≡_, _∙_, ap}
+use mathlib.Core.Path.{_∙_, ap}
 use mathlib.Core.List.{[]}
 use denote.Ref.{now}
 use borrow.Author.Tests.{eq-eqb, ne-eqb}

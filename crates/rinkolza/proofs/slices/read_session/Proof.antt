@@ -1,9 +1,8 @@
 -- The settings, and three words more.
-use mathlib.Core.Path.{_≡_, ap}
+use mathlib.Core.Path.{ap}
 use lib.ListN.{getD}
 use denote.Ref.{now}
 use Rattle.words.specs.Settings.{Settings}
-use Rattle.calls.specs.Checks.{Session}
 use borrow.Author.Needs.{needs}
 use Rattle.rinkolza.proofs.slices.read_session.Statement.{statement}
 use Rattle.rinkolza.proofs.slices.read_session.Tie as tie

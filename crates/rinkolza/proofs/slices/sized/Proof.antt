@@ -1,6 +1,5 @@
 -- Two tests.
 use borrow.Author.Tests.{eq-eqb, ne-eqb}
-use borrow.Author.Needs.{needs}
 use Rattle.rinkolza.proofs.slices.sized.Statement.{statement}
 use Rattle.rinkolza.proofs.slices.sized.Tie as tie
 
