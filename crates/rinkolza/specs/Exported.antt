@@ -26,11 +26,12 @@ sessionWords s = settingsWords (s .settings) ++ (s .side ∷ s .used .states ∷
 abbrev pub sessionAt : List ℕ → Session
 sessionAt w = record { settings = settingsOf w; side = getD w 6 0; used = record { states = getD w 7 0; trs = getD w 8 0 } }
 
-abbrev pub nine : List ℕ → Bool
-nine w = eqb (length w) 9
-
+-- the lengths of settings, session and answer
 abbrev pub six : List ℕ → Bool
 six w = eqb (length w) 6
+
+abbrev pub nine : List ℕ → Bool
+nine w = eqb (length w) 9
 
 abbrev pub two : List ℕ → Bool
 two w = eqb (length w) 2
