@@ -4,7 +4,7 @@ mod slices;
 
 ghost use mathlib.Core.Path.{_≡_};
 ghost use mathlib.Core.List.{[]};
-ghost use Rattle.session_checks.specs.Meaning.{memoryOf};
+ghost use Rattle.store_records.specs.Meaning.{memoryOf};
 ghost use Rattle.rinkolza.specs.Exported.{lentWords, leaves, openWords, expandWords, finalWeightWords, runWords, recordsWords};
 use answers::leave;
 use answers::leave_handed;

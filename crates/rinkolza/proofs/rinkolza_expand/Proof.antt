@@ -4,7 +4,7 @@ use denote.Ref.{now}
 use Rattle.fst.proofs.Tests.{fails, holds}
 use Rattle.calls.specs.Calls.{expandOf}
 use Rattle.calls.specs.Sequences.{part}
-use Rattle.session_checks.specs.Meaning.{memoryOf}
+use Rattle.store_records.specs.Meaning.{memoryOf}
 use Rattle.lazy_fst.specs.Meaning.{lentWith}
 use Rattle.rinkolza.specs.Exported.{inWords, expandWords}
 use Rattle.rinkolza.proofs.WordLaws.{both-sized}

@@ -7,7 +7,7 @@ use mathlib.Core.Option.{Option}
 use Rattle.fst.proofs.Tests.{fails, holds}
 use Rattle.calls.specs.Calls.{Outcome, finalWeightOf}
 use Rattle.calls.specs.Sequences.{weight}
-use Rattle.session_checks.specs.Meaning.{memoryOf}
+use Rattle.store_records.specs.Meaning.{memoryOf}
 use Rattle.lazy_fst.specs.Meaning.{lentWith, weightLeft}
 use Rattle.rinkolza.specs.Exported.{leaves, inWords, sessionWords, sessionAt, lentWords, finalWeightWords}
 use Rattle.rinkolza.proofs.WordLaws.{both-sized, words-of-session, final-session}

@@ -4,7 +4,7 @@ use denote.Ref.{now}
 use borrow.Author.Tests.{eq-eqb, ne-eqb}
 use Rattle.calls.specs.Store.{roomOf}
 use Rattle.calls.specs.Calls.{recordsOf}
-use Rattle.session_checks.specs.Meaning.{memoryOf}
+use Rattle.store_records.specs.Meaning.{memoryOf}
 use Rattle.lazy_fst.specs.Meaning.{lentWith}
 use Rattle.rinkolza.specs.Exported.{partWords, handedPart, recordsWords}
 use borrow.Author.Needs.{needs}

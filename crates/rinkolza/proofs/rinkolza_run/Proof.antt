@@ -5,7 +5,7 @@ use denote.Ref.{now}
 use borrow.Author.Tests.{eq-eqb, ne-eqb}
 use Rattle.calls.specs.Calls.{runOf}
 use Rattle.calls.specs.Sequences.{accepted}
-use Rattle.session_checks.specs.Meaning.{memoryOf}
+use Rattle.store_records.specs.Meaning.{memoryOf}
 use Rattle.lazy_fst.specs.Meaning.{lentWith}
 use Rattle.rinkolza.specs.Exported.{inWords, runWords}
 use borrow.Author.Needs.{needs}
