@@ -1,17 +1,17 @@
 #!/usr/bin/env python3
 """Writes drawn cases of the calls, with what the Rust answers, as a module that the checker judges.
 
-    call_cases.py ORACLE GEN SEED COUNT > crates/calls/proofs/Drawn.antt
+    python3 tests/call_cases.py RUST SEED COUNT > crates/calls/proofs/Drawn.antt
 
-Name the module in crates/calls/proofs/Lib.antt of a scratch copy and check `calls`. ORACLE is the program built around rustfst's
-sources, GEN draws machines, settings and orders (GEN SEED COUNT, GEN SEED COUNT --lists --order). Two sorts of cases: what `composed`
-prints; and an opening, expansions in a drawn order, then the records and the final weight of every found state, on slices of drawn
+Name the module in crates/calls/proofs/Lib.antt of a scratch copy and check `calls`. RUST is the folder of rustfst's sources, or the program
+that oracle/build made around it; oracle/gen.py draws machines, settings and orders. Two sorts of cases: what `composed` prints; and an opening, expansions in a drawn order, then the records and the final weight of every found state, on slices of drawn
 lengths and content. Of the second, refusals, lists and final weights are the Rust's; where they stand in memory is worked out here.
 """
 import random
 import subprocess
 import sys
 
+import rust
 from state_cases import parsed
 
 SIDES = {"input": 0, "output": 1, "both": 2}
@@ -47,8 +47,8 @@ def line(text):
     return {"t": "trLine", "end": "endLine", "refused": "refusedLine"}[kind] + " " + " ".join(rest)
 
 
-def printing(oracle, gen, seed, count):
-    text = subprocess.run([sys.executable, gen, seed, count], capture_output=True, text=True, check=True).stdout
+def printing(oracle, seed, count):
+    text = subprocess.run([sys.executable, rust.GEN, seed, count], capture_output=True, text=True, check=True).stdout
     rows = text.split("\n")[:-1]
     for k, out in enumerate(oracle_many([oracle, "composed", "--many", "--zero-final"], text)[:-1]):
         w, m1, m2 = (antt(r.split()) for r in rows[3 * k:3 * k + 3])
@@ -91,9 +91,9 @@ class Slices:
         return self.trs[5 * (first - 1):5 * (first - 1 + count)] if count else []
 
 
-def calling(oracle, gen, seed, count):
+def calling(oracle, seed, count):
     draw = random.Random(int(seed))
-    text = subprocess.run([sys.executable, gen, seed, count, "--lists", "--order"], capture_output=True, text=True, check=True).stdout
+    text = subprocess.run([sys.executable, rust.GEN, seed, count, "--lists", "--order"], capture_output=True, text=True, check=True).stdout
     rows = text.split("\n")[:-1]
     for k in range(0, len(rows), 6):
         rows[k] = " ".join(str(draw.randint(0, 5)) for _ in range(8))
@@ -140,8 +140,8 @@ def case(lent, mem, asked, replies, slices, session):
 
 
 def main():
-    oracle, gen, seed, count = sys.argv[1:5]
-    found = list(printing(oracle, gen, seed, count)) + list(calling(oracle, gen, seed, count))
+    oracle, seed, count = rust.oracle_at(sys.argv[1]), *sys.argv[2:4]
+    found = list(printing(oracle, seed, count)) + list(calling(oracle, seed, count))
     print("-- Written by tests/call_cases.py.")
     print("use mathlib.Core.Path.{refl}")
     print("use mathlib.Core.List.{List, [], _∷_}")

@@ -2,18 +2,18 @@
 """Writes lists of calls drawn from a seed, and what crates/call_lists must print for them.
 
     python3 tests/call_lists.py                 writes crates/call_lists/stdin and crates/call_lists/stdout
-    python3 tests/call_lists.py --rust ORACLE   compares the model below with the Rust on the machines that are drawn
+    python3 tests/call_lists.py --rust RUST     compares the model below with the Rust on the machines that are drawn
 
-Everything is worked out here from document 01: the checks, the moves, the memory. ORACLE is the program built around rustfst's
-sources (see tests/state_cases.py); it knows no sessions and no memory, so what is compared with it are the side, the lists and final weights.
+Everything is worked out here from document 01: the checks, the moves, the memory. RUST is the folder of rustfst's sources, or the program that
+oracle/build made around it; it knows no sessions and no memory, so what is compared with it are the side, the lists and final weights.
 """
 import os
 import random
 import sys
 
+import rust
 from machine import MAX, Words
 
-ROOT = os.path.dirname(os.path.dirname(os.path.abspath(__file__)))
 SEED, CASES = 1, 160
 # the numbers that each call must answer somewhere in the lists
 WANTED = {"o": (0, 1, 2, 3, 4, 5, 6, 7, 13), "e": range(14), "f": (*range(10), 12), "r": (*range(9), 10, 11, 12, 13)}
@@ -539,12 +539,12 @@ def compare(oracle):
 
 def main():
     if sys.argv[1:2] == ["--rust"]:
-        return compare(sys.argv[2])
+        return compare(rust.oracle_at(sys.argv[2]))
     found = cases()
     # the sizes of the arrays of the program
     asked = [" ".join(map(str, r)) for c in found for r in c.asked]
     assert sum(len(r.split()) for r in asked) <= 32768 and sum(len(r) + 1 for r in asked) <= 65536
-    folder = os.path.join(ROOT, "crates/call_lists")
+    folder = os.path.join(rust.ROOT, "crates/call_lists")
     for name, rows in (("stdin", (r for c in found for r in c.asked)), ("stdout", (r for c in found for r in c.seen))):
         with open(os.path.join(folder, name), "w") as f:
             f.writelines(" ".join(map(str, r)) + "\n" for r in rows)

@@ -1,18 +1,18 @@
 #!/usr/bin/env python3
 """Writes crates/words/proofs/RustCases.antt: what the Rust answers at one composed state, for chosen inputs.
 
-    state_cases.py ORACLE > crates/words/proofs/RustCases.antt
-    state_cases.py ORACLE --random GEN SEED COUNT > a scratch file of the same form
+    python3 tests/state_cases.py RUST > crates/words/proofs/RustCases.antt
+    python3 tests/state_cases.py RUST --random SEED COUNT > a scratch file of the same form
 
-ORACLE is the program built around rustfst's sources; `ORACLE order --many --lists --zero-final` reads a line of state numbers,
-the settings, the two allowed lists ("-": no list) and both machines, and prints the side, each state's transitions or its refusal,
-and the found states. GEN prints random input of that form (GEN SEED COUNT --lists --order). The inputs below are ours, the answers
-are the Rust's.
+RUST is the folder of rustfst's sources, or the program that oracle/build made around it. `oracle order --many --lists --zero-final` reads a line
+of state numbers, the settings, the two allowed lists ("-": no list) and both machines, and prints the side, each state's transitions or its
+refusal, and the found states; oracle/gen.py prints random input of that form. The inputs below are ours, the answers are the Rust's.
 """
 import subprocess
 import sys
 
-MAX = 4294967295
+import rust
+from machine import MAX
 
 
 def machine(states, start=1, marks=(0, 0, 0)):
@@ -177,8 +177,8 @@ def chosen(oracle):
         yield what, entry(settings, a1, a2, m1, m2, triple, wants(side, answer, states, n))
 
 
-def drawn(oracle, gen, seed, count):
-    text = subprocess.run([sys.executable, gen, seed, count, "--lists", "--order"], capture_output=True, text=True, check=True).stdout
+def drawn(oracle, seed, count):
+    text = subprocess.run([sys.executable, rust.GEN, seed, count, "--lists", "--order"], capture_output=True, text=True, check=True).stdout
     lines = text.split("\n")[:-1]
     for k in range(0, len(lines), 6):
         settings, m1, m2 = ([int(x) for x in lines[k + j].split()] for j in (1, 4, 5))
@@ -194,8 +194,8 @@ def drawn(oracle, gen, seed, count):
 
 
 def main():
-    oracle = sys.argv[1]
-    found = list(drawn(oracle, *sys.argv[3:6]) if sys.argv[2:3] == ["--random"] else chosen(oracle))
+    oracle = rust.oracle_at(sys.argv[1])
+    found = list(drawn(oracle, *sys.argv[3:5]) if sys.argv[2:3] == ["--random"] else chosen(oracle))
     print("-- Written by tests/state_cases.py: the inputs are ours, the answers are the Rust's (rustfst 8e1391df1e, final weights equal to zero read as 01 reads them).")
     print("use mathlib.Core.List.{List, [], _∷_}")
     print("use mathlib.Core.Option.{none, some}")

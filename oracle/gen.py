@@ -1,0 +1,394 @@
+#!/usr/bin/env python3
+"""Random cases for the oracle and for the programs `composed` and `replay`.
+
+gen.py SEED COUNT --mixed
+gen.py SEED COUNT [--lists] [--order] [--filters6] [--damage] [--size N]
+gen.py SEED --big S1 T1 S2 T2 LABELS [--kind K] [--filter F] [--eps P]
+
+The first form prints COUNT cases of six lines, as `replay` reads them: "-" (a
+whole listing) or state numbers (expansions in that order), the settings, the
+two allowed lists ("-": no list), both machines. They are drawn with an aim
+(AIMS below), so that sigma in all modes, both ways of deciding under side
+"both", epsilons beside empty states, every refusal and full memory turn up
+often. The second form prints COUNT groups of lines for `oracle --many`: with
+--order a line of state numbers, then the settings, then with --lists the two
+allowed lists, then both machines; --filters6 also draws the filters 3 to 5,
+--damage breaks about one machine in three. The third form prints one group of
+three lines for `oracle bench`: a machine of S1 states and T1 transitions and
+one of S2 and T2, with that many labels above 0 and a share P of epsilons. The
+same arguments print the same lines.
+"""
+import random
+import sys
+
+MAX = 4294967295
+
+
+def falls(firsts, recs, side):
+    """Whether a label falls within the list of some state."""
+    listed = set(f for f in firsts if f)
+    for r in range(1, len(recs) + 1):
+        nxt = recs[r - 1][4]
+        if r in listed and nxt:
+            listed.add(nxt)
+            if recs[nxt - 1][side] < recs[r - 1][side]:
+                return True
+    return False
+
+
+def weight(rng, kind, plain):
+    if plain:
+        return rng.choice([0, 1, 2, 3, 7]) if kind == 0 else rng.choice([1, 1, 2, 3, 5])
+    return rng.choice([0, 0, 1, 1, 2, 3, 65535, 65536, 65537, 2147483647, 2147483648,
+                       MAX - 1, MAX])
+
+
+def machine(rng, kind, inner, sigma, size, plain, want, top=None, foreign=MAX, marked=0.55,
+            epsilons=(0.0, 0.2, 0.4, 0.6, 0.9), same=0.3, share=0.3):
+    """The words of a machine. `inner` is 0 where inputs are matched and 1
+    where outputs are; `want` says what to aim at: sorted inner labels,
+    sorted on both sides, or nothing. `top`: labels are 1 to top. `foreign`: the
+    other machine's sigma, which stands here now and then as a label. `marked`:
+    how often a side mark tells what is so. `same`: how often it is an acceptor.
+    `share`: how often a matched label is sigma."""
+    if rng.random() < 0.03:
+        states = rng.randint(0, 1)
+    else:
+        states = rng.randint(1, size)
+    count = 0 if states == 0 else rng.randint(states, 3 * states + 1)
+    if rng.random() < 0.1:
+        count = min(count, rng.randint(0, 2))
+    labels = list(range(1, top + 1 if top else rng.choice([2, 2, 3, 4])))
+    eps = rng.choice(epsilons)
+    acceptor = rng.random() < same
+
+    def label():
+        return 0 if rng.random() < eps else rng.choice(labels)
+
+    def matched():
+        if sigma not in (0, MAX) and rng.random() < share:
+            return sigma
+        if foreign != MAX and rng.random() < 0.08:
+            return foreign
+        return label()
+
+    recs = []
+    for _ in range(count):
+        mine = matched()
+        other = mine if acceptor else (sigma if sigma != MAX and rng.random() < 0.1 else label())
+        rec = [0, 0, weight(rng, kind, plain), rng.randrange(states), 0]
+        rec[inner], rec[1 - inner] = mine, other
+        recs.append(rec)
+
+    firsts = [0] * states
+    shared = rng.random() < 0.5
+    if shared:
+        # Any forest of chains: tails are shared, some records stand in no list.
+        if want == "both":
+            recs.sort(key=lambda r: r[inner])
+            outs = sorted(r[1 - inner] for r in recs)
+            for r, o in zip(recs, outs):
+                r[1 - inner] = r[inner] if acceptor else o
+        elif want == "inner":
+            recs.sort(key=lambda r: r[inner])
+        for i, r in enumerate(recs, 1):
+            if i < count and rng.random() < 0.75:
+                r[4] = i + 1 if rng.random() < 0.7 else rng.randint(i + 1, count)
+        for s in range(states):
+            if count and rng.random() < 0.85:
+                firsts[s] = rng.randint(1, max(1, count * 2 // 3))
+    else:
+        # Each state has its own list, a run of records.
+        cuts = sorted(rng.randint(0, count) for _ in range(max(0, states - 1)))
+        bounds = [0] + cuts + [count] if states else []
+        for s in range(states):
+            a, b = bounds[s], bounds[s + 1]
+            run = recs[a:b]
+            if want == "both":
+                run.sort(key=lambda r: r[inner])
+                outs = sorted(r[1 - inner] for r in run)
+                for r, o in zip(run, outs):
+                    r[1 - inner] = r[inner] if acceptor else o
+            elif want == "inner":
+                run.sort(key=lambda r: r[inner])
+            recs[a:b] = run
+            for i in range(a, b):
+                recs[i][4] = i + 2 if i + 1 < b else 0
+            firsts[s] = a + 1 if b > a else 0
+
+    zero = MAX if kind == 0 else 0
+    plain = plain and rng.random() < 0.8
+    words = []
+    for s in range(states):
+        if rng.random() < 0.45:
+            w = zero if rng.random() < 0.2 else weight(rng, kind, plain)
+            words += [firsts[s], 1, w]
+        else:
+            words += [firsts[s], 0, 0]
+    marks = []
+    for side in (0, 1):
+        if rng.random() < 1 - marked:
+            marks.append(0)
+        else:
+            marks.append(2 if falls(firsts, recs, side) else 1)
+    equal = all(r[0] == r[1] for r in recs)
+    marks.append(1 if equal and rng.random() < 0.6 else 0)
+    start = 0 if states == 0 or rng.random() < 0.03 else rng.randint(1, states)
+    busy = [s + 1 for s in range(states) if firsts[s]]
+    if start and busy and rng.random() < 0.9:
+        start = rng.choice(busy)
+    words = [states, count, start] + marks + words
+    for r in recs:
+        words += r
+    return words
+
+
+def damaged(rng, words):
+    words = list(words)
+    for _ in range(rng.choice([1, 1, 2])):
+        what = rng.random()
+        if what < 0.1:
+            words.append(rng.choice([0, 1, MAX]))
+        elif what < 0.2 and words:
+            words.pop(rng.randrange(len(words)))
+        elif words:
+            i = rng.randrange(len(words)) if rng.random() < 0.6 else rng.randrange(min(6, len(words)))
+            words[i] = rng.choice([0, 1, 2, 3, words[i] + 1, max(0, words[i] - 1), 65535, 65536, MAX])
+            words[i] = min(words[i], MAX)
+    return words
+
+
+def sigma_of(rng, own):
+    x = rng.random()
+    if x < 0.6:
+        return MAX
+    if x < 0.62:
+        return 0
+    if x < 0.9:
+        return own
+    return rng.randint(1, 4)
+
+
+def case(rng, args):
+    kind = rng.randint(0, 1)
+    filt = rng.randint(0, 5 if args.get("filters6") else 2)
+    sig = [sigma_of(rng, 9), sigma_of(rng, 8)]
+    size = args.get("size", 5)
+    plain = rng.random() < 0.8
+    wants = [rng.choice(["both", "inner", "inner", "none"]) for _ in range(2)]
+    m = [machine(rng, kind, 1, sig[0], size, plain, wants[0]),
+         machine(rng, kind, 0, sig[1], size, plain, wants[1])]
+    modes = [rng.randint(0, 2), rng.randint(0, 2)]
+    settings = [kind, filt, sig[0], modes[0], sig[1], modes[1]]
+    if args.get("damage"):
+        for i in (0, 1):
+            if rng.random() < 0.3:
+                m[i] = damaged(rng, m[i])
+        if rng.random() < 0.03:
+            settings = damaged(rng, settings)
+    lines = []
+    if args.get("order"):
+        lines.append([rng.randint(0, rng.choice([1, 3, 8, 20])) for _ in range(rng.randint(0, 14))])
+    lines.append(settings)
+    if args.get("lists"):
+        for _ in (0, 1):
+            if rng.random() < 0.4:
+                lines.append(None)
+            else:
+                lines.append([rng.choice([0, 1, 2, 3, 4, 5, 8, 9, MAX])
+                              for _ in range(rng.randint(0, 5))])
+    return lines + m
+
+
+def order_of(rng):
+    """State numbers to expand: any, or those from 0 up in a shuffled order, some of them again."""
+    if rng.random() < 0.5:
+        return [rng.randint(0, rng.choice([1, 3, 8, 20])) for _ in range(rng.randint(0, 14))]
+    numbers = list(range(1, rng.randint(2, 9))) + [rng.randint(0, 4) for _ in range(rng.randint(0, 3))]
+    rng.shuffle(numbers)
+    return [0] + numbers
+
+
+def allowed_of(rng):
+    x = rng.random()
+    return None if x < 0.4 else [] if x < 0.5 else [rng.choice([0, 1, 2, 3, 4, 5, 8, 9, MAX]) for _ in range(rng.randint(1, 5))]
+
+
+def any_case(rng):
+    return case(rng, {"lists": True, "size": rng.choice([2, 3, 4, 5])})
+
+
+def damaged_case(rng):
+    """Machines, and now and then settings, that are refused by 1 to 3."""
+    lines = case(rng, {"lists": True, "damage": True, "size": 3})
+    if rng.random() < 0.2:
+        at = rng.randrange(6)
+        lines[0] = rng.choice([lines[0][:at] + [rng.choice([2, 3, MAX])] + lines[0][at + 1:], lines[0][:at], lines[0] + [0]])
+    return lines
+
+
+def sigma_case(rng, size=3):
+    """Sigma on one machine or on both, which have few labels of their own and
+    mostly marks; a walked label may be the other machine's sigma."""
+    kind, plain = rng.randint(0, 1), rng.random() < 0.9
+    sigma = rng.choice([(9, MAX), (MAX, 8), (9, 8), (9, 9)])
+    marked = [rng.choice([0.0, 1.0, 1.0]) for _ in (0, 1)]
+    if rng.random() < 0.5:
+        # the other machine's mark would take the side
+        marked = [float(sigma[0] != MAX), float(sigma[1] != MAX)]
+    m = [machine(rng, kind, 1 - k, sigma[k], size, plain, "inner", top=1 if sigma[k] != MAX else 3, foreign=sigma[1 - k],
+                 marked=marked[k], epsilons=(0.0, 0.1, 0.3), same=0.5, share=0.5) for k in (0, 1)]
+    settings = [kind, rng.randint(0, 2), sigma[0], rng.randint(0, 2), sigma[1], rng.randint(0, 2)]
+    return [settings, allowed_of(rng), allowed_of(rng)] + m
+
+
+def epsilon_case(rng, size=3):
+    """Many epsilons on the inner sides, states that end early, final weights zero."""
+    kind = rng.randint(0, 1)
+    m = [machine(rng, kind, inner, MAX, size, True, "inner", top=1, epsilons=(0.5, 0.8, 1.0)) for inner in (1, 0)]
+    for w in m:
+        for s in range(w[0]):
+            x = rng.random()
+            if x < 0.2:
+                w[6 + 3 * s + 1:6 + 3 * s + 3] = [0, 0]
+            elif x < 0.4:
+                w[6 + 3 * s + 1:6 + 3 * s + 3] = [1, MAX if kind == 0 else 0]
+    return [[kind, rng.randint(0, 2), MAX, 0, MAX, 0], allowed_of(rng), allowed_of(rng)] + m
+
+
+def unsorted_case(rng, size=4):
+    """Machines that are not sorted: refusals 5 to 7, and the side by fact."""
+    kind = rng.randint(0, 1)
+    sigma = [rng.choice([MAX, MAX, MAX, 9]) for _ in (0, 1)]
+    m = [machine(rng, kind, 1 - k, sigma[k], size, True, rng.choice(["inner", "none", "none"]), top=4, epsilons=(0.2,)) for k in (0, 1)]
+    return [[kind, rng.randint(0, 2), sigma[0], 0, sigma[1], 0], None, None] + m
+
+
+def large_case(rng, size=3):
+    """Weights at the limits of both kinds."""
+    kind = rng.randint(0, 1)
+    m = [machine(rng, kind, inner, MAX, size, False, "inner", top=1, epsilons=(0.0, 0.4)) for inner in (1, 0)]
+    return [[kind, rng.randint(0, 2), MAX, 0, MAX, 0], None, None] + m
+
+
+def listed(states, finals, marks):
+    """The words of a machine whose states have lists of their own."""
+    words, recs = [], []
+    for list_, final in zip(states, finals):
+        words += [len(recs) + 1 if list_ else 0, int(final is not None), final or 0]
+        for i, r in enumerate(list_):
+            recs.append(list(r) + [len(recs) + 2 if i + 1 < len(list_) else 0])
+    return [len(states), len(recs), 1] + marks + words + sum(recs, [])
+
+
+def full_transitions(rng):
+    """Loops times loops: some 1024 transition records, the room of the
+    programs. Machine 1's states share one chain. Now and then a walked sigma or
+    a weight too large stands in it, and is answered only where room was not
+    lacking before it."""
+    kind, sigma = rng.randint(0, 1), rng.choice([MAX, 9])
+    loops, length = rng.choice([25, 31, 32, 33, 41]), rng.choice([25, 31, 32, 33, 41])
+    states = rng.randint(1, 3)
+    chain = [[rng.randint(0, 3), 1, 1, rng.randrange(states)] for _ in range(length)]
+    if rng.random() < 0.6:
+        chain[rng.choice([rng.randrange(length), length - 1])][1:3] = rng.choice([[9, 1], [1, MAX - 1]])
+    machine1 = listed([chain] + [[]] * (states - 1), [rng.choice([None, 1])] * states, [0, 0, 0])
+    for s in range(1, states):
+        machine1[6 + 3 * s] = rng.choice([1, length, length - 1, rng.randint(1, length)])
+    machine2 = listed([[[1, k % 5, 2, 0] for k in range(loops)]], [1], [1, 0, 0])
+    return [[kind, rng.randint(0, 2), MAX, 0, sigma, 0], None, None, machine1, machine2]
+
+
+def full_states(rng):
+    """A chain of epsilons beside a chain of epsilons: some 1024 states."""
+    kind, length = rng.randint(0, 1), rng.choice([(32, 32), (25, 41), (41, 25), (33, 31), (64, 16), (33, 33)])
+    chains = []
+    for k in (0, 1):
+        n = length[k]
+        row = [[0 if k else 1 + s % 3, 1 + s % 3 if k else 0, 1, s + 1] for s in range(n - 1)]
+        chains.append(listed([[r] for r in row] + [[]], [1] * n, [0, 0, 0]))
+    return [[kind, rng.randint(0, 1), MAX, 0, MAX, 0], None, None] + chains
+
+
+def widened(rng, lines):
+    """The same case with larger labels in the same order; 0 and MAX stay."""
+    new = sorted(rng.sample(range(1, MAX), 9))
+    new[8] = rng.choice([new[8], MAX - 1])
+    wide = lambda x: new[x - 1] if 0 < x < 10 else x
+    settings, *lists = lines[:3]
+    settings = [wide(x) if i in (2, 4) else x for i, x in enumerate(settings)]
+    lists = [None if own is None else [wide(x) for x in own] for own in lists]
+    machines = [[wide(x) if i >= 6 + 3 * m[0] and (i - 6 - 3 * m[0]) % 5 < 2 else x for i, x in enumerate(m)] for m in lines[3:]]
+    return [settings] + lists + machines
+
+
+# how often each is drawn
+AIMS = [(any_case, 30), (sigma_case, 34), (epsilon_case, 14), (unsorted_case, 6), (large_case, 8), (damaged_case, 8), (full_transitions, 3), (full_states, 1)]
+
+
+def mixed(rng):
+    """A case of six lines: an aim, and a whole listing or an order."""
+    aim = rng.choices([a for a, _ in AIMS], [n for _, n in AIMS])[0]
+    order = order_of(rng) if aim is not full_states and rng.random() < 0.45 else None
+    lines = aim(rng)
+    if aim is not damaged_case and rng.random() < 0.1:
+        lines = widened(rng, lines)
+    return [order] + lines
+
+
+def text(line):
+    return "-" if line is None else " ".join(map(str, line))
+
+
+def big(rng, states1, count1, states2, count2, labels, kind, filt, eps):
+    """Two machines with private lists of about equal length, sorted on the
+    matched side and so marked."""
+    lines = [[kind, filt, MAX, 0, MAX, 0]]
+    for inner, states, count in ((1, states1, count1), (0, states2, count2)):
+        owner = [i * states // count for i in range(count)]
+        recs = []
+        for s in owner:
+            rec = [0, 0, rng.randint(0, 9) if kind == 0 else 1, rng.randrange(states), 0]
+            for side in (0, 1):
+                rec[side] = 0 if rng.random() < eps else rng.randint(1, labels)
+            recs.append((s, rec))
+        recs.sort(key=lambda x: (x[0], x[1][inner]))
+        firsts = [0] * states
+        for i, (s, rec) in enumerate(recs):
+            if not firsts[s]:
+                firsts[s] = i + 1
+            rec[4] = i + 2 if i + 1 < count and recs[i + 1][0] == s else 0
+        marks = [0, 0, 0]
+        marks[inner] = 1
+        words = [states, count, 1] + marks
+        for s in range(states):
+            words += [firsts[s], 1, 1] if s % 10 == 9 else [firsts[s], 0, 0]
+        for _, rec in recs:
+            words += rec
+        lines.append(words)
+    return lines
+
+
+def main():
+    argv = sys.argv[1:]
+    names = {"--kind": 0, "--filter": 0, "--eps": 0.05, "--size": 5}
+    for k in names:
+        if k in argv:
+            i = argv.index(k)
+            names[k] = float(argv[i + 1]) if k == "--eps" else int(argv[i + 1])
+            del argv[i:i + 2]
+    rng = random.Random(int(argv[0]))
+    if argv[1] == "--big":
+        for line in big(rng, *map(int, argv[2:7]), names["--kind"], names["--filter"],
+                        names["--eps"]):
+            print(text(line))
+        return
+    args = {a[2:]: True for a in argv[2:]}
+    args["size"] = names["--size"]
+    for _ in range(int(argv[1])):
+        for line in mixed(rng) if args.get("mixed") else case(rng, args):
+            print(text(line))
+
+
+if __name__ == "__main__":
+    main()
