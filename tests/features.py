@@ -1,0 +1,160 @@
+"""What a case of `replay` shows: names of the rows of document 01 that it goes through, by the model in call_lists.py and the Rust's answer."""
+from collections import Counter
+from functools import cache
+
+from call_lists import Composition, Lent, Refused, side_for
+from machine import MAX, Words
+
+FILTERS = ("sequence", "alternate", "match")
+TRACED = 40  # expansions looked at in one case
+
+
+class Kept(Words):
+    """A machine that works out each state's list, "none" and "all" once."""
+
+    def __init__(self, m):
+        super().__init__(m)
+        self.list, self.none, self.all = (cache(f) for f in (super().list, super().none, super().all))
+
+
+class Watched(Composition):
+    """The model, noting where it passes."""
+
+    def __init__(self, settings, lent, side):
+        super().__init__(settings, lent, side)
+        self.machines = [Kept(m) for m in lent.words]
+        self.seen = set()
+
+    def looked_up(self, s1, s2):
+        m = super().looked_up(s1, s2)
+        if self.side == 2:
+            lengths = [len(self.machines[k].list(s)) for k, s in ((0, s1), (1, s2))]
+            if self.has_sigma(m, (s1, s2)[m]):
+                self.seen.add(f"side both, decided by the sigma of machine {m + 1}")
+            else:
+                sign = "<" if lengths[0] < lengths[1] else "=" if lengths[0] == lengths[1] else ">"
+                self.seen.add(f"side both, decided by lengths, 1 {sign} 2")
+        return m
+
+    def matches(self, k, s, x):
+        found = super().matches(k, s, x)
+        if self.has_sigma(k, s):
+            name = f"sigma of machine {k + 1}"
+            if any(self.inner(k, t) == x for t in self.machines[k].list(s)):
+                self.seen.add(f"{name}, beside a label's own matches")
+            elif found:
+                acceptor = ", acceptor mark" if self.mode[k] == 0 and self.machines[k].word(5) == 1 else ""
+                self.seen.add(f"{name}, rewritten, mode {self.mode[k]}{acceptor}")
+                if any(self.record(k, t)[:2] == [self.sigma[k]] * 2 for t in self.machines[k].list(s)):
+                    self.seen.add(f"{name}, held on both sides, mode {self.mode[k]}{acceptor}")
+                if self.allowed[k] is not None:
+                    self.seen.add(f"{name}, label let in by its allowed list")
+            else:
+                self.seen.add(f"{name}, label kept out by its {'empty ' if not self.allowed[k] else ''}allowed list")
+        return found
+
+    def cell(self, kind, states, f):
+        to = super().cell(kind, states, f)
+        move = f"{kind + 1} alone" if kind in (0, 1) else kind
+        self.seen.add(f"filter {FILTERS[self.filter]}, {move}, f {f}: {'drop' if to is None else to}")
+        if kind in (0, 1):
+            other = self.machines[1 - kind]
+            s = states[1 - kind]
+            if not other.list(s) and other.state(s, 1) == 0:
+                self.seen.add(f"filter {FILTERS[self.filter]}, {move} beside an empty nonfinal state")
+            if other.state(s, 1) == 1 and other.state(s, 2) == self.zero() and all(other.tr(t, kind) == 0 for t in other.list(s)):
+                self.seen.add(f"filter {FILTERS[self.filter]}, {move} beside a final weight zero without which \"all\" would hold")
+        return to
+
+    def times(self, a, b):
+        w = super().times(a, b)
+        if w == self.zero():
+            self.seen.add("a product equal to zero")
+        return w
+
+
+def of_words(k, m, kind):
+    """What the words of machine k (0 or 1) hold."""
+    w = Words(m)
+    if not w.well_formed():
+        return
+    name = f"machine {k + 1}"
+    yield f"{name}, mark of the matched side {w.word(4 - k)}"
+    if w.word(5):
+        yield f"{name}, acceptor mark"
+    if w.word(2) == 0:
+        yield f"{name} without a start"
+    lists = [w.list(s) for s in range(w.S)]
+    firsts = [w.first(s) for s in range(w.S)]
+    entered = Counter([f for f in firsts if f] + [w.next(t) for t in {t for row in lists for t in row} if w.next(t)])
+    if any(n > 1 for n in entered.values()):
+        yield f"{name}, lists that share a tail"
+    if len({t for row in lists for t in row}) < w.T:
+        yield f"{name}, a record in no list"
+    if any(w.tr(t, k) > 65535 for t in range(1, w.T + 1) for k in (0, 1)):
+        yield f"{name}, labels above 65535"
+    if any(w.state(s, 1) and w.state(s, 2) == (MAX, 0)[kind] for s in range(w.S)):
+        yield f"{name}, a final weight zero"
+
+
+def of_lists(settings, allowed):
+    for k in (0, 1):
+        sigma, mode, own = settings[2 + 2 * k], settings[3 + 2 * k], allowed[k]
+        if sigma not in (0, MAX):
+            yield f"sigma of machine {k + 1} set, mode {mode}"
+            yield f"sigma of machine {k + 1} set, {'no allowed list' if own is None else 'an allowed list' if own else 'an empty allowed list'}"
+
+
+def followed(c, order):
+    """Expands in the order, or in number order; what is passed on the way."""
+    start = c.start()
+    number = {} if start is None else {start: 0}
+    done = set()
+    for n in range(TRACED) if order is None else order:
+        if n >= len(number):
+            if order is None:
+                break
+            c.seen.add("order, a state not found yet")
+        elif n in done:
+            c.seen.add("order, a state again")
+        else:
+            try:
+                steps = list(c.steps(*list(number)[n]))
+            except Refused:
+                if order is None:
+                    break
+                c.seen.add("order, goes on after a refused expansion")
+                continue
+            done.add(n)
+            for step in steps:
+                number.setdefault(step[3], len(number))
+    if order is not None and sorted(done) != list(range(len(done))):
+        c.seen.add("order, states left out")
+    return c.seen
+
+
+def features(case, answer):
+    order, settings, allowed, machines = case[0], case[1], case[2:4], case[4:6]
+    lines = answer.split("\n")
+    found = {"order of expansions" if order is not None else "whole listing"}
+    if order == []:
+        found.add("order, empty")
+    found |= {("opening " if k == 0 else "") + line for k, line in enumerate(lines) if line.startswith("refused")}
+    if order is None and lines[0].startswith("refused"):
+        found = {f.replace("opening ", "listing ") for f in found}
+    found |= {"final weight refused 12" for line in lines if line.startswith("s ") and line.endswith("refused 12")}
+    found |= {line for line in lines[:1] if line.startswith("side")}
+    if "end 0 0" in lines:
+        found.add("no state found")
+    if len(settings) != 6:
+        return found
+    found |= {f"kind {settings[0]}", f"filter {settings[1]}"} if settings[0] < 2 and settings[1] < 3 else set()
+    lent = Lent(*machines, *allowed)
+    try:
+        side = side_for(settings, lent)
+    except Refused:
+        return found
+    found.update(of_lists(settings, allowed))
+    for k in (0, 1):
+        found.update(of_words(k, machines[k], settings[0]))
+    return found | followed(Watched(settings, lent, side), order)

@@ -1,0 +1,169 @@
+#!/usr/bin/env python3
+"""Writes crates/replay/stdin and crates/replay/stdout: the cases are ours, the answers are the Rust's.
+
+    python3 tests/replay_cases.py RUST      RUST is the folder of the Rust sources, or the program that oracle/build made of it
+
+First the proved cases of document 01 but for the ninth, which needs a smaller memory than the form has; its "run only" case; its four slips; every
+chosen input of tests/state_cases.py; the inputs of docs/DIFFERENCES.md; memory filled to the last record and one beyond. Then cases drawn by oracle/gen.py
+from SEED, until each feature that tests/features.py names stands in WANTED of them and there are CASES in all. The same sources give the same files.
+"""
+import os
+import random
+import sys
+from collections import Counter
+
+import rust
+import state_cases
+from features import features
+from gen import listed, mixed
+from state_cases import MAX, ONE1, ONE2
+
+SEED, CASES, WANTED = 12, 1000, 20
+BATCH, DRAWS = 2000, 30000
+# bytes of a drawn case and its answer: large ones only where a feature is lacking in small ones
+SMALL, LARGE = 480, 2000
+
+
+def plain(kind, filter):
+    return [kind, filter, MAX, 0, MAX, 0]
+
+
+def listing(settings, m1, m2, allowed1=None, allowed2=None):
+    return [None, list(settings), allowed1, allowed2, list(m1), list(m2)]
+
+
+def weighing(w):
+    """One state, final with weight w, and on it one transition 1:1 of weight w."""
+    return [1, 1, 1, 0, 0, 0, 1, 1, w, 1, 1, w, 0, 0]
+
+
+def stars():
+    """The proved cases, each with what document 01 says of the answer."""
+    example = """side output
+s 0 0 0 0 -
+t 1 0 1 1
+s 1 1 0 0 -
+t 0 7 4 2
+s 2 1 1 0 -
+t 2 8 3 3
+s 3 2 2 0 3
+end 4 3
+"""
+    yield listing(plain(0, 0), ONE1, ONE2), lambda a: a == example
+    yield listing(plain(0, 1), ONE1, ONE2), lambda a: a.endswith("end 4 3\n")
+    yield listing(plain(0, 2), ONE1, ONE2), lambda a: a.endswith("end 3 2\n") and a.split("\n")[2].startswith("t 1 7 5 ")
+    yield listing(plain(0, 0), ONE1[:2] + [0] + ONE1[3:], ONE2), lambda a: a.endswith("end 0 0\n")
+    yield listing(plain(0, 0), weighing(2147483647), weighing(2147483647)), lambda a: "s 0 0 0 0 4294967294\nt 1 1 4294967294 0\n" in a
+    yield listing(plain(0, 0), weighing(2147483648), weighing(2147483647)), lambda a: a == "refused 12\n"
+    yield listing(plain(1, 0), weighing(65535), weighing(65537)), lambda a: f"s 0 0 0 0 {MAX}\nt 1 1 {MAX} 0\n" in a
+    yield listing(plain(1, 0), weighing(65536), weighing(65536)), lambda a: a == "refused 12\n"
+    marked1, marked2 = listed([[[1, 4, 0, 0], [2, 4, 0, 0]]], [None], [0, 1, 0]), listed([[[4, 7, 0, 0], [4, 8, 0, 0]]], [None], [1, 0, 0])
+    yield listing(plain(0, 0), marked1, marked2), lambda a: a.split("\n")[2:6] == ["t 1 7 0 0", "t 1 8 0 0", "t 2 7 0 0", "t 2 8 0 0"]
+
+
+def differences():
+    """The inputs of docs/DIFFERENCES.md, three indented lines each."""
+    rows = [r.split() for r in open(os.path.join(rust.ROOT, "docs/DIFFERENCES.md")) if r.startswith("    ") and r.strip().replace(" ", "").isdigit()]
+    numbers = [[int(w) for w in r] for r in rows]
+    for k in range(0, len(numbers), 3):
+        yield listing(*numbers[k:k + 3])
+
+
+def full():
+    """1024 transition records and 1025; 1024 states and 1025; a weight too large, a walked sigma and lacking room in turn."""
+    def loops(a, b, sigma=MAX, last=(1, 1)):
+        row = [[1, 1, 1, 0] for _ in range(a - 1)] + [[1, last[0], last[1], 0]]
+        return listing([0, 0, MAX, 0, sigma, 0], listed([row], [1], [0, 0, 0]), listed([[[1, 2, 2, 0]] * b], [1], [1, 0, 0]))
+
+    def chains(a, b):
+        rows = [[[[0 if k else 1, 1 if k else 0, 1, s + 1]] for s in range(n - 1)] + [[]] for k, n in ((0, a), (1, b))]
+        return listing(plain(0, 0), *(listed(r, [1] * len(r), [0, 0, 0]) for r in rows))
+
+    yield loops(32, 32)
+    yield loops(25, 41)
+    yield loops(33, 32, last=(1, MAX - 1))
+    yield loops(33, 32, sigma=9, last=(9, 1))
+    yield loops(34, 32, sigma=9, last=(9, 1))
+    yield chains(32, 32)
+    yield chains(25, 41)
+
+
+def chosen():
+    yield from (case for case, _ in stars())
+    for _, settings, a1, a2, m1, m2, n in state_cases.cases():
+        yield listing(settings, m1, m2, a1, a2)
+        yield [list(range(n, -1, -1)) * 2] + listing(settings, m1, m2, a1, a2)[1:]
+    yield from differences()
+    yield from full()
+
+
+def distinct(cases):
+    return list({rust.text(c): c for c in cases}.values())
+
+
+class Collection:
+    def __init__(self, oracle):
+        self.oracle, self.texts, self.counts = oracle, {}, Counter()
+
+    def looked_at(self, cases):
+        """Each case with its answer and its features."""
+        for case, (answer, otherwise) in zip(cases, rust.observed(self.oracle, cases)):
+            found = features(case, answer)
+            yield case, answer, found | {"a final weight zero that plain Rust answers otherwise"} if otherwise else found
+
+    def take(self, case, answer, found):
+        text = rust.text(case)
+        if text not in self.texts:
+            self.texts[text] = answer
+            self.counts.update(found)
+
+    def drawn(self):
+        """The cases drawn from the seed, small ones first."""
+        rng, small, large = random.Random(SEED), [], []
+        for _ in range(DRAWS // BATCH):
+            for one in self.looked_at([mixed(rng) for _ in range(BATCH)]):
+                size = len(rust.text(one[0])) + len(one[1])
+                (small if size <= SMALL else large if size <= LARGE else []).append(one)
+        return small, small + large
+
+    def fill(self):
+        """Cases for each feature, the rarest first; then any."""
+        small, drawn = self.drawn()
+        holding = {}
+        for one in drawn:
+            for name in one[2]:
+                holding.setdefault(name, []).append(one)
+        for name in sorted(holding, key=lambda name: (len(holding[name]), name)):
+            for one in holding[name]:
+                if self.counts[name] < WANTED:
+                    self.take(*one)
+        for one in small:
+            if len(self.texts) < CASES:
+                self.take(*one)
+
+
+def main():
+    oracle = rust.oracle_at(sys.argv[1])
+    for (case, holds), answer in zip(list(stars()), rust.answers(oracle, [c for c, _ in stars()])):
+        assert holds(answer), (case, answer)
+    all_ = Collection(oracle)
+    for one in all_.looked_at(distinct(chosen())):
+        all_.take(*one)
+    own = len(all_.texts)
+    all_.fill()
+    folder = os.path.join(rust.ROOT, "crates/replay")
+    os.makedirs(folder, exist_ok=True)
+    with open(os.path.join(folder, "stdin"), "w") as f:
+        f.writelines(all_.texts)
+    with open(os.path.join(folder, "stdout"), "w") as f:
+        f.writelines(answer + "--\n" for answer in all_.texts.values())
+    for name, count in sorted(all_.counts.items()):
+        print(f"{count:6} {name}")
+    sizes = [os.path.getsize(os.path.join(folder, n)) for n in ("stdin", "stdout")]
+    lacking = [name for name, count in all_.counts.items() if count < WANTED]
+    print(f"features in fewer than {WANTED} cases: {', '.join(lacking) or 'none'}")
+    print(f"{len(all_.texts)} cases, {own} of them chosen; {sizes[0]} bytes in, {sizes[1]} bytes out; seed {SEED}")
+
+
+if __name__ == "__main__":
+    main()
