@@ -27,9 +27,10 @@ from machine import MAX, Words
 BATCH = 500
 ODD_BYTES = b" \t\r\n\0\x0b\x0c+-.,;:/xe_\"'\x1a\x7f\x80\xa0\xc2\xff" + b"0123456789"
 ODD_WORDS = (0, 1, 2, 3, 4095, 4096, 65535, 65536, 2 ** 31, MAX - 1, MAX)
-# spellings of numbers at and above the limit, as text
-LIMITS = [str(MAX - 1), str(MAX), str(MAX + 1), str(MAX + 2), str(2 ** 33), str(10 ** 10), "0" + str(MAX), "00000" + str(MAX + 1),
-          str(2 ** 64 - 1), str(2 ** 64), str(2 ** 64 + 1), "9" * 19, "9" * 20, "1" + "0" * 40]
+# spellings of numbers up to the limit, and above it
+WITHIN = [str(MAX - 1), str(MAX), "0" + str(MAX), "0" * 50 + str(MAX), str(2 ** 31)]
+ABOVE = [str(MAX + 1), str(MAX + 2), str(2 ** 33), str(10 ** 10), "00000" + str(MAX + 1), str(2 ** 64 - 1), str(2 ** 64), str(2 ** 64 + 1),
+         str(2 ** 64 + MAX), "9" * 19, "9" * 20, "1" + "0" * 40]
 
 
 # -- what an input means
@@ -140,17 +141,17 @@ def word_less(rng, lines):
 
 
 def long_line(rng, lines):
-    """A machine of 4091 to 4101 words, most of its records in no list; or so many words that are none."""
+    """A machine of 4091 to 4101 words, most of its records in no list; or so many words that are none. Returns how many."""
     total = rng.choice([4091, 4095, 4096, 4096, 4097, 4097, 4098, 4101])
     k = rng.randint(1, 2)
     if rng.random() < 0.2:
         lines[k] = [rng.choice([0, 1])] * total
-        return
+        return total
     states = next(s for s in range(1, 6) if (total - 6 - 3 * s) % 5 == 0)
     records = [[1, 1, 1, 0] for _ in range((total - 6 - 3 * states) // 5)]
     lines[k] = listed([records] + [[]] * (states - 1), [1] * states, [0, 0, 0])
     lines[k][6] = max(0, len(records) - rng.randint(0, 3))
-    assert len(lines[k]) == total
+    return len(lines[k])
 
 
 WORD_DAMAGE = [wrong_count, other_mark, other_start, other_first, other_final, other_next, other_target, other_label, other_setting, other_word, word_more,
@@ -203,9 +204,9 @@ def zeros(rng, data):
     return re.sub(rb"[0-9]+", lambda m: b"0" * rng.choice([1, 2, 9, 30, 700]) + m[0] if rng.random() < share else m[0], data)
 
 
-def a_word(rng, data, new):
-    """One word spelled otherwise: `new` gets its digits."""
-    found = list(re.finditer(rb"[0-9]+", data))
+def a_word(rng, data, new, sort=rb"[0-9]+"):
+    """One word of a sort spelled otherwise: `new` gets its digits."""
+    found = list(re.finditer(sort, data))
     if not found:
         return data
     m = rng.choice(found)
@@ -213,7 +214,9 @@ def a_word(rng, data, new):
 
 
 def at_the_limit(rng, data):
-    return a_word(rng, data, lambda _: rng.choice(LIMITS).encode())
+    """A word, or one that is MAX, becomes a number up to the limit or above it."""
+    sort = rng.choice([rb"[0-9]+", rb"4294967295"])
+    return a_word(rng, data, lambda _: rng.choice(rng.choice([WITHIN, ABOVE])).encode(), sort)
 
 
 def wrapped(rng, data):
@@ -259,8 +262,8 @@ def drawn(rng):
     for _ in range(harm[0]):
         how = rng.choice(WORD_DAMAGE)
         if all(len(m) > 6 for m in lines[1:]):
-            how(rng, lines)
-            done.append(how.__name__)
+            more = how(rng, lines)
+            done.append(how.__name__ + (f" {more}" if more else ""))
     data = "".join(" ".join(map(str, m)) + "\n" for m in lines).encode()
     for _ in range(harm[1]):
         how = rng.choice(BYTE_DAMAGE)
@@ -314,7 +317,10 @@ def main():
     for done in range(0, args.inputs, BATCH):
         batch = [drawn(rng) for _ in range(min(BATCH, args.inputs - done))]
         for (data, how), answer in zip(batch, wanted(oracle, [data for data, _ in batch])):
-            counts.update({f"damage {name}" for name in how} | {"answer " + (answer.strip() if answer.startswith("refused") else "a listing")})
+            said = answer.strip() if answer.startswith("refused") else "a listing"
+            counts.update({f"damage {name}" for name in how} | {f"answer {said}"})
+            if said not in ("refused 1", "refused 2", "refused 3"):
+                counts.update(f"damage {name}, still of well-formed words" for name in set(how))
             by_harness = subprocess.run([oracle, "composed", "--zero-final"], input=data, stdout=subprocess.PIPE, check=True).stdout.decode()
             got = printed(rng, composed, data)
             if not got == answer == by_harness:
