@@ -271,14 +271,15 @@ def large_case(rng, size=3):
     return [[kind, rng.randint(0, 2), MAX, 0, MAX, 0], None, None] + m
 
 
-def listed(states, finals, marks):
-    """The words of a machine whose states have lists of their own."""
+def listed(states, start=1, marks=(0, 0, 0)):
+    """The words of a machine: for each state its final weight or None and its
+    transitions (input, output, weight, target)."""
     words, recs = [], []
-    for list_, final in zip(states, finals):
-        words += [len(recs) + 1 if list_ else 0, int(final is not None), final or 0]
-        for i, r in enumerate(list_):
-            recs.append(list(r) + [len(recs) + 2 if i + 1 < len(list_) else 0])
-    return [len(states), len(recs), 1] + marks + words + sum(recs, [])
+    for final, trs in states:
+        words += [len(recs) + 1 if trs else 0, 0 if final is None else 1, final or 0]
+        for k, t in enumerate(trs):
+            recs.append(list(t) + [len(recs) + 2 if k + 1 < len(trs) else 0])
+    return [len(states), len(recs), start, *marks] + words + sum(recs, [])
 
 
 def full_transitions(rng):
@@ -292,10 +293,11 @@ def full_transitions(rng):
     chain = [[rng.randint(0, 3), 1, 1, rng.randrange(states)] for _ in range(length)]
     if rng.random() < 0.6:
         chain[rng.choice([rng.randrange(length), length - 1])][1:3] = rng.choice([[9, 1], [1, MAX - 1]])
-    machine1 = listed([chain] + [[]] * (states - 1), [rng.choice([None, 1])] * states, [0, 0, 0])
+    final = rng.choice([None, 1])
+    machine1 = listed([(final, chain)] + [(final, [])] * (states - 1))
     for s in range(1, states):
         machine1[6 + 3 * s] = rng.choice([1, length, length - 1, rng.randint(1, length)])
-    machine2 = listed([[[1, k % 5, 2, 0] for k in range(loops)]], [1], [1, 0, 0])
+    machine2 = listed([(1, [[1, k % 5, 2, 0] for k in range(loops)])], marks=(1, 0, 0))
     return [[kind, rng.randint(0, 2), MAX, 0, sigma, 0], None, None, machine1, machine2]
 
 
@@ -306,7 +308,7 @@ def full_states(rng):
     for k in (0, 1):
         n = length[k]
         row = [[0 if k else 1 + s % 3, 1 + s % 3 if k else 0, 1, s + 1] for s in range(n - 1)]
-        chains.append(listed([[r] for r in row] + [[]], [1] * n, [0, 0, 0]))
+        chains.append(listed([(1, [r]) for r in row] + [(1, [])]))
     return [[kind, rng.randint(0, 1), MAX, 0, MAX, 0], None, None] + chains
 
 

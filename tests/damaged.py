@@ -149,7 +149,7 @@ def long_line(rng, lines):
         return total
     states = next(s for s in range(1, 6) if (total - 6 - 3 * s) % 5 == 0)
     records = [[1, 1, 1, 0] for _ in range((total - 6 - 3 * states) // 5)]
-    lines[k] = listed([records] + [[]] * (states - 1), [1] * states, [0, 0, 0])
+    lines[k] = listed([(1, records)] + [(1, [])] * (states - 1))
     lines[k][6] = max(0, len(records) - rng.randint(0, 3))
     return len(lines[k])
 

@@ -34,7 +34,7 @@ def listing(settings, m1, m2, allowed1=None, allowed2=None):
 
 def weighing(w):
     """One state, final with weight w, and on it one transition 1:1 of weight w."""
-    return [1, 1, 1, 0, 0, 0, 1, 1, w, 1, 1, w, 0, 0]
+    return listed([(w, [(1, 1, w, 0)])])
 
 
 def stars():
@@ -57,7 +57,8 @@ end 4 3
     yield listing(plain(0, 0), weighing(2147483648), weighing(2147483647)), lambda a: a == "refused 12\n"
     yield listing(plain(1, 0), weighing(65535), weighing(65537)), lambda a: f"s 0 0 0 0 {MAX}\nt 1 1 {MAX} 0\n" in a
     yield listing(plain(1, 0), weighing(65536), weighing(65536)), lambda a: a == "refused 12\n"
-    marked1, marked2 = listed([[[1, 4, 0, 0], [2, 4, 0, 0]]], [None], [0, 1, 0]), listed([[[4, 7, 0, 0], [4, 8, 0, 0]]], [None], [1, 0, 0])
+    marked1 = listed([(None, [(1, 4, 0, 0), (2, 4, 0, 0)])], marks=(0, 1, 0))
+    marked2 = listed([(None, [(4, 7, 0, 0), (4, 8, 0, 0)])], marks=(1, 0, 0))
     yield listing(plain(0, 0), marked1, marked2), lambda a: a.split("\n")[2:6] == ["t 1 7 0 0", "t 1 8 0 0", "t 2 7 0 0", "t 2 8 0 0"]
 
 
@@ -72,12 +73,11 @@ def differences():
 def full():
     """1024 transition records and 1025; 1024 states and 1025; a weight too large, a walked sigma and lacking room in turn."""
     def loops(a, b, sigma=MAX, last=(1, 1)):
-        row = [[1, 1, 1, 0] for _ in range(a - 1)] + [[1, last[0], last[1], 0]]
-        return listing([0, 0, MAX, 0, sigma, 0], listed([row], [1], [0, 0, 0]), listed([[[1, 2, 2, 0]] * b], [1], [1, 0, 0]))
+        row = [(1, 1, 1, 0)] * (a - 1) + [(1, *last, 0)]
+        return listing([0, 0, MAX, 0, sigma, 0], listed([(1, row)]), listed([(1, [(1, 2, 2, 0)] * b)], marks=(1, 0, 0)))
 
     def chains(a, b):
-        rows = [[[[0 if k else 1, 1 if k else 0, 1, s + 1]] for s in range(n - 1)] + [[]] for k, n in ((0, a), (1, b))]
-        return listing(plain(0, 0), *(listed(r, [1] * len(r), [0, 0, 0]) for r in rows))
+        return listing(plain(0, 0), *(listed([(1, [(1 - k, k, 1, s + 1)]) for s in range(n - 1)] + [(1, [])]) for k, n in ((0, a), (1, b))))
 
     yield loops(32, 32)
     yield loops(25, 41)

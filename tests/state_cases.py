@@ -12,17 +12,8 @@ import subprocess
 import sys
 
 import rust
+from gen import listed as machine
 from machine import MAX
-
-
-def machine(states, start=1, marks=(0, 0, 0)):
-    """The words of a machine: for each state its final weight or None and its transitions (input, output, weight, target)."""
-    recs, heads = [], []
-    for final, trs in states:
-        heads += [len(recs) + 1 if trs else 0, 0 if final is None else 1, final or 0]
-        for k, t in enumerate(trs):
-            recs.append(list(t) + [len(recs) + 2 if k + 1 < len(trs) else 0])
-    return [len(states), len(recs), start, *marks] + heads + sum(recs, [])
 
 
 NO = MAX
