@@ -26,11 +26,11 @@ MAX = 4294967295
 
 def falls(firsts, recs, side):
     """Whether a label falls within the list of some state."""
-    listed = set(f for f in firsts if f)
+    met = set(f for f in firsts if f)
     for r in range(1, len(recs) + 1):
         nxt = recs[r - 1][4]
-        if r in listed and nxt:
-            listed.add(nxt)
+        if r in met and nxt:
+            met.add(nxt)
             if recs[nxt - 1][side] < recs[r - 1][side]:
                 return True
     return False
@@ -215,6 +215,7 @@ def allowed_of(rng):
 
 
 def any_case(rng):
+    """Any machines, settings and lists."""
     return case(rng, {"lists": True, "size": rng.choice([2, 3, 4, 5])})
 
 
@@ -312,6 +313,17 @@ def full_states(rng):
     return [[kind, rng.randint(0, 1), MAX, 0, MAX, 0], None, None] + chains
 
 
+def full_fan(rng):
+    """One expansion that finds some 1024 states: each pair of targets is another
+    one. From state 0 on, or (one state more) beside it."""
+    kind, beside = rng.randint(0, 1), rng.randint(0, 1)
+    machines = []
+    for k, width in enumerate(rng.choice([(32, 32), (31, 33), (25, 41), (16, 64)])):
+        fan = [(1 + i % 3, 1, 1, i + beside) if k == 0 else (1, 1 + i % 3, 1, i + beside) for i in range(width)]
+        machines.append(listed([(1, fan)] + [(1, [])] * (width - 1 + beside)))
+    return [[kind, rng.randint(0, 2), MAX, 0, MAX, 0], None, None] + machines
+
+
 def widened(rng, lines):
     """The same case with larger labels in the same order; 0 and MAX stay."""
     new = sorted(rng.sample(range(1, MAX), 9))
@@ -325,7 +337,8 @@ def widened(rng, lines):
 
 
 # how often each is drawn
-AIMS = [(any_case, 30), (sigma_case, 34), (epsilon_case, 14), (unsorted_case, 6), (large_case, 8), (damaged_case, 8), (full_transitions, 3), (full_states, 1)]
+AIMS = [(any_case, 30), (sigma_case, 34), (epsilon_case, 14), (unsorted_case, 6), (large_case, 8), (damaged_case, 8), (full_transitions, 3), (full_states, 1),
+        (full_fan, 1)]
 
 
 def mixed(rng):

@@ -133,9 +133,20 @@ def followed(c, order):
     return c.seen
 
 
+def memory(order, lines):
+    """How full memory is left, where the last line says."""
+    if lines[-1].startswith("end "):
+        states, trs = map(int, lines[-1].split()[1:])
+        yield from [f"more than 1000 {name} stored" for name, n in (("states", states), ("transitions", trs)) if n > 1000]
+    if order is not None and "refused 13" in lines:
+        after = lines[lines.index("refused 13"):]
+        if any(line.startswith("e ") for line in after):
+            yield "order, an expansion after refused 13"
+
+
 def features(case, answer):
     order, settings, allowed, machines = case[0], case[1], case[2:4], case[4:6]
-    lines = answer.split("\n")
+    lines = answer.rstrip("\n").split("\n")
     found = {"order of expansions" if order is not None else "whole listing"}
     if order == []:
         found.add("order, empty")
@@ -144,6 +155,7 @@ def features(case, answer):
         found = {f.replace("opening ", "listing ") for f in found}
     found |= {"final weight refused 12" for line in lines if line.startswith("s ") and line.endswith("refused 12")}
     found |= {line for line in lines[:1] if line.startswith("side")}
+    found.update(memory(order, lines))
     if "end 0 0" in lines:
         found.add("no state found")
     if len(settings) != 6:

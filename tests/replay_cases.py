@@ -5,7 +5,8 @@
 
 First the proved cases of document 01 but for the ninth, which needs a smaller memory than the form has; its "run only" case; its four slips; every
 chosen input of tests/state_cases.py; the inputs of docs/DIFFERENCES.md; memory filled to the last record and one beyond. Then cases drawn by oracle/gen.py
-from SEED, until each feature that tests/features.py names stands in WANTED of them and there are CASES in all. The same sources give the same files.
+from SEED, until each feature that tests/features.py names stands in WANTED of them (but for memory that is nearly full, whose answers are long) and there are CASES
+in all. The same sources give the same files.
 """
 import os
 import random
@@ -71,7 +72,7 @@ def differences():
 
 
 def full():
-    """1024 transition records and 1025; 1024 states and 1025; a weight too large, a walked sigma and lacking room in turn."""
+    """1024 transition records and 1025; 1024 states and 1025, in a run and in one expansion; a weight too large, a walked sigma and lacking room in turn."""
     def loops(a, b, sigma=MAX, last=(1, 1)):
         row = [(1, 1, 1, 0)] * (a - 1) + [(1, *last, 0)]
         return listing([0, 0, MAX, 0, sigma, 0], listed([(1, row)]), listed([(1, [(1, 2, 2, 0)] * b)], marks=(1, 0, 0)))
@@ -86,6 +87,12 @@ def full():
     yield loops(34, 32, sigma=9, last=(9, 1))
     yield chains(32, 32)
     yield chains(25, 41)
+    fan = [listed([(1, [(1, 1, 1, i + 1) for i in range(32)])] + [(1, [])] * 32) for _ in (0, 1)]
+    yield listing(plain(0, 0), *fan)
+    yield [[0, 1, 0]] + listing(plain(0, 0), *fan)[1:]
+    # state 1 lacks room for its 1024 transitions, state 2 does not for its 32
+    three = listed([(1, [(1, 1, 1, 1), (1, 1, 1, 2)]), (1, [(1, 1, 1, 0)] * 32), (1, [(2, 1, 1, 1)])])
+    yield [[0, 1, 2, 1, 0]] + listing(plain(0, 0), three, listed([(1, [(1, 2, 2, 0)] * 32)], marks=(1, 0, 0)))[1:]
 
 
 def chosen():
@@ -160,7 +167,7 @@ def main():
     for name, count in sorted(all_.counts.items()):
         print(f"{count:6} {name}")
     sizes = [os.path.getsize(os.path.join(folder, n)) for n in ("stdin", "stdout")]
-    lacking = [name for name, count in all_.counts.items() if count < WANTED]
+    lacking = sorted(f"{name} ({count})" for name, count in all_.counts.items() if count < WANTED)
     print(f"features in fewer than {WANTED} cases: {', '.join(lacking) or 'none'}")
     print(f"{len(all_.texts)} cases, {own} of them chosen; {sizes[0]} bytes in, {sizes[1]} bytes out; seed {SEED}")
 
