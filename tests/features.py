@@ -67,6 +67,9 @@ class Watched(Composition):
         return to
 
     def times(self, a, b):
+        exact = a + b if self.kind == 0 else a * b
+        if exact in (MAX - 1, MAX, MAX + 1) and not (self.kind == 0 and MAX in (a, b)):
+            self.seen.add(f"kind {self.kind}, exact product {exact}")
         w = super().times(a, b)
         if w == self.zero():
             self.seen.add("a product equal to zero")
