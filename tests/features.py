@@ -1,8 +1,8 @@
-"""What a case of `replay` shows: names of the rows of document 01 that it goes through, by the model in call_lists.py and the Rust's answer."""
+"""What a case of `replay` shows: names of the rows of document 01 that it goes through, by the model in model.py and the Rust's answer."""
 from collections import Counter
 from functools import cache
 
-from call_lists import Composition, Lent, Refused, side_for
+from model import Composition, Lent, Refused, side_for
 from machine import MAX, Words
 
 FILTERS = ("sequence", "alternate", "match")

@@ -1,0 +1,297 @@
+"""Document 01's calls, worked out from its text: the checks, the moves, the memory."""
+from machine import MAX, Words
+
+
+class Refused(Exception):
+    def __init__(self, number):
+        self.number = number
+
+
+def refuse(test, number):
+    if test:
+        raise Refused(number)
+
+
+class Lent:
+    """The two machines and their allowed lists (None: no list)."""
+
+    def __init__(self, m1, m2, allowed1, allowed2):
+        self.words, self.allowed = [m1, m2], [allowed1, allowed2]
+
+    def machines(self):
+        return Words(self.words[0]), Words(self.words[1])
+
+
+def side_for(settings, lent):
+    """Checks 1 to 7; the side: 0 input, 1 output, 2 both."""
+    kind, filter, sigma1, mode1, sigma2, mode2 = settings
+    refuse(kind > 1 or filter > 2 or mode1 > 2 or mode2 > 2, 1)
+    a, b = lent.machines()
+    refuse(not a.well_formed(), 2)
+    refuse(not b.well_formed(), 3)
+    refuse(sigma1 == 0 or sigma2 == 0, 4)
+    refuse(sigma1 != MAX and not a.sorted(1), 5)
+    refuse(sigma2 != MAX and not b.sorted(0), 6)
+    mark1, mark2 = a.word(4) == 1, b.word(3) == 1
+    if mark1 and mark2:
+        return 2
+    if mark1 or mark2:
+        return 1 if mark1 else 0
+    if a.sorted(1):
+        return 1
+    refuse(not b.sorted(0), 7)
+    return 0
+
+
+class Composition:
+    def __init__(self, settings, lent, side):
+        self.kind, self.filter = settings[:2]
+        self.sigma, self.mode = (settings[2], settings[4]), (settings[3], settings[5])
+        self.machines, self.allowed, self.side = lent.machines(), lent.allowed, side
+
+    def inner(self, k, t):
+        """The inner label of machine k's record t: an output of machine 1, an input of machine 2."""
+        return self.machines[k].tr(t, 1 - k)
+
+    def times(self, a, b):
+        if self.kind == 0:
+            if MAX in (a, b):
+                return MAX
+            refuse(a + b >= MAX, 12)
+            return a + b
+        refuse(a * b > MAX, 12)
+        return a * b
+
+    def zero(self):
+        return MAX if self.kind == 0 else 0
+
+    def has_sigma(self, k, s):
+        return self.sigma[k] != MAX and any(self.inner(k, t) == self.sigma[k] for t in self.machines[k].list(s))
+
+    def looked_up(self, s1, s2):
+        """The machine that is looked up, 0 or 1."""
+        if self.side < 2:
+            return 1 - self.side
+        at1, at2 = self.has_sigma(0, s1), self.has_sigma(1, s2)
+        refuse(at1 and at2, 10)
+        if at1 or at2:
+            return 0 if at1 else 1
+        return 1 if len(self.machines[0].list(s1)) <= len(self.machines[1].list(s2)) else 0
+
+    def record(self, k, t):
+        return [self.machines[k].tr(t, j) for j in range(4)]
+
+    def matches(self, k, s, x):
+        """The records of machine k at state s that match the label x, neither 0 nor MAX."""
+        sigma = self.sigma[k]
+        refuse(sigma != MAX and x == sigma, 11)
+        here = self.machines[k].list(s)
+        own = [t for t in here if self.inner(k, t) == x]
+        if own or sigma == MAX or self.allowed[k] is not None and x not in self.allowed[k]:
+            return [self.record(k, t) for t in own]
+        out = []
+        for t in here:
+            if self.inner(k, t) == sigma:
+                r = self.record(k, t)
+                if self.mode[k] == 1 or self.mode[k] == 0 and self.machines[k].word(5) == 1:
+                    r[0], r[1] = (x if r[0] == sigma else r[0]), (x if r[1] == sigma else r[1])
+                else:
+                    r[1 - k] = x
+                out.append(r)
+        return out
+
+    def cell(self, kind, states, f):
+        """The filters' table: the next f, or None where the move is dropped. kind: 0 or 1, that machine alone; "both"; "label"."""
+        none = [self.machines[k].none(1 - k, states[k]) for k in (0, 1)]
+        every = [self.machines[k].all(1 - k, states[k]) for k in (0, 1)]
+        if kind == "label":
+            return 0
+        if kind == "both":
+            return 0 if self.filter == 2 and f == 0 else None
+        if self.filter == 2:
+            other, own = 1 - kind, 1 + kind
+            if f == 0:
+                return 0 if none[other] else None if every[other] else own
+            return own if f == own else None
+        if self.filter == kind:
+            # sequence and machine 1, alternate and machine 2: the filter state decides
+            return (0 if f == 0 else None) if kind == 0 else (None if f == 1 else 0)
+        return None if every[1 - kind] else 0 if none[1 - kind] else 1
+
+    def steps(self, s1, s2, f):
+        """The kept moves in their order, each as input, output, weight and target triple. A refusal is raised at its place."""
+        states = (s1, s2)
+        m = self.looked_up(s1, s2)
+        w = 1 - m
+        rest = [[0, 0, 0 if self.kind == 0 else 1, states[k]] for k in (0, 1)]
+        epsilons = [self.record(m, t) for t in self.machines[m].list(states[m]) if self.inner(m, t) == 0]
+
+        def made(kind, walked, found):
+            g = self.cell(kind, states, f)
+            if g is None:
+                return
+            a, b = (walked, found) if w == 0 else (found, walked)
+            yield a[0], b[1], self.times(a[2], b[2]), (a[3], b[3], g)
+
+        for e in epsilons:
+            yield from made(m, rest[w], e)
+        for t in self.machines[w].list(states[w]):
+            r, x = self.record(w, t), self.inner(w, t)
+            if x == 0:
+                yield from made(w, r, rest[m])
+                for e in epsilons:
+                    yield from made("both", r, e)
+            else:
+                for e in self.matches(m, states[m], x):
+                    yield from made("label", r, e)
+
+    def final(self, s1, s2):
+        """The final weight, or None."""
+        a, b = self.machines
+        if a.state(s1, 1) != 1 or b.state(s2, 1) != 1:
+            return None
+        w = self.times(a.state(s1, 2), b.state(s2, 2))
+        return None if w == self.zero() else w
+
+    def start(self):
+        words = [m.word(2) for m in self.machines]
+        return (words[0] - 1, words[1] - 1, 0) if all(words) else None
+
+
+def room(slice):
+    return min(65535, len(slice) // 5)
+
+
+class World:
+    """The latest session and the three slices; each call answers a list of words, the refusal's number or 0 first."""
+
+    def __init__(self, heads, states, trs, session):
+        self.heads, self.states, self.trs, self.session = heads, states, trs, session
+
+    def calling(self, call, *args):
+        kept = list(self.heads), list(self.states), list(self.trs), list(self.session)
+        try:
+            return [0] + call(*args)
+        except Refused as r:
+            self.heads, self.states, self.trs, self.session = kept
+            return [r.number]
+
+    def state(self, n, k):
+        return self.states[5 * n + k]
+
+    def triple(self, n):
+        pair = self.state(n, 0)
+        return pair // 65536, pair % 65536, self.state(n, 1)
+
+    def form(self, S1, S2):
+        used, last = self.session[7:9]
+        if any(h > used for h in self.heads) or used and not self.heads:
+            return False
+        for n in range(used):
+            s1, s2, f = self.triple(n)
+            expanded, first, next = (self.state(n, k) for k in (2, 3, 4))
+            if s1 >= S1 or s2 >= S2 or f > 2 or expanded > 1 or first > last or next > n or expanded == 0 and first:
+                return False
+        for i in range(last):
+            target, next = self.trs[5 * i + 3:5 * i + 5]
+            if target >= used or next not in (0, i + 2) or next > last:
+                return False
+        return True
+
+    def entered(self, lent, n=None):
+        """Checks 1 to 8, and 9 where a state is asked for."""
+        side = side_for(self.session[:6], lent)
+        a, b = lent.machines()
+        used, last = self.session[7:9]
+        refuse(self.session[6] != side or used > room(self.states) or last > room(self.trs) or not self.form(a.S, b.S), 8)
+        refuse(n is not None and n >= used, 9)
+        return Composition(self.session[:6], lent, side)
+
+    def slot(self, t):
+        return (t[0] + 31 * t[1] + t[2]) % len(self.heads)
+
+    def find(self, t):
+        link = self.heads[self.slot(t)]
+        while link:
+            if self.triple(link - 1) == t:
+                return link - 1
+            link = self.state(link - 1, 4)
+        return None
+
+    def add(self, t):
+        n = self.session[7]
+        refuse(n >= room(self.states), 13)
+        self.states[5 * n:5 * n + 5] = [t[0] * 65536 + t[1], t[2], 0, 0, self.heads[self.slot(t)]]
+        self.heads[self.slot(t)] = n + 1
+        self.session[7] = n + 1
+        return n
+
+    def open(self, settings, lent):
+        side = side_for(settings, lent)
+        start = Composition(settings, lent, side).start()
+        refuse(start is not None and (room(self.states) == 0 or not self.heads), 13)
+        self.heads = [0] * len(self.heads)
+        self.session = list(settings) + [side, 0, 0]
+        if start is not None:
+            self.add(start)
+        return []
+
+    def part(self, n):
+        first = self.state(n, 3)
+        count, link = 0, first
+        while link:
+            count, link = count + 1, self.trs[5 * link - 1]
+        return [first, count]
+
+    def expand(self, n, lent):
+        return self.expansion(self.entered(lent, n), n)
+
+    def expansion(self, c, n):
+        if self.state(n, 2) == 1:
+            return self.part(n)
+        before = self.session[8]
+        for i, o, w, t in c.steps(*self.triple(n)):
+            refuse(self.session[8] >= room(self.trs), 13)
+            to = self.find(t)
+            to = self.add(t) if to is None else to
+            k = self.session[8]
+            if k > before:
+                self.trs[5 * k - 1] = k + 1
+            self.trs[5 * k:5 * k + 5] = [i, o, w, to, 0]
+            self.session[8] = k + 1
+        count = self.session[8] - before
+        first = before + 1 if count else 0
+        self.states[5 * n + 2:5 * n + 4] = [1, first]
+        return [first, count]
+
+    def final(self, n, lent):
+        w = self.entered(lent, n).final(*self.triple(n)[:2])
+        return [0] if w is None else [1, w]
+
+    def run(self, lent):
+        """Each expansion before a refused one stays."""
+        try:
+            c = self.entered(lent)
+        except Refused as r:
+            return [r.number]
+        n = 0
+        while n < self.session[7]:
+            number = self.calling(self.expansion, c, n)[0]
+            if number:
+                return [number]
+            n += 1
+        return [0]
+
+    def records(self, n, lent):
+        try:
+            self.entered(lent, n)
+        except Refused:
+            return []
+        first, count = self.part(n) if self.state(n, 2) == 1 else (0, 0)
+        return self.trs[5 * (first - 1):5 * (first - 1 + count)] if count else []
+
+    def mixed(self):
+        h = 0
+        for w in self.heads + self.states + self.trs:
+            h = (31 * h + w + 1) % 2 ** 32
+        return h
