@@ -11,12 +11,12 @@ use answers::leave_handed;
 use answers::leave_part;
 use answers::leave_weight;
 use fst::StateId;
+use session_checks::read_settings;
 use slices::ANSWER_WORDS;
 use slices::SESSION_WORDS;
 use slices::SETTINGS_WORDS;
 use slices::listed_by;
 use slices::read_session;
-use slices::read_settings;
 use slices::sized;
 use slices::write_answer;
 

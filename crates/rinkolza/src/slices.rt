@@ -3,15 +3,12 @@ ghost use mathlib.Core.Path.{_≡_};
 ghost use mathlib.Core.List.{[], _∷_};
 ghost use mathlib.Core.Bool.{_&&_};
 ghost use lib.ListN.{length};
-ghost use Rattle.calls.specs.Listing.{settingsOf};
-ghost use Rattle.session_checks.specs.Meaning.{settingsMeans};
 ghost use Rattle.lazy_fst.specs.Meaning.{sessionMeans};
 ghost use Rattle.rinkolza.specs.Exported.{sessionWords, sessionAt, listedBy, nine, two};
-use fst::Label;
 use fst::word;
 use lazy_fst::Listed;
 use lazy_fst::Session;
-use session_checks::Settings;
+use session_checks::read_settings;
 use store_records::Used;
 
 pub const SETTINGS_WORDS: usize = 6;
@@ -28,20 +25,6 @@ pub fn sized(session: &[u32], answer: &[u32]) -> bool
         return false;
     }
     answer.len() == ANSWER_WORDS
-}
-
-// The six settings.
-pub fn read_settings(words: &[u32]) -> Settings
-    ensures { λ r. ⌜ settingsMeans r ≡ settingsOf (now (words .entry)) ⌝ }
-{
-    Settings {
-        kind: word(words, 0),
-        filter: word(words, 1),
-        sigma1: Label(word(words, 2)),
-        mode1: word(words, 3),
-        sigma2: Label(word(words, 4)),
-        mode2: word(words, 5),
-    }
 }
 
 // The session of nine words.

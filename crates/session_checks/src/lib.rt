@@ -4,6 +4,7 @@ ghost use mathlib.Core.List.{List};
 ghost use mathlib.Core.Option.{Option};
 ghost use Prim.Native.Nat.{ℕ};
 ghost use Rattle.words.specs.Settings.{Settings as Six, settingsOk};
+ghost use Rattle.calls.specs.Listing.{settingsOf};
 ghost use Rattle.calls.specs.Checks.{sideNumber, sideFor, sessionOk, entered, enteredAt};
 ghost use Rattle.compose_fst_op.specs.Chosen.{sideMeans, chosenMeans};
 ghost use Rattle.store_records.specs.Meaning.{memoryOf};
@@ -15,6 +16,7 @@ use fst::Label;
 use fst::MatchType;
 use fst::StateId;
 use fst::num_states;
+use fst::word;
 use fst_properties::well_formed;
 use store_form::fits;
 use store_form::form_ok;
@@ -30,6 +32,20 @@ pub struct Settings {
     pub mode1: u32,
     pub sigma2: Label,
     pub mode2: u32,
+}
+
+// The six settings from words, in their order.
+pub fn read_settings(words: &[u32]) -> Settings
+    ensures { λ r. ⌜ settingsMeans r ≡ settingsOf (now (words .entry)) ⌝ }
+{
+    Settings {
+        kind: word(words, 0),
+        filter: word(words, 1),
+        sigma1: Label(word(words, 2)),
+        mode1: word(words, 3),
+        sigma2: Label(word(words, 4)),
+        mode2: word(words, 5),
+    }
 }
 
 const LAST_KIND: u32 = 1;

@@ -1,7 +1,7 @@
 -- Six words.
 use borrow.Author.Needs.{needs}
-use Rattle.rinkolza.proofs.slices.read_settings.Statement.{statement}
-use Rattle.rinkolza.proofs.slices.read_settings.Tie as tie
+use Rattle.session_checks.proofs.read_settings.Statement.{statement}
+use Rattle.session_checks.proofs.read_settings.Tie as tie
 
 returns : tie.Need-returns
 returns c = rw (c .before .before .before .before .before .word .ensures, c .before .before .before .before .word2 .ensures, c .before .before .before .word3 .ensures, c .before .before .word4 .ensures, c .before .word5 .ensures, c .word6 .ensures)
