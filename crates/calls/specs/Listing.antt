@@ -72,6 +72,10 @@ abbrev pub printed : Checked (List Line) → List Line
 printed (good lines) = lines
 printed (refused n) = refusedLine n ∷ []
 
--- "a settings line not of six such words is refused 1"; a line that is not of decimal words up to MAX counts as one without words
+-- "a settings line not of six such words is refused 1"; a line that is not of decimal words up to MAX counts as one without words. With any machines and allowed lists lent.
+abbrev pub listingOn : List ℕ → Lent → List Line
+listingOn w l = printed (cond (eqb (length w) 6) (composed (settingsOf w) l) (refused 1))
+
+-- "`composed` reads settings .. and both machines as decimal words, one line each, without allowed lists"
 unfoldable pub listing : List ℕ → List ℕ → List ℕ → List Line
-listing w m1 m2 = printed (cond (eqb (length w) 6) (composed (settingsOf w) (lentOf m1 m2)) (refused 1))
+listing w m1 m2 = listingOn w (lentOf m1 m2)

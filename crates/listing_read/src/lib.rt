@@ -6,8 +6,8 @@ ghost use Rattle.listing_text.specs.Chunks.{readByte, readBytes, inRooms};
 ghost use Rattle.listing_read.specs.Meaning.{inputOf, roomsOf, newReader, readerOf};
 pub use line::LineReader;
 pub use line::line_words;
-use line::new_line;
-use line::step_byte;
+pub use line::new_line;
+pub use line::step_byte;
 
 // How far the reading of the input is: the number of the line that is being read, and the three lines.
 pub struct Reader {

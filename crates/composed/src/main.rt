@@ -1,0 +1,57 @@
+// Reads settings and two machines, a line each, and prints the composed machine, or `refused n` and nothing more.
+ghost use Rattle.io.specs.Counts.{Counts};
+ghost use Rattle.listing_read.specs.Meaning.{inputOf, roomsOf};
+ghost use Rattle.composed.specs.Read.{Reads, Prints};
+use libc::STDIN_FILENO;
+use libc::STDOUT_FILENO;
+use listing::answer;
+use listing_read::Reader;
+use listing_read::new_reader;
+use listing_read::read_chunk;
+
+// More reads than can be made: at a thousand million a second they take 584 years.
+const MOST_CHUNKS: u64 = 18446744073709551615;
+
+// Reads up to the third line feed or the end of the input. Where a read fails, or the chunks are used up, a byte that is of no word is read last: the line that was being read is then malformed, and
+// never taken for a whole one.
+fn read_lines(settings: &mut [u32], first: &mut [u32], second: &mut [u32]) -> Reader
+    ensures { λ r. ⌜ Reads (roomsOf (now (settings .entry)) (now (first .entry)) (now (second .entry))) (inputOf r (now (settings .exit)) (now (first .exit)) (now (second .exit))) ⌝ }
+{
+    let mut chunk = io::large_buffer();
+    let mut r = new_reader();
+    let mut left = MOST_CHUNKS;
+    while left > 0 {
+        if 2 < r.at {
+            return r;
+        }
+        let got = libc::read(STDIN_FILENO, &mut chunk);
+        if got == 0 {
+            return r;
+        }
+        if got < 0 {
+            break;
+        }
+        let n = io::count(got, &chunk);
+        r = read_chunk(r, &chunk[..n], settings, first, second);
+        left -= 1;
+    }
+    read_chunk(r, b"!", settings, first, second)
+}
+
+// What is printed of the input, at the start of `out`.
+fn composed(out: &mut [u8; 131200]) -> usize
+    ensures { λ n. ⌜ Prints (now (out .entry)) (now (out .exit)) n ⌝ }
+    ensures counts { λ n. ⌜ Counts n (now (out .exit)) ⌝ }
+{
+    let mut settings = [0u32; 6];
+    let mut first = [0u32; 4096];
+    let mut second = [0u32; 4096];
+    let r = read_lines(&mut settings, &mut first, &mut second);
+    answer(r, &mut settings, &mut first, &mut second, out)
+}
+
+fn main() {
+    let mut out = [0u8; 131200];
+    let n = composed(&mut out);
+    io::write_all(STDOUT_FILENO, &out[..n]);
+}

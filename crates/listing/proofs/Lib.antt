@@ -1,0 +1,6 @@
+pub mod Few
+pub mod LinesFit
+pub mod WeightLaws
+pub mod LineLaws
+pub mod StageLaws
+pub mod AnswerLaws

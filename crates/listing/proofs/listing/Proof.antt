@@ -1,0 +1,48 @@
+-- `listing` meets its contract: not of six words, or the stages in memory of the listing's size.
+use mathlib.Core.Path.{_≡_, refl, sym, ap, _∙_}
+use mathlib.Core.List.{List, [], _∷_}
+use Prim.Native.Nat.{ℕ, _+_, _-_, _*_, _/_, _≤_, _<_}
+use native.Mathlib.Omega.{arith}
+use lib.ListN.{length}
+use borrow.Author.Needs.{needs}
+use Rattle.calls.specs.Store.{Memory}
+use Rattle.calls.specs.Calls.{Outcome, recordsOf}
+use Rattle.calls.specs.Listing.{trLines, sideLine, endLine, refusedLine, noSession, emptyMemory}
+use Rattle.session_checks.specs.Meaning.{settingsMeans, memoryOf}
+use Rattle.lazy_fst.specs.Meaning.{lentWith, sessionMeans, left}
+use Rattle.listing_text.specs.Printing.{lineBytes, bytesOf}
+use Rattle.listing_write.proofs.WrittenLaws.{then, same-text}
+use Rattle.listing.specs.Stages.{linesAt, linesFrom, Sized}
+use Rattle.listing.proofs.LineLaws.{bytes-one}
+use Rattle.listing.proofs.StageLaws.{not-six, six, counted}
+use Rattle.listing.proofs.listing.Statement.{statement}
+use Rattle.listing.proofs.listing.Tie as tie
+
+returns : tie.Need-returns
+returns c =
+    let a = c .before .before .before .before .before .before .before .before .args in
+    let w = c .put-refused in
+    let h : w .result ≤ length (w .last .0) = search needs in
+    (same-text (sym (bytes-one (refusedLine 1)) ∙ ap bytesOf (not-six (a .words .now) (lentWith (a .m1 .now) (a .m2 .now) (a .allowed1 .now) (a .allowed2 .now) (a .listed)) (c .before .before .if1 .taken))) (w .ensures .0), counted (w .result) (w .last .0) h)
+
+opened-requires : tie.Need-opened-requires
+opened-requires c κs = record { state-words = refl; tr-words = refl; bytes = search needs }
+
+returns-2 : tie.Need-returns-2
+returns-2 c =
+    let a = c .before .before .before .before .before .before .before .before .before .before .before .before .before .before .before .args in
+    let w = c .before .before .before .opened in
+    (same-text (ap bytesOf (six (a .words .now) (lentWith (a .m1 .now) (a .m2 .now) (a .allowed1 .now) (a .allowed2 .now) (a .listed)) _ (c .before .before .before .before .before .before .before .before .settings-of .ensures) (c .before .before .before .before .before .before .before .before .before .if1 .left))) (w .ensures .0), counted (w .result) (w .last .1 .1 .1 .1 .1 .1 .1 .1 .1 .0) (w .ensures .1))
+
+pub listing-spec : {M : Type 1} → statement M
+listing-spec =
+    tie.close
+    (tie.spec
+    (λ c κs. search needs)
+    returns
+    (λ c κs. search needs)
+    (λ c. search needs)
+    (λ c. search needs)
+    (λ c. search needs)
+    opened-requires
+    returns-2)

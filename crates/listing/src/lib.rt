@@ -1,0 +1,99 @@
+// The listing of document 01: from the words of its lines, or from a reader that has read them, to its bytes. No function of this file has a precondition.
+mod lines;
+mod stages;
+mod weights;
+
+ghost use mathlib.Core.Path.{_≡_};
+ghost use mathlib.Core.List.{List};
+ghost use Prim.Native.Nat.{ℕ};
+ghost use Rattle.io.specs.Counts.{Counts};
+ghost use Rattle.calls.specs.Listing.{listingOn, settingsOf};
+ghost use Rattle.listing_text.specs.Chunks.{opening, readBytes, inRooms, listingRooms};
+ghost use Rattle.listing_text.specs.Printing.{bytesOf, printedBytes};
+ghost use Rattle.listing_read.specs.Meaning.{inputOf, roomsOf};
+ghost use Rattle.listing_write.specs.Written.{Written};
+ghost use Rattle.session_checks.specs.Meaning.{settingsMeans};
+ghost use Rattle.lazy_fst.specs.Meaning.{lentWith};
+use fst::Label;
+use fst::word;
+use lazy_fst::Listed;
+use listing_read::Reader;
+use listing_read::line_words;
+use listing_write::put_refused;
+use session_checks::Settings;
+use stages::opened;
+
+// The six words in their order.
+pub fn settings_of(words: &[u32]) -> Settings
+    ensures { λ r. ⌜ settingsMeans r ≡ settingsOf (now (words .entry)) ⌝ }
+{
+    Settings {
+        kind: word(words, 0),
+        filter: word(words, 1),
+        sigma1: Label(word(words, 2)),
+        mode1: word(words, 3),
+        sigma2: Label(word(words, 4)),
+        mode2: word(words, 5),
+    }
+}
+
+// The listing of the machines under the settings of six words, with the allowed lists that are lent: its bytes stand at the start of `out`, and the answer is their number.
+pub fn listing(
+    words: &[u32],
+    m1: &[u32],
+    m2: &[u32],
+    allowed1: &[u32],
+    allowed2: &[u32],
+    listed: Listed,
+    out: &mut [u8; 131200],
+) -> usize
+    ensures { λ r. ⌜ Written (now (out .entry)) 0 (bytesOf (listingOn (now (words .entry)) (lentWith (now (m1 .entry)) (now (m2 .entry)) (now (allowed1 .entry)) (now (allowed2 .entry)) listed))) (now (out .exit)) r ⌝ }
+    ensures counts { λ r. ⌜ Counts r (now (out .exit)) ⌝ }
+{
+    if words.len() != 6 {
+        return put_refused(out, 0, 1);
+    }
+    let settings = settings_of(words);
+    let mut heads = [0u32; 64];
+    let mut states = [0u32; 5120];
+    let mut trs = [0u32; 5120];
+    opened(
+        settings,
+        m1,
+        m2,
+        allowed1,
+        allowed2,
+        listed,
+        &mut heads,
+        &mut states,
+        &mut trs,
+        out,
+    )
+}
+
+// What `composed` prints, when the input that the reader has read has ended; the slices have the listing's rooms.
+pub fn answer(
+    r: Reader,
+    settings: &mut [u32],
+    first: &mut [u32],
+    second: &mut [u32],
+    out: &mut [u8; 131200],
+) -> usize
+    ensures { λ n. ⌜ ((input : List ℕ) → roomsOf (now (settings .entry)) (now (first .entry)) (now (second .entry)) ≡ listingRooms → inputOf r (now (settings .entry)) (now (first .entry)) (now (second .entry)) ≡ inRooms listingRooms (readBytes opening input) → Written (now (out .entry)) 0 (printedBytes input) (now (out .exit)) n) ⌝ }
+    ensures counts { λ n. ⌜ Counts n (now (out .exit)) ⌝ }
+{
+    let s = r.settings;
+    let f = r.first;
+    let g = r.second;
+    let a = line_words(s, settings);
+    let b = line_words(f, first);
+    let c = line_words(g, second);
+    let words = &settings[..a];
+    let m1 = &first[..b];
+    let m2 = &second[..c];
+    let none = Listed {
+        first: false,
+        second: false,
+    };
+    listing(words, m1, m2, m1, m2, none, out)
+}

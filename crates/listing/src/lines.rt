@@ -1,0 +1,169 @@
+// The lines of the listing. Each function puts its lines into the buffer from a place on, and answers the place after them; no line is longer than 64 bytes.
+ghost use Prim.Native.Nat.{_+_, _*_, _/_, _≤_};
+ghost use mathlib.Core.List.{[], _∷_, _++_};
+ghost use lib.ListN.{length};
+ghost use Rattle.calls.specs.Store.{Memory, trSize};
+ghost use Rattle.calls.specs.Listing.{stateLine, sideLine, endLine, trLines};
+ghost use Rattle.store_records.specs.Meaning.{tupleMeans};
+ghost use Rattle.session_checks.specs.Meaning.{memoryOf};
+ghost use Rattle.lazy_fst.specs.Meaning.{lentWith, sessionMeans, weightLeft};
+ghost use Rattle.listing_text.specs.Printing.{lineBytes, bytesOf};
+ghost use Rattle.listing_write.specs.Written.{Written};
+ghost use Rattle.listing.specs.Stages.{givenWeight, linesAt, linesFrom, Room};
+use crate::weights::found;
+use fst::StateId;
+use fst::word;
+use lazy_fst::Listed;
+use lazy_fst::Session;
+use lazy_fst::WeightAnswer;
+use listing_write::put_end;
+use listing_write::put_side;
+use listing_write::put_state;
+use listing_write::put_tr;
+use store_records::ComposeStateTuple;
+use store_records::get_tuple;
+
+// A line for each of the records that were handed back.
+pub fn put_trs(out: &mut [u8], to: usize, records: &[u32]) -> usize
+    requires { ⌜ Room (now out) to (length (now records) / trSize) ⌝ }
+    ensures { λ r. ⌜ Written (now (out .entry)) to (bytesOf (trLines (now (records .entry)))) (now (out .exit)) r ⌝ }
+    ensures near { λ r. ⌜ r ≤ to + 64 * (length (now (records .entry)) / trSize) ⌝ }
+{
+    let count = records.len() / 5;
+    let mut at = to;
+    let mut i: usize = 0;
+    while i < count {
+        let k = 5 * i;
+        let input = word(records, k);
+        let output = word(records, k + 1);
+        let weight = word(records, k + 2);
+        let target = word(records, k + 3);
+        at = put_tr(out, at, input, output, weight, target);
+        i += 1;
+    }
+    at
+}
+
+// A state's own line, with the final weight that was answered.
+fn put_weighed(
+    out: &mut [u8],
+    to: usize,
+    n: StateId,
+    tuple: ComposeStateTuple,
+    weight: WeightAnswer,
+) -> usize
+    requires { ⌜ to + 64 ≤ length (now out) ⌝ }
+    ensures { λ r. ⌜ ((m : Memory) → Written (now (out .entry)) to (lineBytes (stateLine (n .0) (tupleMeans tuple) (givenWeight (weightLeft weight m .answer)))) (now (out .exit)) r) ⌝ }
+    ensures near { λ r. ⌜ r ≤ to + 64 ⌝ }
+{
+    let s1 = tuple.s1;
+    let s2 = tuple.s2;
+    let f = tuple.fs;
+    match weight {
+        WeightAnswer::Weight(w, _) => put_state(out, to, n.0, s1.0, s2.0, f, true, w),
+        WeightAnswer::NotFinal(_) => put_state(out, to, n.0, s1.0, s2.0, f, false, 0),
+        WeightAnswer::Refused(_, _) => put_state(out, to, n.0, s1.0, s2.0, f, false, 0),
+    }
+}
+
+// State n and its transitions.
+fn put_one(
+    session: Session,
+    m1: &[u32],
+    m2: &[u32],
+    allowed1: &[u32],
+    allowed2: &[u32],
+    listed: Listed,
+    heads: &[u32],
+    states: &[u32],
+    trs: &[u32],
+    n: StateId,
+    out: &mut [u8],
+    to: usize,
+) -> usize
+    requires { ⌜ Room (now out) to (length (linesAt (lentWith (now m1) (now m2) (now allowed1) (now allowed2) listed) (sessionMeans session) (memoryOf (now heads) (now states) (now trs)) (n .0))) ⌝ }
+    ensures { λ r. ⌜ Written (now (out .entry)) to (bytesOf (linesAt (lentWith (now (m1 .entry)) (now (m2 .entry)) (now (allowed1 .entry)) (now (allowed2 .entry)) listed) (sessionMeans session) (memoryOf (now (heads .entry)) (now (states .entry)) (now (trs .entry))) (n .0))) (now (out .exit)) r ⌝ }
+    ensures near { λ r. ⌜ r ≤ to + 64 * length (linesAt (lentWith (now (m1 .entry)) (now (m2 .entry)) (now (allowed1 .entry)) (now (allowed2 .entry)) listed) (sessionMeans session) (memoryOf (now (heads .entry)) (now (states .entry)) (now (trs .entry))) (n .0)) ⌝ }
+{
+    let weight = session.final_weight(m1, m2, allowed1, allowed2, listed, heads, states, trs, n);
+    let at = put_weighed(out, to, n, get_tuple(states, n), weight);
+    let records = session.records(m1, m2, allowed1, allowed2, listed, heads, states, trs, n);
+    put_trs(out, at, records)
+}
+
+// Every found state, in number order.
+fn put_states(
+    session: Session,
+    m1: &[u32],
+    m2: &[u32],
+    allowed1: &[u32],
+    allowed2: &[u32],
+    listed: Listed,
+    heads: &[u32],
+    states: &[u32],
+    trs: &[u32],
+    out: &mut [u8],
+    to: usize,
+) -> usize
+    requires { ⌜ Room (now out) to (length (linesFrom (lentWith (now m1) (now m2) (now allowed1) (now allowed2) listed) (sessionMeans session) (memoryOf (now heads) (now states) (now trs)) 0 (session .used .states))) ⌝ }
+    ensures { λ r. ⌜ Written (now (out .entry)) to (bytesOf (linesFrom (lentWith (now (m1 .entry)) (now (m2 .entry)) (now (allowed1 .entry)) (now (allowed2 .entry)) listed) (sessionMeans session) (memoryOf (now (heads .entry)) (now (states .entry)) (now (trs .entry))) 0 (session .used .states))) (now (out .exit)) r ⌝ }
+    ensures near { λ r. ⌜ r ≤ to + 64 * length (linesFrom (lentWith (now (m1 .entry)) (now (m2 .entry)) (now (allowed1 .entry)) (now (allowed2 .entry)) listed) (sessionMeans session) (memoryOf (now (heads .entry)) (now (states .entry)) (now (trs .entry))) 0 (session .used .states)) ⌝ }
+{
+    let count = found(session);
+    let mut at = to;
+    let mut n: u32 = 0;
+    while n < count {
+        let s = StateId(n);
+        at = put_one(
+            session,
+            m1,
+            m2,
+            allowed1,
+            allowed2,
+            listed,
+            heads,
+            states,
+            trs,
+            s,
+            out,
+            at,
+        );
+        n += 1;
+    }
+    at
+}
+
+// The whole listing of a store that was run to its end: the side, the states, the counts.
+pub fn put_listing(
+    session: Session,
+    m1: &[u32],
+    m2: &[u32],
+    allowed1: &[u32],
+    allowed2: &[u32],
+    listed: Listed,
+    heads: &[u32],
+    states: &[u32],
+    trs: &[u32],
+    out: &mut [u8],
+) -> usize
+    requires { ⌜ Room (now out) 128 (length (linesFrom (lentWith (now m1) (now m2) (now allowed1) (now allowed2) listed) (sessionMeans session) (memoryOf (now heads) (now states) (now trs)) 0 (session .used .states))) ⌝ }
+    ensures { λ r. ⌜ Written (now (out .entry)) 0 (bytesOf (sideLine (session .side) ∷ linesFrom (lentWith (now (m1 .entry)) (now (m2 .entry)) (now (allowed1 .entry)) (now (allowed2 .entry)) listed) (sessionMeans session) (memoryOf (now (heads .entry)) (now (states .entry)) (now (trs .entry))) 0 (session .used .states) ++ (endLine (session .used .states) (session .used .trs) ∷ []))) (now (out .exit)) r ⌝ }
+    ensures counts { λ r. ⌜ r ≤ length (now (out .exit)) ⌝ }
+{
+    let used = session.used;
+    let a = put_side(out, 0, session.side);
+    let b = put_states(
+        session,
+        m1,
+        m2,
+        allowed1,
+        allowed2,
+        listed,
+        heads,
+        states,
+        trs,
+        out,
+        a,
+    );
+    put_end(out, b, used.states, used.trs)
+}

@@ -1,0 +1,157 @@
+// "It opens, runs, then takes final weights in number order; the first refusal n prints `refused n` and nothing more."
+ghost use mathlib.Core.Path.{_≡_};
+ghost use Prim.Native.Nat.{_≤_};
+ghost use lib.ListN.{length};
+ghost use Rattle.calls.specs.Listing.{printed, listed as listedOf, noSession};
+ghost use Rattle.session_checks.specs.Meaning.{settingsMeans, memoryOf};
+ghost use Rattle.lazy_fst.specs.Meaning.{lentWith, sessionMeans};
+ghost use Rattle.listing_text.specs.Printing.{bytesOf};
+ghost use Rattle.listing_write.specs.Written.{Written};
+ghost use Rattle.listing.specs.Stages.{linesFrom, Room, Sized, FewLines, ranOf, openedOf};
+use crate::lines::put_listing;
+use crate::weights::Weighed;
+use crate::weights::weigh;
+use lazy_fst::Answer;
+use lazy_fst::Listed;
+use lazy_fst::Session;
+use listing_write::put_refused;
+use session_checks::Settings;
+use store_records::Used;
+
+// The session that the opening gets, unread.
+fn no_session(settings: Settings) -> Session
+    ensures { λ r. ⌜ sessionMeans r ≡ noSession (settingsMeans settings) ⌝ }
+{
+    Session {
+        settings,
+        side: 0,
+        used: Used { states: 0, trs: 0 },
+    }
+}
+
+// Opens, and goes on.
+pub fn opened(
+    settings: Settings,
+    m1: &[u32],
+    m2: &[u32],
+    allowed1: &[u32],
+    allowed2: &[u32],
+    listed: Listed,
+    heads: &mut [u32],
+    states: &mut [u32],
+    trs: &mut [u32],
+    out: &mut [u8],
+) -> usize
+    requires { ⌜ Sized (now states) (now trs) (now out) ⌝ }
+    ensures { λ r. ⌜ Written (now (out .entry)) 0 (bytesOf (printed (openedOf (settingsMeans settings) (lentWith (now (m1 .entry)) (now (m2 .entry)) (now (allowed1 .entry)) (now (allowed2 .entry)) listed) (noSession (settingsMeans settings)) (memoryOf (now (heads .entry)) (now (states .entry)) (now (trs .entry)))))) (now (out .exit)) r ⌝ }
+    ensures counts { λ r. ⌜ r ≤ length (now (out .exit)) ⌝ }
+{
+    let got = no_session(settings);
+    let answer = got.open(
+        settings,
+        m1,
+        m2,
+        allowed1,
+        allowed2,
+        listed,
+        heads,
+        states,
+        trs,
+    );
+    match answer {
+        Answer::Refused(k, _) => put_refused(out, 0, k),
+        Answer::Accepted(session) => ran(
+            session,
+            m1,
+            m2,
+            allowed1,
+            allowed2,
+            listed,
+            heads,
+            states,
+            trs,
+            out,
+        ),
+    }
+}
+
+// Runs, and goes on.
+fn ran(
+    session: Session,
+    m1: &[u32],
+    m2: &[u32],
+    allowed1: &[u32],
+    allowed2: &[u32],
+    listed: Listed,
+    heads: &mut [u32],
+    states: &mut [u32],
+    trs: &mut [u32],
+    out: &mut [u8],
+) -> usize
+    requires { ⌜ Sized (now states) (now trs) (now out) ⌝ }
+    requires few { ⌜ FewLines (lentWith (now m1) (now m2) (now allowed1) (now allowed2) listed) (sessionMeans session) (memoryOf (now heads) (now states) (now trs)) ⌝ }
+    ensures { λ r. ⌜ Written (now (out .entry)) 0 (bytesOf (printed (ranOf (lentWith (now (m1 .entry)) (now (m2 .entry)) (now (allowed1 .entry)) (now (allowed2 .entry)) listed) (sessionMeans session) (memoryOf (now (heads .entry)) (now (states .entry)) (now (trs .entry)))))) (now (out .exit)) r ⌝ }
+    ensures counts { λ r. ⌜ r ≤ length (now (out .exit)) ⌝ }
+{
+    let answer = session.run(m1, m2, allowed1, allowed2, listed, heads, states, trs);
+    match answer {
+        Answer::Refused(k, _) => put_refused(out, 0, k),
+        Answer::Accepted(next) => weighed(
+            next,
+            m1,
+            m2,
+            allowed1,
+            allowed2,
+            listed,
+            heads,
+            states,
+            trs,
+            out,
+        ),
+    }
+}
+
+// Takes all final weights, and only then puts a line.
+fn weighed(
+    session: Session,
+    m1: &[u32],
+    m2: &[u32],
+    allowed1: &[u32],
+    allowed2: &[u32],
+    listed: Listed,
+    heads: &[u32],
+    states: &[u32],
+    trs: &[u32],
+    out: &mut [u8],
+) -> usize
+    requires { ⌜ Room (now out) 128 (length (linesFrom (lentWith (now m1) (now m2) (now allowed1) (now allowed2) listed) (sessionMeans session) (memoryOf (now heads) (now states) (now trs)) 0 (session .used .states))) ⌝ }
+    ensures { λ r. ⌜ Written (now (out .entry)) 0 (bytesOf (printed (listedOf (lentWith (now (m1 .entry)) (now (m2 .entry)) (now (allowed1 .entry)) (now (allowed2 .entry)) listed) (sessionMeans session) (memoryOf (now (heads .entry)) (now (states .entry)) (now (trs .entry)))))) (now (out .exit)) r ⌝ }
+    ensures counts { λ r. ⌜ r ≤ length (now (out .exit)) ⌝ }
+{
+    let weights = weigh(
+        session,
+        m1,
+        m2,
+        allowed1,
+        allowed2,
+        listed,
+        heads,
+        states,
+        trs,
+    );
+    match weights {
+        Weighed::Refused(k) => put_refused(out, 0, k),
+        Weighed::All => put_listing(
+            session,
+            m1,
+            m2,
+            allowed1,
+            allowed2,
+            listed,
+            heads,
+            states,
+            trs,
+            out,
+        ),
+    }
+}

@@ -1,0 +1,77 @@
+// The final weights in number order, before a line is put.
+ghost use mathlib.Core.Path.{_≡_};
+ghost use Rattle.calls.specs.Store.{Memory};
+ghost use Rattle.session_checks.specs.Meaning.{memoryOf};
+ghost use Rattle.lazy_fst.specs.Meaning.{lentWith, sessionMeans, weightLeft};
+ghost use Rattle.listing.specs.Stages.{verdict, weightsFrom};
+use fst::StateId;
+use lazy_fst::Listed;
+use lazy_fst::Session;
+use lazy_fst::WeightAnswer;
+
+// Whether every final weight was answered; else the number of the first refusal.
+pub enum Weighed {
+    All,
+    Refused(u32),
+}
+
+// The number of a refusal, if it is one.
+fn judged(weight: WeightAnswer) -> Weighed
+    ensures { λ r. ⌜ ((m : Memory) → r ≡ verdict (weightLeft weight m .answer)) ⌝ }
+{
+    match weight {
+        WeightAnswer::Refused(k, _) => Weighed::Refused(k),
+        WeightAnswer::Weight(_, _) => Weighed::All,
+        WeightAnswer::NotFinal(_) => Weighed::All,
+    }
+}
+
+// How many states are found.
+pub fn found(session: Session) -> u32
+    ensures { λ r. ⌜ r ≡ session .used .states ⌝ }
+{
+    let used = session.used;
+    used.states
+}
+
+// Takes the final weight of each found state, in number order, up to the first refusal.
+pub fn weigh(
+    session: Session,
+    m1: &[u32],
+    m2: &[u32],
+    allowed1: &[u32],
+    allowed2: &[u32],
+    listed: Listed,
+    heads: &[u32],
+    states: &[u32],
+    trs: &[u32],
+) -> Weighed
+    ensures { λ r. ⌜ r ≡ verdict (weightsFrom (lentWith (now (m1 .entry)) (now (m2 .entry)) (now (allowed1 .entry)) (now (allowed2 .entry)) listed) (sessionMeans session) (memoryOf (now (heads .entry)) (now (states .entry)) (now (trs .entry))) 0 (session .used .states)) ⌝ }
+{
+    let count = found(session);
+    let mut n: u32 = 0;
+    while n < count {
+        let s = StateId(n);
+        let weight = session.final_weight(
+            m1,
+            m2,
+            allowed1,
+            allowed2,
+            listed,
+            heads,
+            states,
+            trs,
+            s,
+        );
+        let one = judged(weight);
+        match one {
+            Weighed::Refused(k) => {
+                return Weighed::Refused(k);
+            }
+            Weighed::All => {
+                n += 1;
+            }
+        }
+    }
+    Weighed::All
+}

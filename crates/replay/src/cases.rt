@@ -1,0 +1,138 @@
+// The lines of a case, read byte by byte; the case is answered when its last line ends.
+ghost use Prim.Native.Nat.{_≤_};
+use crate::order::print_order;
+use fst::word;
+use lazy_fst::Listed;
+use libc::STDOUT_FILENO;
+use listing::listing;
+use listing_read::LineReader;
+use listing_read::new_line;
+use listing_read::step_byte;
+use store_records::store;
+
+// The words of a line.
+const ROOM: usize = 4096;
+
+// The end of a line that is not of words.
+const NO_WORDS: u32 = 4294967295;
+
+// The line of the case that is being read, and whether a byte of the case was read.
+pub struct Place {
+    pub at: u32,
+    pub begun: bool,
+    pub line: LineReader,
+}
+
+pub fn new_place() -> Place {
+    Place {
+        at: 0,
+        begun: false,
+        line: new_line(),
+    }
+}
+
+fn least(a: usize, b: usize) -> usize
+    ensures { λ r. ⌜ (r ≤ a) × (r ≤ b) ⌝ }
+{
+    if a <= b { a } else { b }
+}
+
+// The room of line k.
+fn room_of<'a>(words: &'a mut [u32], k: u32) -> &'a mut [u32] {
+    let from = least(ROOM * k as usize, words.len());
+    let to = from + least(ROOM, words.len() - from);
+    &mut words[from..to]
+}
+
+// The words of line k.
+fn words_of<'a>(words: &'a [u32], ends: &[u32], k: u32) -> &'a [u32] {
+    let end = word(ends, k as usize);
+    let from = least(ROOM * k as usize, words.len());
+    if end == NO_WORDS {
+        return &words[from..from];
+    }
+    let to = from + least(end as usize, words.len() - from);
+    &words[from..to]
+}
+
+// Whether line k is of words.
+fn has_words(ends: &[u32], k: u32) -> bool {
+    word(ends, k as usize) != NO_WORDS
+}
+
+// The whole listing of the case, or its expansions in order.
+fn answer(words: &[u32], ends: &[u32]) {
+    let order = words_of(words, ends, 0);
+    let settings = words_of(words, ends, 1);
+    let allowed1 = words_of(words, ends, 2);
+    let allowed2 = words_of(words, ends, 3);
+    let m1 = words_of(words, ends, 4);
+    let m2 = words_of(words, ends, 5);
+    let listed = Listed {
+        first: has_words(ends, 2),
+        second: has_words(ends, 3),
+    };
+    let mut out = [0u8; 131200];
+    if has_words(ends, 0) {
+        print_order(order, settings, m1, m2, allowed1, allowed2, listed);
+    } else {
+        let n = listing(settings, m1, m2, allowed1, allowed2, listed, &mut out);
+        io::write_all(STDOUT_FILENO, &out[..n]);
+    }
+    io::write_all(STDOUT_FILENO, b"--\n");
+}
+
+// The line ends, as if a blank came: how many words it has is kept, and after the sixth line the case is answered.
+fn end_line(place: Place, words: &mut [u32], ends: &mut [u32]) -> Place {
+    let at = place.at;
+    let line = step_byte(place.line, b' ', room_of(words, at));
+    if line.bad {
+        store(ends, at as usize, NO_WORDS);
+    } else {
+        store(ends, at as usize, (line.count % 4294967296) as u32);
+    }
+    if at < 5 {
+        return Place {
+            at: at + 1,
+            begun: true,
+            line: new_line(),
+        };
+    }
+    answer(words, ends);
+    new_place()
+}
+
+fn read_byte(place: Place, b: u8, words: &mut [u32], ends: &mut [u32]) -> Place {
+    if b == 10 {
+        return end_line(place, words, ends);
+    }
+    let at = place.at;
+    Place {
+        at,
+        begun: true,
+        line: step_byte(place.line, b, room_of(words, at)),
+    }
+}
+
+pub fn read_bytes(start: Place, chunk: &[u8], words: &mut [u32], ends: &mut [u32]) -> Place {
+    let mut place = start;
+    let mut i = 0;
+    while i < chunk.len() {
+        place = read_byte(place, chunk[i], words, ends);
+        i += 1;
+    }
+    place
+}
+
+// The input has ended: a case that was begun is answered, its missing lines being empty.
+pub fn finish(start: Place, words: &mut [u32], ends: &mut [u32]) {
+    let mut place = start;
+    let mut left: u32 = 6;
+    while left > 0 {
+        if !place.begun {
+            return;
+        }
+        place = end_line(place, words, ends);
+        left -= 1;
+    }
+}

@@ -1,0 +1,29 @@
+// Many cases, one after the other. A case has six lines:
+// 1 `-` for the whole listing, or state numbers, which are expanded in this order; 2 the settings; 3, 4 the allowed lists of machine 1 and 2, `-` for no list; 5, 6 the machines.
+// The answer to a case ends in a line `--`. A line has room for 4096 words; for line 1, 3 and 4, any line that is not of words stands for `-`.
+mod cases;
+mod order;
+
+use cases::Place;
+use cases::finish;
+use cases::new_place;
+use cases::read_bytes;
+use libc::STDIN_FILENO;
+
+fn main() {
+    let mut words = [0u32; 24576];
+    let mut ends = [0u32; 6];
+    let mut chunk = io::large_buffer();
+    let mut place = new_place();
+    let mut left: u64 = 18446744073709551615;
+    while left > 0 {
+        let got = libc::read(STDIN_FILENO, &mut chunk);
+        if got <= 0 {
+            break;
+        }
+        let n = io::count(got, &chunk);
+        place = read_bytes(place, &chunk[..n], &mut words, &mut ends);
+        left -= 1;
+    }
+    finish(place, &mut words, &mut ends);
+}
