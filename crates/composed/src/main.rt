@@ -1,5 +1,8 @@
 // Reads settings and two machines, a line each, and prints the composed machine, or `refused n` and nothing more.
+ghost use mathlib.Core.Path.{_≡_};
+ghost use mathlib.Core.List.{[], _∷_};
 ghost use Rattle.io.specs.Counts.{Counts};
+ghost use Rattle.listing_text.specs.Chunks.{inRooms, readBytes};
 ghost use Rattle.listing_read.specs.Meaning.{inputOf, roomsOf};
 ghost use Rattle.composed.specs.Read.{Reads, Prints};
 use libc::STDIN_FILENO;
@@ -12,8 +15,14 @@ use listing_read::read_chunk;
 // More reads than can be made: at a thousand million a second they take 584 years.
 const MOST_CHUNKS: u64 = 18446744073709551615;
 
-// Reads up to the third line feed or the end of the input. Where a read fails, or the chunks are used up, a byte that is of no word is read last: the line that was being read is then malformed, and
-// never taken for a whole one.
+// A byte that is of no word: the line that is being read is not of words, and never taken for a whole one.
+fn spoil(r: Reader, settings: &mut [u32], first: &mut [u32], second: &mut [u32]) -> Reader
+    ensures { λ n. ⌜ inputOf n (now (settings .exit)) (now (first .exit)) (now (second .exit)) ≡ inRooms (roomsOf (now (settings .entry)) (now (first .entry)) (now (second .entry))) (readBytes (inputOf r (now (settings .entry)) (now (first .entry)) (now (second .entry))) (33 ∷ [])) ⌝ }
+{
+    read_chunk(r, b"!", settings, first, second)
+}
+
+// Reads up to the third line feed or the end of the input. Where a read fails, or the chunks are used up, the line that is being read is spoiled.
 fn read_lines(settings: &mut [u32], first: &mut [u32], second: &mut [u32]) -> Reader
     ensures { λ r. ⌜ Reads (roomsOf (now (settings .entry)) (now (first .entry)) (now (second .entry))) (inputOf r (now (settings .exit)) (now (first .exit)) (now (second .exit))) ⌝ }
 {
@@ -29,13 +38,13 @@ fn read_lines(settings: &mut [u32], first: &mut [u32], second: &mut [u32]) -> Re
             return r;
         }
         if got < 0 {
-            break;
+            return spoil(r, settings, first, second);
         }
         let n = io::count(got, &chunk);
         r = read_chunk(r, &chunk[..n], settings, first, second);
         left -= 1;
     }
-    read_chunk(r, b"!", settings, first, second)
+    spoil(r, settings, first, second)
 }
 
 // What is printed of the input, at the start of `out`.

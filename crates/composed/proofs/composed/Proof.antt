@@ -1,0 +1,30 @@
+-- `composed` meets its contract: what came is answered.
+use mathlib.Core.Path.{_≡_}
+use native.Mathlib.Omega.{arith}
+use lib.ListN.{length}
+use borrow.Author.Needs.{needs}
+use Rattle.composed.proofs.composed.Statement.{statement}
+use Rattle.composed.proofs.composed.Tie as tie
+
+returns : tie.Need-returns
+returns c =
+    let h = c .before .before .before .before .before .before .before .before .before .before .before .read-lines .ensures in
+    let w = c .before .before .before .answer .ensures in
+    let x : length (c .before .before .before .before .before .before .before .before .before .before .before .read-lines .last .0) ≡ 6 = omega (arith, c .before .before .before .before .before .before .before .before .before .before .settings2 .given) in
+    let y : length (c .before .before .before .before .before .before .before .before .before .before .before .read-lines .last .1 .0) ≡ 4096 = omega (arith, c .before .before .before .before .before .before .before .before .before .first2 .given) in
+    let z : length (c .before .before .before .before .before .before .before .before .before .before .before .read-lines .last .1 .1 .0) ≡ 4096 = omega (arith, c .before .before .before .before .before .before .before .before .second2 .given) in
+    ((h .0, w .0 (h .0) (λ k. record { settings = x k; first = y k; second = z k }) (h .1)), w .1)
+
+pub composed-spec : {M : Type 1} → statement M
+composed-spec =
+    tie.close
+    (tie.spec
+    (λ c. search needs)
+    (λ c. search needs)
+    (λ c. search needs)
+    (λ c κs. search needs)
+    (λ c. search needs)
+    (λ c. search needs)
+    (λ c. search needs)
+    (λ c κs. search needs)
+    returns)

@@ -1,0 +1,97 @@
+-- `read_lines` meets its contract. The loop's invariant: the reader and the words stand for the reading of some bytes, those that came.
+use mathlib.Core.Path.{_≡_, refl, _∙_}
+use mathlib.Core.List.{List, [], _∷_}
+use native.Mathlib.Omega.{arith}
+use lib.ListN.{length}
+use borrow.Author.Needs.{needs}
+use Rattle.listing_read.specs.Meaning.{inputOf, roomsOf}
+use Rattle.composed.specs.Read.{Reads}
+use Rattle.composed.proofs.ReadLaws.{none-came, more-came}
+use Rattle.composed.proofs.read_lines.Statement.{statement}
+use Rattle.composed.proofs.read_lines.Tie as tie
+
+abbrev Inv-loop : tie.InvT-loop
+Inv-loop settings₀ first₀ second₀ chunk₀ r₀ left₀ settings first second chunk r left =
+    (65536 ≡ length chunk) × (length settings ≡ length settings₀) × (length first ≡ length first₀) × (length second ≡ length second₀)
+    × Reads (roomsOf settings₀ first₀ second₀) (inputOf r settings first second)
+
+abbrev μ-loop : tie.MeasureT-loop
+μ-loop settings₀ first₀ second₀ chunk₀ r₀ left₀ settings first second chunk r left = left
+
+loop-holds : tie.Need-loop-holds Inv-loop μ-loop
+loop-holds c =
+    let a = c .before .before .before .before .before .args in
+    (c .before .large-buffer .ensures, refl, refl, refl, none-came (c .new-reader .result) (a .settings .now) (a .first .now) (a .second .now) (c .new-reader .ensures))
+
+returns : tie.Need-returns Inv-loop μ-loop
+returns c = c .before .before .before .loop .inv .4
+
+returns-2 : tie.Need-returns-2 Inv-loop μ-loop
+returns-2 c = c .before .before .before .before .before .before .before .loop .inv .4
+
+returns-3 : tie.Need-returns-3 Inv-loop μ-loop
+returns-3 c =
+    let a = c .before .before .before .before .before .before .before .before .before .before .before .before .before .before .before .before .before .before .before .before .before .before .before .before .args in
+    let p = c .before .before .before .before .before .before .before .before .before .before .before .before .before .before .before .before .before .before .loop in
+    let w = c .before .before .before .before .before .before .spoil in
+    more-came (a .settings .now) (a .first .now) (a .second .now) (p .settings) (p .first) (p .second) (inputOf (p .r) (p .settings) (p .first) (p .second)) (inputOf (w .result) (w .last .1 .0) (w .last .1 .1 .0) (w .last .1 .1 .1 .0)) (33 ∷ []) (p .inv .1) (p .inv .2) (p .inv .3) (p .inv .4) (w .ensures)
+
+loop-again : tie.Need-loop-again Inv-loop μ-loop
+loop-again c =
+    let a = c .before .before .before .before .before .before .before .before .before .before .before .before .before .before .before .before .before .before .before .before .before .before .before .before .before .before .before .args in
+    let p = c .before .before .before .before .before .before .before .before .before .before .before .before .before .before .before .before .before .before .before .before .before .loop in
+    let w = c .before .before .before .before .before .before .read-chunk in
+    let x : length (w .last .1 .1 .0) ≡ length (p .settings) = search needs in
+    let y : length (w .last .1 .1 .1 .0) ≡ length (p .first) = search needs in
+    let z : length (w .last .1 .1 .1 .1 .0) ≡ length (p .second) = search needs in (
+      omega (arith, c .before .before .before .before .before .before .before .before .before .before .before .before .before .before .before .chunk2 .given, p .inv .0),
+      x ∙ p .inv .1,
+      y ∙ p .inv .2,
+      z ∙ p .inv .3,
+      more-came (a .settings .now) (a .first .now) (a .second .now) (p .settings) (p .first) (p .second) (inputOf (p .r) (p .settings) (p .first) (p .second)) (inputOf (w .result) (w .last .1 .1 .0) (w .last .1 .1 .1 .0) (w .last .1 .1 .1 .1 .0)) _ (p .inv .1) (p .inv .2) (p .inv .3) (p .inv .4) (w .ensures),
+    )
+
+returns-4 : tie.Need-returns-4 Inv-loop μ-loop
+returns-4 c =
+    let a = c .before .before .before .before .before .before .before .before .before .before .before .before .before .before .before .before .before .args in
+    let p = c .before .before .before .before .before .before .before .before .before .before .before .loop in
+    let w = c .before .before .before .before .before .before .spoil2 in
+    more-came (a .settings .now) (a .first .now) (a .second .now) (p .settings) (p .first) (p .second) (inputOf (p .r) (p .settings) (p .first) (p .second)) (inputOf (w .result) (w .last .1 .0) (w .last .1 .1 .0) (w .last .1 .1 .1 .0)) (33 ∷ []) (p .inv .1) (p .inv .2) (p .inv .3) (p .inv .4) (w .ensures)
+
+pub read-lines-spec : {M : Type 1} → statement M
+read-lines-spec =
+    tie.close
+    (tie.spec
+    Inv-loop
+    μ-loop
+    (λ c κs. search needs)
+    (λ c κs. search needs)
+    loop-holds
+    (λ c. search needs)
+    (λ c. search needs)
+    (λ c. search needs)
+    returns
+    (λ c. search needs)
+    (λ c κs. search needs)
+    (λ c. search needs)
+    (λ c. search needs)
+    (λ c. search needs)
+    returns-2
+    (λ c κs. search needs)
+    (λ c. search needs)
+    (λ c. search needs)
+    (λ c. search needs)
+    returns-3
+    (λ c. search needs)
+    (λ c κs. search needs)
+    (λ c. search needs)
+    (λ c. search needs)
+    (λ c κs. search needs)
+    (λ c. search needs)
+    (λ c. search needs)
+    loop-again
+    (λ c κs. search needs)
+    (λ c. search needs)
+    (λ c. search needs)
+    (λ c. search needs)
+    returns-4)
