@@ -21,7 +21,9 @@ use listing_read::Reader;
 use listing_read::line_words;
 use listing_write::put_refused;
 use session_checks::Settings;
+pub use stages::no_session;
 use stages::opened;
+pub use weights::found;
 
 // The six words in their order.
 pub fn settings_of(words: &[u32]) -> Settings

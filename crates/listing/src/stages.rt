@@ -19,7 +19,7 @@ use session_checks::Settings;
 use store_records::Used;
 
 // The session that the opening gets, unread.
-fn no_session(settings: Settings) -> Session
+pub fn no_session(settings: Settings) -> Session
     ensures { λ r. ⌜ sessionMeans r ≡ noSession (settingsMeans settings) ⌝ }
 {
     Session {

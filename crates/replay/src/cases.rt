@@ -82,15 +82,19 @@ fn answer(words: &[u32], ends: &[u32]) {
     io::write_all(STDOUT_FILENO, b"--\n");
 }
 
+// What is kept of a line that ended.
+fn end_of(line: LineReader) -> u32 {
+    if line.bad {
+        return NO_WORDS;
+    }
+    (line.count % 4294967296) as u32
+}
+
 // The line ends, as if a blank came: how many words it has is kept, and after the sixth line the case is answered.
 fn end_line(place: Place, words: &mut [u32], ends: &mut [u32]) -> Place {
     let at = place.at;
     let line = step_byte(place.line, b' ', room_of(words, at));
-    if line.bad {
-        store(ends, at as usize, NO_WORDS);
-    } else {
-        store(ends, at as usize, (line.count % 4294967296) as u32);
-    }
+    store(ends, at as usize, end_of(line));
     if at < 5 {
         return Place {
             at: at + 1,

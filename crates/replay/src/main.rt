@@ -4,26 +4,30 @@
 mod cases;
 mod order;
 
-use cases::Place;
 use cases::finish;
 use cases::new_place;
 use cases::read_bytes;
 use libc::STDIN_FILENO;
 
+// Reads to the end of the input, chunk by chunk, and answers each case as its last line ends.
+fn read_cases(words: &mut [u32], ends: &mut [u32], chunk: &mut [u8]) {
+    let mut place = new_place();
+    let mut left: u64 = 18446744073709551615;
+    while left > 0 {
+        let got = libc::read(STDIN_FILENO, chunk);
+        if got <= 0 {
+            finish(place, words, ends);
+            return;
+        }
+        let n = io::count(got, chunk);
+        place = read_bytes(place, &chunk[..n], words, ends);
+        left -= 1;
+    }
+}
+
 fn main() {
     let mut words = [0u32; 24576];
     let mut ends = [0u32; 6];
     let mut chunk = io::large_buffer();
-    let mut place = new_place();
-    let mut left: u64 = 18446744073709551615;
-    while left > 0 {
-        let got = libc::read(STDIN_FILENO, &mut chunk);
-        if got <= 0 {
-            break;
-        }
-        let n = io::count(got, &chunk);
-        place = read_bytes(place, &chunk[..n], &mut words, &mut ends);
-        left -= 1;
-    }
-    finish(place, &mut words, &mut ends);
+    read_cases(&mut words, &mut ends, &mut chunk);
 }

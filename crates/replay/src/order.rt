@@ -1,4 +1,6 @@
 // Expansions in any order: the side; for each number `e n` and its transitions, or the refusal; at the end the found states and the counts.
+ghost use Prim.Native.Nat.{_/_, _<_, _≤_};
+ghost use lib.ListN.{length};
 use fst::StateId;
 use fst::word;
 use lazy_fst::Answer;
@@ -7,6 +9,8 @@ use lazy_fst::PartAnswer;
 use lazy_fst::Session;
 use lazy_fst::WeightAnswer;
 use libc::STDOUT_FILENO;
+use listing::found;
+use listing::no_session;
 use listing::settings_of;
 use listing_write::put_end;
 use listing_write::put_refused;
@@ -15,56 +19,72 @@ use listing_write::put_state;
 use listing_write::put_tr;
 use session_checks::Settings;
 use store_records::ComposeStateTuple;
-use store_records::Used;
 use store_records::get_tuple;
 
-fn print_refused(k: u32) {
-    let mut line = [0u8; 64];
-    let n = put_refused(&mut line, 0, k);
-    io::write_all(STDOUT_FILENO, &line[..n]);
+// The first n bytes of a line.
+fn show(line: &[u8], n: usize) {
+    if n <= line.len() {
+        io::write_all(STDOUT_FILENO, &line[0..n]);
+    }
 }
 
-fn print_records(records: &[u32]) {
-    let mut line = [0u8; 64];
+fn print_refused(line: &mut [u8], k: u32)
+    requires { ⌜ 64 ≤ length (now line) ⌝ }
+{
+    let n = put_refused(line, 0, k);
+    show(line, n);
+}
+
+fn print_tr(line: &mut [u8], records: &[u32], i: usize)
+    requires { ⌜ (64 ≤ length (now line)) × (i < length (now records) / 5) ⌝ }
+{
+    let k = 5 * i;
+    let input = word(records, k);
+    let output = word(records, k + 1);
+    let weight = word(records, k + 2);
+    let target = word(records, k + 3);
+    let n = put_tr(line, 0, input, output, weight, target);
+    show(line, n);
+}
+
+fn print_records(line: &mut [u8], records: &[u32])
+    requires { ⌜ 64 ≤ length (now line) ⌝ }
+{
     let count = records.len() / 5;
     let mut i: usize = 0;
     while i < count {
-        let k = 5 * i;
-        let n = put_tr(
-            &mut line,
-            0,
-            word(records, k),
-            word(records, k + 1),
-            word(records, k + 2),
-            word(records, k + 3),
-        );
-        io::write_all(STDOUT_FILENO, &line[..n]);
+        print_tr(line, records, i);
         i += 1;
     }
 }
 
 // `s`, with `refused 12` in the place of a final weight that is refused.
-fn print_state(n: u32, tuple: ComposeStateTuple, weight: WeightAnswer) {
-    let mut line = [0u8; 64];
+fn print_state(line: &mut [u8], n: u32, tuple: ComposeStateTuple, weight: WeightAnswer)
+    requires { ⌜ 64 ≤ length (now line) ⌝ }
+{
     let s1 = tuple.s1;
     let s2 = tuple.s2;
     let f = tuple.fs;
     match weight {
         WeightAnswer::Weight(w, _) => {
-            let k = put_state(&mut line, 0, n, s1.0, s2.0, f, true, w);
-            io::write_all(STDOUT_FILENO, &line[..k]);
+            let k = put_state(line, 0, n, s1.0, s2.0, f, true, w);
+            show(line, k);
         }
         WeightAnswer::NotFinal(_) => {
-            let k = put_state(&mut line, 0, n, s1.0, s2.0, f, false, 0);
-            io::write_all(STDOUT_FILENO, &line[..k]);
+            let k = put_state(line, 0, n, s1.0, s2.0, f, false, 0);
+            show(line, k);
         }
         WeightAnswer::Refused(r, _) => {
-            let k = put_state(&mut line, 0, n, s1.0, s2.0, f, false, 0);
-            let cut = if k < 2 { 0 } else { k - 2 };
-            io::write_all(STDOUT_FILENO, &line[..cut]);
-            print_refused(r);
+            let k = put_state(line, 0, n, s1.0, s2.0, f, false, 0);
+            show(line, less_two(k));
+            print_refused(line, r);
         }
     }
+}
+
+// Without the last two bytes.
+fn less_two(k: usize) -> usize {
+    if k < 2 { 0 } else { k - 2 }
 }
 
 // One expansion, and the records as they are then handed back.
@@ -78,20 +98,24 @@ fn expand(
     heads: &mut [u32],
     states: &mut [u32],
     trs: &mut [u32],
+    line: &mut [u8],
     n: u32,
-) -> Session {
+) -> Session
+    requires { ⌜ 64 ≤ length (now line) ⌝ }
+{
     let s = StateId(n);
     let answer = session.expand(m1, m2, allowed1, allowed2, listed, heads, states, trs, s);
     match answer {
         PartAnswer::Refused(k, next) => {
-            print_refused(k);
+            print_refused(line, k);
             next
         }
         PartAnswer::Part(_, next) => {
             io::write_all(STDOUT_FILENO, b"e ");
             io::print_decimal(STDOUT_FILENO, n as u64);
             io::write_all(STDOUT_FILENO, b"\n");
-            print_records(next.records(m1, m2, allowed1, allowed2, listed, heads, states, trs, s));
+            let records = next.records(m1, m2, allowed1, allowed2, listed, heads, states, trs, s);
+            print_records(line, records);
             next
         }
     }
@@ -109,10 +133,15 @@ fn expand_all(
     heads: &mut [u32],
     states: &mut [u32],
     trs: &mut [u32],
-) -> Session {
+    line: &mut [u8],
+) -> Session
+    requires { ⌜ 64 ≤ length (now line) ⌝ }
+{
     let mut session = opened;
     let mut i: usize = 0;
     while i < order.len() {
+        let n = order[i];
+        i += 1;
         session = expand(
             session,
             m1,
@@ -123,9 +152,9 @@ fn expand_all(
             heads,
             states,
             trs,
-            order[i],
+            line,
+            n,
         );
-        i += 1;
     }
     session
 }
@@ -141,9 +170,11 @@ fn print_states(
     heads: &[u32],
     states: &[u32],
     trs: &[u32],
-) {
-    let used = session.used;
-    let count = used.states;
+    line: &mut [u8],
+)
+    requires { ⌜ 64 ≤ length (now line) ⌝ }
+{
+    let count = found(session);
     let mut n: u32 = 0;
     while n < count {
         let s = StateId(n);
@@ -158,9 +189,23 @@ fn print_states(
             trs,
             s,
         );
-        print_state(n, get_tuple(states, s), weight);
+        print_state(line, n, get_tuple(states, s), weight);
         n += 1;
     }
+}
+
+fn print_side(line: &mut [u8], side: u32)
+    requires { ⌜ 64 ≤ length (now line) ⌝ }
+{
+    let n = put_side(line, 0, side);
+    show(line, n);
+}
+
+fn print_end(line: &mut [u8], states: u32, trs: u32)
+    requires { ⌜ 64 ≤ length (now line) ⌝ }
+{
+    let n = put_end(line, 0, states, trs);
+    show(line, n);
 }
 
 // An accepted opening: the side, the expansions, the found states, the counts.
@@ -175,10 +220,11 @@ fn opened(
     heads: &mut [u32],
     states: &mut [u32],
     trs: &mut [u32],
-) {
-    let mut line = [0u8; 64];
-    let a = put_side(&mut line, 0, session.side);
-    io::write_all(STDOUT_FILENO, &line[..a]);
+    line: &mut [u8],
+)
+    requires { ⌜ 64 ≤ length (now line) ⌝ }
+{
+    print_side(line, session.side);
     let last = expand_all(
         session,
         order,
@@ -190,19 +236,67 @@ fn opened(
         heads,
         states,
         trs,
+        line,
     );
-    print_states(last, m1, m2, allowed1, allowed2, listed, heads, states, trs);
+    print_states(
+        last,
+        m1,
+        m2,
+        allowed1,
+        allowed2,
+        listed,
+        heads,
+        states,
+        trs,
+        line,
+    );
     let used = last.used;
-    let mut text = [0u8; 64];
-    let b = put_end(&mut text, 0, used.states, used.trs);
-    io::write_all(STDOUT_FILENO, &text[..b]);
+    print_end(line, used.states, used.trs);
 }
 
-fn no_session(settings: Settings) -> Session {
-    Session {
+// The expansions of a case, in lent memory.
+fn print_in(
+    order: &[u32],
+    settings: Settings,
+    m1: &[u32],
+    m2: &[u32],
+    allowed1: &[u32],
+    allowed2: &[u32],
+    listed: Listed,
+    heads: &mut [u32],
+    states: &mut [u32],
+    trs: &mut [u32],
+    line: &mut [u8],
+)
+    requires { ⌜ 64 ≤ length (now line) ⌝ }
+{
+    let got = no_session(settings);
+    let answer = got.open(
         settings,
-        side: 0,
-        used: Used { states: 0, trs: 0 },
+        m1,
+        m2,
+        allowed1,
+        allowed2,
+        listed,
+        heads,
+        states,
+        trs,
+    );
+    match answer {
+        Answer::Refused(k, _) => print_refused(line, k),
+        Answer::Accepted(session) => opened(
+            session,
+            order,
+            m1,
+            m2,
+            allowed1,
+            allowed2,
+            listed,
+            heads,
+            states,
+            trs,
+            line,
+        ),
     }
 }
 
@@ -216,17 +310,17 @@ pub fn print_order(
     allowed2: &[u32],
     listed: Listed,
 ) {
+    let mut line = [0u8; 64];
     if words.len() != 6 {
-        print_refused(1);
+        print_refused(&mut line, 1);
         return;
     }
-    let settings = settings_of(words);
     let mut heads = [0u32; 64];
     let mut states = [0u32; 5120];
     let mut trs = [0u32; 5120];
-    let got = no_session(settings);
-    let answer = got.open(
-        settings,
+    print_in(
+        order,
+        settings_of(words),
         m1,
         m2,
         allowed1,
@@ -235,20 +329,6 @@ pub fn print_order(
         &mut heads,
         &mut states,
         &mut trs,
+        &mut line,
     );
-    match answer {
-        Answer::Refused(k, _) => print_refused(k),
-        Answer::Accepted(session) => opened(
-            session,
-            order,
-            m1,
-            m2,
-            allowed1,
-            allowed2,
-            listed,
-            &mut heads,
-            &mut states,
-            &mut trs,
-        ),
-    }
 }
