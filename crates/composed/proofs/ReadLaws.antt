@@ -1,9 +1,9 @@
 -- A chunk read after others: some bytes came, whatever the chunks.
-use mathlib.Core.Path.{_≡_, refl, ap, _∙_}
+use mathlib.Core.Path.{_≡_, ap, _∙_}
 use mathlib.Core.List.{List, [], _++_}
 use Prim.Native.Nat.{ℕ}
 use lib.ListN.{length}
-use Rattle.listing_text.specs.Chunks.{Input, Rooms, opening, readBytes, inRooms}
+use Rattle.listing_text.specs.Chunks.{Input, opening, readBytes, inRooms}
 use Rattle.listing_text.proofs.Chunks.{next-chunk}
 use Rattle.listing_read.specs.Meaning.{inputOf, roomsOf, newReader}
 use Rattle.listing_read.specs.declared.Reader.{Reader}

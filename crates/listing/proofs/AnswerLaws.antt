@@ -1,7 +1,7 @@
 -- What is listed of the words that the reader has left is what `composed` prints of the bytes that were read.
-use mathlib.Core.Path.{_≡_, refl, sym, ap, _∙_}
+use mathlib.Core.Path.{_≡_, refl, sym, _∙_}
 use mathlib.Core.Bool.{Bool, true, false, cond}
-use mathlib.Core.List.{List, []}
+use mathlib.Core.List.{List}
 use mathlib.Core.Option.{none}
 use Prim.Native.Nat.{ℕ, _≤_}
 use native.Mathlib.Omega.{arith}
@@ -12,7 +12,7 @@ use Rattle.words.specs.Settings.{Lent}
 use Rattle.calls.specs.Listing.{machineLine, listingOn, listing}
 use Rattle.calls.proofs.ListingLaws.{line-taken}
 use Rattle.listing_text.specs.Reading.{Scan, reading, notWords, ended, kept}
-use Rattle.listing_text.specs.Chunks.{Input, Rooms, opening, readBytes, within, inRooms, lineWords, listingRooms}
+use Rattle.listing_text.specs.Chunks.{opening, readBytes, within, inRooms, lineWords, listingRooms}
 use Rattle.listing_text.specs.Printing.{bytesOf, printedBytes}
 use Rattle.listing_text.proofs.SameListing.{same-listing}
 use Rattle.listing_read.specs.Meaning.{scanOf, inputOf, roomsOf}

@@ -1,21 +1,20 @@
 -- Lines put one after the other: what is left to put, after one more, is the rest.
 use mathlib.Core.Path.{_≡_, refl, sym, ap, _∙_}
 use mathlib.Core.List.{List, [], _∷_, _++_, map, flatMap, append-assoc}
-use Prim.Native.Nat.{ℕ, zero, suc, _+_, _-_, _*_, _/_, _≤_, _<_}
+use Prim.Native.Nat.{ℕ, _+_, _-_, _*_, _/_, _≤_, _<_}
 use native.Mathlib.Nat.{add-zero, sub-zero}
 use native.Mathlib.Omega.{arith}
-use lib.ListN.{length, getD, length-append, length-map}
-use Rattle.lists.specs.Lists.{interval, put}
+use lib.ListN.{length, getD, length-append}
+use Rattle.lists.specs.Lists.{interval}
 use Rattle.lists.proofs.Put.{put-none}
 use Rattle.words.specs.Settings.{Lent}
 use Rattle.calls.specs.Store.{Memory, trField}
 use Rattle.calls.specs.Checks.{Session}
-use Rattle.calls.specs.Listing.{Line, trLine, trLines, refusedLine}
+use Rattle.calls.specs.Listing.{Line, trLine, trLines}
 use Rattle.listing_text.specs.Printing.{lineBytes, bytesOf}
 use Rattle.listing_write.specs.Written.{Written}
 use Rattle.listing_write.proofs.WrittenLaws.{then, same-text}
 use Rattle.listing.specs.Stages.{linesAt, linesFrom}
-use Rattle.listing.proofs.Few.{length-interval}
 use Rattle.listing.proofs.WeightLaws.{interval-on}
 
 -- the bytes of lines one after the other

@@ -1,9 +1,9 @@
 -- An accepted opening and run leave no more lines than used records: every found state is expanded, and no transition record stands in two lists (demand 3).
-use mathlib.Core.Path.{_≡_, refl, sym, ap, _∙_}
-use mathlib.Core.List.{List, [], _∷_, _++_, flatMap, map, List·Memᴰ as In}
-use Prim.Native.Nat.{ℕ, suc, _+_, _-_, _*_, _/_, _≤_, _<_}
+use mathlib.Core.Path.{_≡_, refl, ap, _∙_}
+use mathlib.Core.List.{List, [], _∷_, flatMap}
+use Prim.Native.Nat.{ℕ, _+_, _-_, _*_, _/_, _≤_, _<_}
 use native.Mathlib.Omega.{arith}
-use lib.ListN.{length, take, drop, length-take, length-map}
+use lib.ListN.{length, drop, length-take, length-map}
 use Rattle.lists.specs.Lists.{interval}
 use Rattle.lists.proofs.Members.{of-flat, of-interval}
 use Rattle.words.specs.Labels.{good}

@@ -2,7 +2,7 @@
 use mathlib.Core.Path.{_≡_, refl, sym, ap, _∙_}
 use mathlib.Core.List.{List, [], _∷_, _++_, map, flatMap}
 use mathlib.Core.Option.{Option}
-use Prim.Native.Nat.{ℕ, zero, suc, _+_, _-_, _≤_, _<_}
+use Prim.Native.Nat.{ℕ, suc, _+_, _-_, _≤_, _<_}
 use native.Mathlib.Nat.{sub-zero}
 use native.Mathlib.Omega.{arith}
 use Rattle.lists.specs.Lists.{interval}
@@ -11,7 +11,7 @@ use Rattle.words.specs.Settings.{Lent}
 use Rattle.calls.specs.Store.{Memory}
 use Rattle.calls.specs.Checks.{Session}
 use Rattle.calls.specs.Calls.{finalWeightOf}
-use Rattle.calls.specs.Listing.{Line, sideLine, endLine, stateLines, statesListed, joined, listed, printed, refusedLine}
+use Rattle.calls.specs.Listing.{Line, sideLine, endLine, stateLines, joined, listed, printed, refusedLine}
 use Rattle.listing.specs.declared.weights.Weighed.{Weighed}
 use Rattle.listing.specs.declared.weights.Weighed.the-variants.{All, Refused}
 use Rattle.listing.specs.Stages.{verdict, weightsFrom, givenWeight, linesAt, linesFrom}

@@ -1,6 +1,6 @@
 -- `read_lines` meets its contract. The loop's invariant: the reader and the words stand for the reading of some bytes, those that came.
 use mathlib.Core.Path.{_≡_, refl, _∙_}
-use mathlib.Core.List.{List, [], _∷_}
+use mathlib.Core.List.{[], _∷_}
 use native.Mathlib.Omega.{arith}
 use lib.ListN.{length}
 use borrow.Author.Needs.{needs}

@@ -1,5 +1,4 @@
 -- `answer` meets its contract: the words that the lines are left with are listed.
-use mathlib.Core.Path.{_≡_, refl, sym, ap, _∙_}
 use borrow.Author.Needs.{needs}
 use Rattle.listing_write.proofs.WrittenLaws.{same-text}
 use Rattle.listing.proofs.AnswerLaws.{answered}

@@ -1,5 +1,4 @@
 -- `settings_of` meets its contract: each word is read.
-use mathlib.Core.Path.{_≡_, refl, _∙_}
 use borrow.Author.Needs.{needs}
 use Rattle.listing.proofs.settings_of.Statement.{statement}
 use Rattle.listing.proofs.settings_of.Tie as tie

@@ -1,18 +1,14 @@
 -- `put_one` meets its contract: the state's own line, then its records.
-use mathlib.Core.Path.{_≡_, refl, sym, ap, _∙_}
-use mathlib.Core.List.{List, [], _∷_}
-use Prim.Native.Nat.{ℕ, _+_, _-_, _*_, _/_, _≤_, _<_}
+use mathlib.Core.Path.{_≡_, ap}
+use mathlib.Core.List.{List}
+use Prim.Native.Nat.{ℕ, _/_}
 use native.Mathlib.Omega.{arith}
 use lib.ListN.{length}
 use borrow.Author.Needs.{needs}
-use Rattle.calls.specs.Store.{Memory}
-use Rattle.calls.specs.Calls.{Outcome, recordsOf}
-use Rattle.calls.specs.Listing.{trLines, sideLine, endLine, refusedLine, noSession, emptyMemory}
-use Rattle.session_checks.specs.Meaning.{settingsMeans, memoryOf}
-use Rattle.lazy_fst.specs.Meaning.{lentWith, sessionMeans, left}
-use Rattle.listing_text.specs.Printing.{lineBytes, bytesOf}
+use Rattle.calls.specs.Calls.{recordsOf}
+use Rattle.session_checks.specs.Meaning.{memoryOf}
+use Rattle.lazy_fst.specs.Meaning.{lentWith, sessionMeans}
 use Rattle.listing_write.proofs.WrittenLaws.{then, same-text}
-use Rattle.listing.specs.Stages.{linesAt, linesFrom, Sized}
 use Rattle.listing.proofs.LinesFit.{tr-lines-length}
 use Rattle.listing.proofs.StageLaws.{one-state}
 use Rattle.listing.proofs.lines.put_one.Statement.{statement}

@@ -1,18 +1,14 @@
 -- `put_states` meets its contract. The loop's invariant: the lines from state n on, put from here, are all lines put from the start.
-use mathlib.Core.Path.{_≡_, refl, sym, ap, _∙_}
-use mathlib.Core.List.{List, [], _∷_}
-use Prim.Native.Nat.{ℕ, _+_, _-_, _*_, _/_, _≤_, _<_}
+use mathlib.Core.Path.{_≡_, refl, ap, _∙_}
+use Prim.Native.Nat.{ℕ, _+_, _-_, _*_, _≤_}
 use native.Mathlib.Omega.{arith}
 use lib.ListN.{length}
 use borrow.Author.Needs.{needs}
-use Rattle.calls.specs.Store.{Memory}
-use Rattle.calls.specs.Calls.{Outcome, recordsOf}
-use Rattle.calls.specs.Listing.{trLines, sideLine, endLine, refusedLine, noSession, emptyMemory}
-use Rattle.session_checks.specs.Meaning.{settingsMeans, memoryOf}
+use Rattle.session_checks.specs.Meaning.{memoryOf}
 use Rattle.lazy_fst.specs.Meaning.{lentWith, sessionMeans, left}
-use Rattle.listing_text.specs.Printing.{lineBytes, bytesOf}
-use Rattle.listing_write.proofs.WrittenLaws.{then, same-text}
-use Rattle.listing.specs.Stages.{linesAt, linesFrom, Sized}
+use Rattle.listing_text.specs.Printing.{bytesOf}
+use Rattle.listing_write.proofs.WrittenLaws.{same-text}
+use Rattle.listing.specs.Stages.{linesAt, linesFrom}
 use Rattle.listing.proofs.LineLaws.{Rest, rest-on, rest-done, states-start, states-turn, states-done, states-length}
 use Rattle.listing.proofs.lines.put_states.Statement.{statement}
 use Rattle.listing.proofs.lines.put_states.Tie as tie

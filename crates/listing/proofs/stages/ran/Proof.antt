@@ -1,18 +1,13 @@
 -- `ran` meets its contract: the run's refusal, or what comes after it; an accepted run leaves few lines.
 use mathlib.Core.Path.{_≡_, refl, sym, ap, _∙_}
-use mathlib.Core.List.{List, [], _∷_}
-use Prim.Native.Nat.{ℕ, _+_, _-_, _*_, _/_, _≤_, _<_}
 use native.Mathlib.Omega.{arith}
 use lib.ListN.{length}
 use borrow.Author.Needs.{needs}
-use Rattle.calls.specs.Store.{Memory}
-use Rattle.calls.specs.Calls.{Outcome, recordsOf}
-use Rattle.calls.specs.Listing.{trLines, sideLine, endLine, refusedLine, noSession, emptyMemory}
-use Rattle.session_checks.specs.Meaning.{settingsMeans, memoryOf}
+use Rattle.calls.specs.Listing.{refusedLine}
+use Rattle.session_checks.specs.Meaning.{memoryOf}
 use Rattle.lazy_fst.specs.Meaning.{lentWith, sessionMeans, left}
-use Rattle.listing_text.specs.Printing.{lineBytes, bytesOf}
-use Rattle.listing_write.proofs.WrittenLaws.{then, same-text}
-use Rattle.listing.specs.Stages.{linesAt, linesFrom, Sized}
+use Rattle.listing_text.specs.Printing.{bytesOf}
+use Rattle.listing_write.proofs.WrittenLaws.{same-text}
 use Rattle.listing.proofs.LineLaws.{bytes-one}
 use Rattle.listing.proofs.StageLaws.{ran-refused, ran-accepted, ran-few, lines-room}
 use Rattle.listing.proofs.stages.ran.Statement.{statement}
