@@ -3,7 +3,6 @@ ghost use mathlib.Core.Path.{_≡_};
 ghost use mathlib.Core.Bool.{true};
 ghost use mathlib.Core.List.{List};
 ghost use Prim.Native.Nat.{ℕ};
-ghost use Rattle.calls.specs.Store.{sameTriple};
 ghost use Rattle.store_records.specs.Meaning.{tupleMeans};
 ghost use Rattle.compose_weigh.specs.Weigh.{reachedWithin, isNew, countState, weighOf};
 ghost use Rattle.compose_weigh.specs.Meaning.{stepsOf, storeIn, countedMeans, weighedMeans};

@@ -4,7 +4,7 @@ use mathlib.Core.Logic.{_↔_, _⊎_, inl, inr, ⊎-elim}
 use Prim.Native.Nat.{ℕ, zero, suc, _+_, _*_, _≤_, _<_, min}
 use native.Mathlib.Nat.{mul-comm, mul-assoc, one-mul, zero-mul, mul-zero, mul-add, add-comm, min-comm, min-le-left, min-le-right, min-eq-left, le-min, add-min-add-right, mul-pos}
 use native.Mathlib.Omega.{arith}
-use Rattle.papers.specs.Weight.{Semiring, CommutativeSemiring, Cost, finite, infinite, least, sum, tropical, Kind, cost, count, semiring}
+use Rattle.papers.specs.Weight.{CommutativeSemiring, Cost, finite, infinite, least, sum, tropical, Kind, cost, count, semiring}
 
 min-assoc : (a b c : ℕ) → min (min a b) c ≡ min a (min b c)
 min-assoc a b c =
