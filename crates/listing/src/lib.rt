@@ -7,37 +7,20 @@ ghost use mathlib.Core.Path.{_≡_};
 ghost use mathlib.Core.List.{List};
 ghost use Prim.Native.Nat.{ℕ};
 ghost use Rattle.io.specs.Counts.{Counts};
-ghost use Rattle.calls.specs.Listing.{listingOn, settingsOf};
+ghost use Rattle.calls.specs.Listing.{listingOn};
 ghost use Rattle.listing_text.specs.Chunks.{opening, readBytes, inRooms, listingRooms};
 ghost use Rattle.listing_text.specs.Printing.{bytesOf, printedBytes};
 ghost use Rattle.listing_read.specs.Meaning.{inputOf, roomsOf};
 ghost use Rattle.listing_write.specs.Written.{Written};
-ghost use Rattle.session_checks.specs.Meaning.{settingsMeans};
 ghost use Rattle.lazy_fst.specs.Meaning.{lentWith};
-use fst::Label;
-use fst::word;
 use lazy_fst::Listed;
 use listing_read::Reader;
 use listing_read::line_words;
 use listing_write::put_refused;
-use session_checks::Settings;
+use session_checks::read_settings;
 pub use stages::no_session;
 use stages::opened;
 pub use weights::found;
-
-// The six words in their order.
-pub fn settings_of(words: &[u32]) -> Settings
-    ensures { λ r. ⌜ settingsMeans r ≡ settingsOf (now (words .entry)) ⌝ }
-{
-    Settings {
-        kind: word(words, 0),
-        filter: word(words, 1),
-        sigma1: Label(word(words, 2)),
-        mode1: word(words, 3),
-        sigma2: Label(word(words, 4)),
-        mode2: word(words, 5),
-    }
-}
 
 // The listing of the machines under the settings of six words, with the allowed lists that are lent: its bytes stand at the start of `out`, and the answer is their number.
 pub fn listing(
@@ -55,7 +38,7 @@ pub fn listing(
     if words.len() != 6 {
         return put_refused(out, 0, 1);
     }
-    let settings = settings_of(words);
+    let settings = read_settings(words);
     let mut heads = [0u32; 64];
     let mut states = [0u32; 5120];
     let mut trs = [0u32; 5120];

@@ -1,7 +1,7 @@
 // The final weights in number order, before a line is put.
 ghost use mathlib.Core.Path.{_≡_};
 ghost use Rattle.calls.specs.Store.{Memory};
-ghost use Rattle.session_checks.specs.Meaning.{memoryOf};
+ghost use Rattle.store_records.specs.Meaning.{memoryOf};
 ghost use Rattle.lazy_fst.specs.Meaning.{lentWith, sessionMeans, weightLeft};
 ghost use Rattle.listing.specs.Stages.{verdict, weightsFrom};
 use fst::StateId;

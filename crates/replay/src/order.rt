@@ -11,13 +11,13 @@ use lazy_fst::WeightAnswer;
 use libc::STDOUT_FILENO;
 use listing::found;
 use listing::no_session;
-use listing::settings_of;
 use listing_write::put_end;
 use listing_write::put_refused;
 use listing_write::put_side;
 use listing_write::put_state;
 use listing_write::put_tr;
 use session_checks::Settings;
+use session_checks::read_settings;
 use store_records::ComposeStateTuple;
 use store_records::get_tuple;
 
@@ -320,7 +320,7 @@ pub fn print_order(
     let mut trs = [0u32; 5120];
     print_in(
         order,
-        settings_of(words),
+        read_settings(words),
         m1,
         m2,
         allowed1,

@@ -3,7 +3,7 @@ use mathlib.Core.Path.{_≡_}
 use native.Mathlib.Omega.{arith}
 use lib.ListN.{length}
 use borrow.Author.Needs.{needs}
-use Rattle.session_checks.specs.Meaning.{memoryOf}
+use Rattle.store_records.specs.Meaning.{memoryOf}
 use Rattle.lazy_fst.specs.Meaning.{lentWith, sessionMeans}
 use Rattle.listing_write.proofs.WrittenLaws.{then, same-text}
 use Rattle.listing.specs.Stages.{linesFrom}

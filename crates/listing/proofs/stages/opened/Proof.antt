@@ -4,7 +4,8 @@ use native.Mathlib.Omega.{arith}
 use lib.ListN.{length}
 use borrow.Author.Needs.{needs}
 use Rattle.calls.specs.Listing.{refusedLine, noSession}
-use Rattle.session_checks.specs.Meaning.{settingsMeans, memoryOf}
+use Rattle.session_checks.specs.Meaning.{settingsMeans}
+use Rattle.store_records.specs.Meaning.{memoryOf}
 use Rattle.lazy_fst.specs.Meaning.{lentWith, left}
 use Rattle.listing_text.specs.Printing.{bytesOf}
 use Rattle.listing_write.proofs.WrittenLaws.{same-text}
