@@ -1,4 +1,3 @@
-pub mod Few
 pub mod LinesFit
 pub mod WeightLaws
 pub mod LineLaws

@@ -18,7 +18,7 @@ use Rattle.calls.proofs.ExpandKept.{entered-is}
 use Rattle.readings.specs.Demands.{worldOf, Expanded, recordsIn, partIn, wordsIn, Sound}
 use Rattle.readings.proofs.Demands.{demand-3}
 use Rattle.listing.specs.Stages.{linesAt, linesFrom, FewLines}
-use Rattle.listing.proofs.Few.{distinct-few, distinct-interval, distinct-parts, length-interval, parts-length}
+use Rattle.lists.proofs.Few.{distinct-few, distinct-interval, distinct-parts, length-interval, parts-length}
 
 -- a line for each record
 pub tr-lines-length : (words : List ℕ) → length (trLines words) ≡ length words / 5
