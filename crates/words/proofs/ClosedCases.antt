@@ -9,12 +9,13 @@ use lib.ListN.{set, take}
 use borrow.Author.Tests.{not-true}
 use Rattle.lists.specs.Lists.{every, interval}
 use Rattle.lists.proofs.Members.{every-in}
-use Rattle.words.specs.Labels.{MAX}
+use Rattle.words.specs.Labels.{MAX, Checked, good, refused}
 use Rattle.words.specs.Weights.{cost, count, times}
 use Rattle.words.specs.Machines.{stateCount, trCount, startWord, sideMark, acceptorMark, stateWord, trWord, firstOk, nextOk, firstOf, nextOf, listBy, listFrom, listOf, noFall, sorted, stateOk, trOk, acceptor, marksOk, sizeOk, wellFormed}
-use Rattle.words.specs.Sides.{both}
+use Rattle.words.specs.Matches.{inputs, outputs}
+use Rattle.words.specs.Sides.{Side, only, both, sideOf}
 use Rattle.words.specs.Steps.{Triple, startAt}
-use Rattle.words.specs.Settings.{Settings, settingsOk, compositionOf}
+use Rattle.words.specs.Settings.{Settings, settingsOk, operandOf, compositionOf}
 
 -- Two states and three transitions. State 0 has the list 1, 3 and state 1 the list 2, 3, final with weight 4: the lists share a tail. Inputs rise in both lists, outputs fall in one.
 abbrev sound : List ℕ
@@ -117,6 +118,25 @@ pub ranges :
     × (settingsOk (settings 0 0 0 3) ≡ false)
 unfolding settingsOk
 ranges = (refl, refl, refl, refl, refl)
+
+-- one state whose list has the labels 3:3 and then 2:2: sorted on no side
+abbrev falling : List ℕ
+falling = 1 ∷ 2 ∷ 1 ∷ 0 ∷ 0 ∷ 0 ∷ 1 ∷ 0 ∷ 0 ∷ 3 ∷ 3 ∷ 0 ∷ 0 ∷ 2 ∷ 2 ∷ 2 ∷ 0 ∷ 0 ∷ 0 ∷ []
+
+-- the side for two machines with these sigma labels
+abbrev sideOfWords : ℕ → ℕ → List ℕ → List ℕ → Checked Side
+sideOfWords sigma1 sigma2 m1 m2 = sideOf (operandOf outputs m1 sigma1 0 none) (operandOf inputs m2 sigma2 0 none)
+
+-- refusals 4 to 7 in their order, each with all the later ones that it can come with
+pub side-refusals :
+    (sideOfWords 0 5 falling falling ≡ refused 4)
+    × (sideOfWords 5 0 falling falling ≡ refused 4)
+    × (sideOfWords 5 5 falling falling ≡ refused 5)
+    × (sideOfWords MAX 5 falling falling ≡ refused 6)
+    × (sideOfWords MAX MAX falling falling ≡ refused 7)
+    × (sideOfWords MAX 5 falling sound ≡ good (only inputs))
+unfolding sideOf sorted noFall every interval sideMark stateCount trCount stateWord trWord firstOk nextOk firstOf nextOf listBy listFrom listOf
+side-refusals = (refl, refl, refl, refl, refl, refl)
 
 -- the start of the composition of two machines
 abbrev startOfWords : List ℕ → List ℕ → Option Triple
