@@ -228,6 +228,14 @@ laterAnswers c =
 abbrev wrong : List ℕ → World
 wrong w = world (session w 9 MAX MAX) [] [] []
 
+-- one state, final with a cost that is too large when taken twice
+abbrev heavy : List ℕ
+heavy = 1 ∷ 0 ∷ 1 ∷ 0 ∷ 0 ∷ 0 ∷ 0 ∷ 1 ∷ 2147483648 ∷ []
+
+-- both machines so, with state 0 found
+abbrev heaviest : World
+heaviest = world (session (plain 0 0) 1 1 0) (1 ∷ []) (replicate 5 0) []
+
 unfoldable pub laterCalls : List Later
 laterCalls =
     -- 1 to 7 by the session's own settings, before 8 and 9
@@ -243,6 +251,9 @@ laterCalls =
     -- 9: not of a run
     ∷ later example1 example2 (sides 1) 3 (9 ∷ 9 ∷ 0 ∷ [])
     ∷ later example1 example2 (sides 1) MAX (9 ∷ 9 ∷ 0 ∷ [])
+    -- 9 before 12: past its end memory reads as the triple 0, 0, 0, which is that of state 0
+    ∷ later heavy heavy heaviest 1 (9 ∷ 9 ∷ 0 ∷ [])
+    ∷ later heavy heavy heaviest 0 (0 ∷ 12 ∷ 0 ∷ [])
     -- none: the records of an expanded state
     ∷ later example1 example2 (sides 1) 1 (0 ∷ 0 ∷ 0 ∷ 0 ∷ 7 ∷ 4 ∷ 2 ∷ 0 ∷ [])
     ∷ []
