@@ -6,7 +6,7 @@ use Prim.Native.Nat.{ℕ, suc, _+_, _*_, _<_, _≤_}
 use native.Mathlib.Omega.{arith}
 use lib.Dec.{ltb, leb}
 use lib.ListN.{length, getD}
-use borrow.Author.Tests.{ltb-true, leb-true, eqb-true}
+use borrow.Author.Tests.{ltb-true, leb-true, eqb-true, le-leb, eq-eqb}
 use Rattle.lists.specs.Lists.{every, interval}
 use Rattle.lists.proofs.Members.{and-left, and-right, every-in, in-interval}
 use Rattle.words.specs.Labels.{MAX}
@@ -87,3 +87,8 @@ form m e =
       mark = mark-form m marks;
       accepts = accepts-form m marks;
     }
+
+-- the size asks no more than `Form` says of it: with a smaller `limit` this would fail
+pub size-asks : (m : List ℕ) → stateCount m ≤ 65535 → trCount m ≤ 65535 → length m ≡ 6 + 3 * stateCount m + 5 * trCount m → sizeOk m ≡ true
+unfolding sizeOk
+size-asks m states trs words = rw (le-leb (stateCount m) 65535 states, le-leb (trCount m) 65535 trs) (eq-eqb _ _ words)
