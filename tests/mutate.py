@@ -1,0 +1,189 @@
+#!/usr/bin/env python3
+"""Changes the code, or the definitions, of a crate in one place at a time, and sees whether the prover refuses.
+
+    tests/mutate.py COPY --crate NAME [--definitions] [--kinds K,K] [--only PATTERN] [--limit N] [--sample K --seed S] [--log FILE]
+
+COPY is a private copy of the repository, in which NAME is proved; each change is made there, judged by `rt dev NAME` and taken back. The gate does not run this:
+it takes hours. Verdicts: refused (the prover says not-proved), no program (the compiler, or for definitions the type checker of specs/, refuses the text before any proof is
+looked at; not scored), timeout, survived. Survivors that tests/mutants.txt explains are counted apart; the others are printed. A refusal says that the proof that stands does
+not fit the changed text: nearly always because the contract is false of it, but a change that keeps the meaning may be refused too.
+"""
+import argparse
+import collections
+import json
+import os
+import pathlib
+import random
+import re
+import signal
+import subprocess
+import sys
+
+import mutate_code
+import mutate_definitions
+
+SECONDS = 90
+HERE = pathlib.Path(__file__).resolve().parent
+Mutant = collections.namedtuple("Mutant", "file name kind start end new text")
+
+
+def code_mutants(root, crate):
+    paths = sorted(root.glob("crates/*/src/*.rt"), key=lambda p: (p.parts[-3] == crate, p))
+    known = mutate_code.Known([mutate_code.Source(p.read_text()) for p in paths])
+    for path in sorted((root / "crates" / crate / "src").glob("*.rt")):
+        text = path.read_text()
+        for name, change in mutate_code.mutants_of(text, known):
+            yield Mutant(path.relative_to(root), name, *change, text)
+
+
+def definition_mutants(root, crate):
+    known = mutate_definitions.Known(p.read_text() for p in sorted(root.glob("crates/*/specs/*.antt")))
+    for path in sorted((root / "crates" / crate / "specs").glob("*.antt")):
+        text = mutate_definitions.with_imports(path.read_text())
+        for name, change in mutate_definitions.mutants_of(text, known):
+            yield Mutant(path.relative_to(root), name, *change, text)
+
+
+def lines(text):
+    return " ".join(line.strip() for line in text.strip("\n").split("\n"))
+
+
+def shown(m):
+    """The lines that a mutant changes, before and after."""
+    first = m.text.rfind("\n", 0, m.start) + 1
+    last = m.text.find("\n", m.end)
+    return lines(m.text[first:last]), lines(m.text[first:m.start] + m.new + m.text[m.end:last])
+
+
+def line_of(m):
+    return m.text.count("\n", 0, m.start) + 1
+
+
+def distinct(mutants):
+    seen = set()
+    for m in mutants:
+        key = (m.file, m.text[:m.start] + m.new + m.text[m.end:])
+        if key not in seen:
+            seen.add(key)
+            yield m
+
+
+def check(root, crate, seconds=SECONDS):
+    """What `rt dev` prints; None after too long a time."""
+    child = subprocess.Popen(["nice", "-n", "4", "rt", "dev", crate], cwd=root, stdout=subprocess.PIPE, stderr=subprocess.STDOUT, text=True, start_new_session=True)
+    try:
+        return child.communicate(timeout=seconds)[0]
+    except subprocess.TimeoutExpired:
+        os.killpg(child.pid, signal.SIGKILL)
+        child.communicate()
+        return None
+
+
+def verdict(said, definitions):
+    if said is None:
+        return "timeout"
+    last = next((line for line in reversed(said.split("\n")) if line.startswith("logic=")), "")
+    if last.startswith("logic=proved"):
+        return "survived"
+    if not last.startswith("logic=not-proved"):
+        return "no program"
+    return "no program" if definitions and re.search(r"/specs/\w+\.antt:\d+:\d+: error", said) else "refused"
+
+
+def refusers(said):
+    """The theorems and functions that are refused first hand, not because they cite another."""
+    found = re.findall(r"/proofs/([\w/]+)\.antt:\d+:\d+: error: `([^`]+)`: (?!`[^`]+` was not admitted|[^\n]*cannot be unfolded because)", said or "")
+    return list(dict.fromkeys(f"{name} ({file})" for file, name in found))
+
+
+def judge(root, crate, m, definitions):
+    path = root / m.file
+    kept = path.read_text()
+    try:
+        path.write_text(m.text[:m.start] + m.new + m.text[m.end:])
+        said = check(root, crate)
+    finally:
+        path.write_text(kept)
+    old, new = shown(m)
+    return {"file": str(m.file), "line": line_of(m), "name": m.name, "kind": m.kind, "old": old, "new": new, "verdict": verdict(said, definitions), "by": refusers(said)}
+
+
+def explained():
+    """The survivors of tests/mutants.txt: file and name, the line before and after, with the reason."""
+    reasons, place, old, new = {}, None, None, None
+    for line in (HERE / "mutants.txt").read_text().split("\n"):
+        mark, rest = line[:2], line[2:].strip()
+        if mark == "- ":
+            old = rest
+        elif mark == "+ ":
+            new = rest
+        elif mark == "= ":
+            reasons[(*place, old, new)] = rest
+        elif line.startswith("crates/"):
+            place = tuple(line.split())
+    return reasons
+
+
+def key(result):
+    return result["file"], result["name"], result["old"], result["new"]
+
+
+def chosen(args, root):
+    mutants = list(distinct((definition_mutants if args.definitions else code_mutants)(root, args.crate)))
+    if args.kinds:
+        mutants = [m for m in mutants if m.kind in args.kinds.split(",")]
+    if args.only:
+        mutants = [m for m in mutants if re.search(args.only, f"{m.file} {m.name}")]
+    if args.sample:
+        mutants = sorted(random.Random(args.seed).sample(mutants, min(args.sample, len(mutants))), key=lambda m: (m.file, m.start))
+    return mutants[:args.limit]
+
+
+def report(crate, results):
+    reasons = explained()
+    count = collections.Counter(r["verdict"] for r in results)
+    known = sum(r["verdict"] == "survived" and key(r) in reasons for r in results)
+    print(f"{crate}: {len(results)} mutants, {count['no program']} no program, {count['refused']} refused, {count['timeout']} timeout, "
+          f"{known} survived and explained, {count['survived'] - known} survived")
+    for r in results:
+        if r["verdict"] in ("survived", "timeout") and key(r) not in reasons:
+            print(f"{r['verdict']}: {r['file']}:{r['line']} {r['name']}\n- {r['old']}\n+ {r['new']}")
+
+
+def main():
+    parser = argparse.ArgumentParser()
+    parser.add_argument("copy", type=pathlib.Path)
+    parser.add_argument("--crate", required=True)
+    parser.add_argument("--definitions", action="store_true")
+    parser.add_argument("--kinds")
+    parser.add_argument("--only", help="a pattern for the file and the name")
+    parser.add_argument("--limit", type=int)
+    parser.add_argument("--sample", type=int)
+    parser.add_argument("--seed", type=int, default=1)
+    parser.add_argument("--log", type=pathlib.Path, help="verdicts, one a line; those that it holds are not judged again")
+    parser.add_argument("--list", action="store_true", help="print the mutants and judge none")
+    args = parser.parse_args()
+    root = args.copy.resolve()
+    mutants = chosen(args, root)
+    if args.list:
+        for m in mutants:
+            print(f"{m.file}:{line_of(m)} {m.name}, {m.kind}\n- {shown(m)[0]}\n+ {shown(m)[1]}")
+        print(collections.Counter(m.kind for m in mutants))
+        return
+    if root == HERE.parent:
+        sys.exit("give a private copy of the repository, not the repository itself")
+    if verdict(check(root, args.crate, None), args.definitions) != "survived":
+        sys.exit(f"{args.crate} is not proved as it stands")
+    logged = [json.loads(line) for line in args.log.read_text().split("\n") if line] if args.log and args.log.exists() else []
+    old = {key(r): r for r in logged}
+    results = []
+    for m in mutants:
+        result = old.get((str(m.file), m.name, *shown(m))) or judge(root, args.crate, m, args.definitions)
+        results.append(result)
+        if args.log and key(result) not in old:
+            with args.log.open("a") as log:
+                log.write(json.dumps(result, ensure_ascii=False) + "\n")
+    report(args.crate, results)
+
+
+main()
