@@ -127,11 +127,12 @@ broken =
     ∷ heads (4 ∷ 2 ∷ [])
     ∷ heads (3 ∷ 4 ∷ [])
     ∷ heads []
-    -- "pairs in range; f at most 2"; "expanded (0 or 1)"
+    -- "pairs in range; f at most 2"; "expanded (0 or 1)", with a first and without
     ∷ state 0 196608
     ∷ state 5 65539
     ∷ state 11 3
     ∷ state 7 2
+    ∷ state 12 2
     -- "next below own number"
     ∷ state 4 1
     ∷ state 14 3
