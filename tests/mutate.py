@@ -1,7 +1,7 @@
 #!/usr/bin/env python3
 """Changes the code, or the definitions, of a crate in one place at a time, and sees whether the prover refuses.
 
-    tests/mutate.py COPY --crate NAME [--definitions] [--kinds K,K] [--only PATTERN] [--limit N] [--sample K --seed S] [--log FILE]
+    tests/mutate.py COPY --crate NAME [--definitions] [--kinds K,K] [--only PATTERN] [--limit N] [--sample K --seed S] [--together N] [--log FILE]
 
 COPY is a private copy of the repository, in which NAME is proved; each change is made there, judged by `rt dev NAME` and taken back. The gate does not run this:
 it takes hours. Verdicts: refused (the prover says not-proved), no program (the compiler, or for definitions the type checker of specs/, refuses the text before any proof is
@@ -96,16 +96,65 @@ def refusers(said):
     return list(dict.fromkeys(f"{name} ({file})" for file, name in found))
 
 
-def judge(root, crate, m, definitions):
-    path = root / m.file
-    kept = path.read_text()
-    try:
-        path.write_text(m.text[:m.start] + m.new + m.text[m.end:])
-        said = check(root, crate)
-    finally:
-        path.write_text(kept)
+def result(m, verdict, by):
     old, new = shown(m)
-    return {"file": str(m.file), "line": line_of(m), "name": m.name, "kind": m.kind, "old": old, "new": new, "verdict": verdict(said, definitions), "by": refusers(said)}
+    return {"file": str(m.file), "line": line_of(m), "name": m.name, "kind": m.kind, "old": old, "new": new, "verdict": verdict, "by": by}
+
+
+def said_of(root, crate, mutants):
+    """What the check says of the copy with these changes, each in a function of its own."""
+    kept = {m.file: m.text for m in mutants}
+    whole = {file: (root / file).read_text() for file in kept}
+    try:
+        for file, text in kept.items():
+            for m in sorted((m for m in mutants if m.file == file), key=lambda m: -m.start):
+                text = text[:m.start] + m.new + text[m.end:]
+            (root / file).write_text(text)
+        return check(root, crate)
+    finally:
+        for file, text in whole.items():
+            (root / file).write_text(text)
+
+
+def judge(root, crate, m, definitions):
+    said = said_of(root, crate, [m])
+    return result(m, verdict(said, definitions), refusers(said))
+
+
+def refused_itself(said, m):
+    """Whether the function is not proved for its own sake, and not for one that it calls."""
+    stem = m.file.stem
+    for path, word in re.findall(r"^fn (\S+): (proved|not proved)$", said or "", flags=re.M):
+        parts = path.split("::")
+        if parts[-1] == m.name and (stem in parts[1:-1] or stem in ("lib", "main") and len(parts) < 3 or parts[-2][0].isupper()):
+            return word == "not proved"
+    return False
+
+
+def judge_together(root, crate, mutants):
+    """One check of changes in functions of which none calls another: a function's proof looks at its own body and at the contracts of those that it calls. What is not refused
+    for its own sake is judged again alone, as are all where the compiler refuses the text."""
+    said = said_of(root, crate, mutants)
+    if verdict(said, False) != "refused":
+        return [judge(root, crate, m, False) for m in mutants]
+    return [result(m, "refused", []) if refused_itself(said, m) else judge(root, crate, m, False) for m in mutants]
+
+
+def batches(root, crate, mutants, most):
+    """The mutants in groups of at most so many, each group in functions of which none calls another; a constant's alone."""
+    sources = {p.relative_to(root): mutate_code.Source(p.read_text()) for p in (root / "crates" / crate / "src").glob("*.rt")}
+    reached = mutate_code.reached_from(sources)
+    left = list(mutants)
+    while left:
+        group = []
+        for m in left:
+            place = (m.file, m.name)
+            apart = all(place in reached and (o.file, o.name) in reached and place != (o.file, o.name)
+                        and place not in reached[o.file, o.name] and (o.file, o.name) not in reached[place] for o in group)
+            if len(group) < most and apart:
+                group.append(m)
+        left = [m for m in left if m not in group]
+        yield group
 
 
 def explained():
@@ -160,6 +209,7 @@ def main():
     parser.add_argument("--limit", type=int)
     parser.add_argument("--sample", type=int)
     parser.add_argument("--seed", type=int, default=1)
+    parser.add_argument("--together", type=int, default=1, help="so many changes in one check, in functions of which none calls another")
     parser.add_argument("--log", type=pathlib.Path, help="verdicts, one a line; those that it holds are not judged again")
     parser.add_argument("--list", action="store_true", help="print the mutants and judge none")
     args = parser.parse_args()
@@ -176,14 +226,15 @@ def main():
         sys.exit(f"{args.crate} is not proved as it stands")
     logged = [json.loads(line) for line in args.log.read_text().split("\n") if line] if args.log and args.log.exists() else []
     old = {key(r): r for r in logged}
-    results = []
-    for m in mutants:
-        result = old.get((str(m.file), m.name, *shown(m))) or judge(root, args.crate, m, args.definitions)
-        results.append(result)
-        if args.log and key(result) not in old:
+    done = [old[k] for k in (key(result(m, "", [])) for m in mutants) if k in old]
+    left = [m for m in mutants if key(result(m, "", [])) not in old]
+    for group in [[m] for m in left] if args.definitions else batches(root, args.crate, left, args.together):
+        new = judge_together(root, args.crate, group) if len(group) > 1 else [judge(root, args.crate, m, args.definitions) for m in group]
+        done += new
+        if args.log:
             with args.log.open("a") as log:
-                log.write(json.dumps(result, ensure_ascii=False) + "\n")
-    report(args.crate, results)
+                log.writelines(json.dumps(r, ensure_ascii=False) + "\n" for r in new)
+    report(args.crate, done)
 
 
 main()
