@@ -13,6 +13,11 @@ pub room-words : (l : List ℕ) (n : ℕ) → n ≤ roomOf 5 l → (n ≤ 65535)
 unfolding roomOf
 room-words l n h = (omega (arith, h), omega (arith, h))
 
+-- and there is no less room: "whole records, at most 65535 of each sort"
+pub words-room : (l : List ℕ) (n : ℕ) → n ≤ 65535 → 5 * n ≤ length l → n ≤ roomOf 5 l
+unfolding roomOf
+words-room l n few whole = omega (arith, few, whole)
+
 -- a slice that keeps its length keeps its room
 pub room-same : (size : ℕ) (l r : List ℕ) → length r ≡ length l → roomOf size r ≡ roomOf size l
 unfolding roomOf
