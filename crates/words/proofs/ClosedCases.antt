@@ -58,8 +58,10 @@ malformedOnes =
     ∷ set sound 4 1
     ∷ set sound 3 2
     ∷ set sound 5 1
-    -- "input equals output everywhere": also in a record that stands in no list
+    -- "input equals output everywhere": also in a record that stands in no list, in the first and in the last
     ∷ set unlisted 14 6
+    ∷ set unlisted 10 2
+    ∷ set unlisted 19 5
     -- mark 2 whose only fall stands in no list
     ∷ set unlisted 3 2
     ∷ (0 ∷ 0 ∷ 0 ∷ 2 ∷ 0 ∷ 0 ∷ [])
@@ -71,6 +73,7 @@ malformedOnes =
     ∷ set sound 12 MAX
     ∷ set sound 13 MAX
     ∷ set sound 15 2
+    ∷ set sound 25 2
     -- "next is 0 or above its own number, up to T"
     ∷ set sound 16 1
     ∷ set sound 21 1
