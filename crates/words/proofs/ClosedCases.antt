@@ -13,6 +13,7 @@ use Rattle.words.specs.Labels.{MAX, Checked, good, refused}
 use Rattle.words.specs.Weights.{cost, count, times}
 use Rattle.words.specs.Machines.{stateCount, trCount, startWord, sideMark, acceptorMark, stateWord, trWord, firstOk, nextOk, firstOf, nextOf, listBy, listFrom, listOf, noFall, sorted, stateOk, trOk, acceptor, marksOk, sizeOk, wellFormed}
 use Rattle.words.specs.Matches.{inputs, outputs}
+use Rattle.words.specs.Sigmas.{has, isAllowed}
 use Rattle.words.specs.Sides.{Side, only, both, sideOf}
 use Rattle.words.specs.Steps.{Triple, startAt}
 use Rattle.words.specs.Settings.{Settings, settingsOk, operandOf, compositionOf}
@@ -121,6 +122,16 @@ pub ranges :
     × (settingsOk (settings 0 0 0 3) ≡ false)
 unfolding settingsOk
 ranges = (refl, refl, refl, refl, refl)
+
+-- "in the allowed list (no list: all; empty list: none)", "any words in any order"
+pub allowed-lists :
+    (isAllowed none 5 ≡ true)
+    × (isAllowed (some []) 5 ≡ false)
+    × (isAllowed (some (4 ∷ [])) 5 ≡ false)
+    × (isAllowed (some (6 ∷ [])) 5 ≡ false)
+    × (isAllowed (some (6 ∷ 5 ∷ 4 ∷ [])) 5 ≡ true)
+unfolding has
+allowed-lists = (refl, refl, refl, refl, refl)
 
 -- one state whose list has the labels 3:3 and then 2:2: sorted on no side
 abbrev falling : List ℕ
