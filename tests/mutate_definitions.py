@@ -6,7 +6,7 @@ EXCHANGED = {"eqb": ["leb", "ltb"], "leb": ["ltb", "eqb"], "ltb": ["leb", "eqb"]
              "+": ["*", "-"], "*": ["+"], "-": ["+"], "/": ["%"], "%": ["/"], "≡": ["≢"], "≢": ["≡"], "<": ["≤"], "≤": ["<"], "×": ["⊎"]}
 INFIX = {":", "&&", "||", "+", "*", "-", "/", "%", "≡", "≢", "<", "≤", "×", "⊎", "∷", "++", "→", "=", "in", "↔", "then", "|"}
 IMPORTS = {"lib.Dec": ["eqb", "ltb", "leb"], "mathlib.Core.Bool": ["Bool", "true", "false", "not", "_&&_", "_||_", "cond"],
-           "mathlib.Core.Option": ["Option", "none", "some"], "specs.Labels": ["good", "refuseIf", "andThen", "collect"]}
+           "mathlib.Core.Option": ["Option", "none", "some"], "Prim.Native.Nat": ["_+_", "_-_", "_*_"], "specs.Labels": ["good", "refuseIf", "andThen", "collect"]}
 ASKED = {"cond": ["test", "A", "A"], "eqb": ["one", "other"], "getD": ["list", "n", "n"], "List·Memᴰ": ["A", "list"], "map": ["f", "list"], "every": ["f", "list"],
          "flatMap": ["f", "list"], "keepIf": ["f", "list"], "refuseIf": ["test", "n", "rest"], "andThen": ["one", "other"], "set": ["list", "n", "n"], "put": ["list", "n", "list"]}
 DECLARED = re.compile(r"^( *)(?:(?:abbrev|unfoldable) )(?:pub )?(\S+) :(.*)$")
