@@ -7,14 +7,14 @@ use mathlib.Core.Option.{Option, none, some}
 use Prim.Native.Nat.{ℕ}
 use lib.ListN.{set, take}
 use borrow.Author.Tests.{not-true}
-use Rattle.lists.specs.Lists.{every, interval}
+use Rattle.lists.specs.Lists.{every, interval, keepIf}
 use Rattle.lists.proofs.Members.{every-in}
 use Rattle.words.specs.Labels.{MAX, Checked, good, refused}
 use Rattle.words.specs.Weights.{cost, count, times}
 use Rattle.words.specs.Machines.{stateCount, trCount, startWord, sideMark, acceptorMark, stateWord, trWord, firstOk, nextOk, firstOf, nextOf, listBy, listFrom, listOf, noFall, sorted, stateOk, trOk, acceptor, marksOk, sizeOk, wellFormed}
-use Rattle.words.specs.Matches.{inputs, outputs}
-use Rattle.words.specs.Sigmas.{has, isAllowed}
-use Rattle.words.specs.Sides.{Side, only, both, sideOf}
+use Rattle.words.specs.Matches.{MatchType, inputs, outputs, labelled}
+use Rattle.words.specs.Sigmas.{has, isAllowed, sigmaTrs}
+use Rattle.words.specs.Sides.{Side, only, both, sideOf, directionAt}
 use Rattle.words.specs.Steps.{Triple, startAt}
 use Rattle.words.specs.Settings.{Settings, settingsOk, operandOf, compositionOf}
 
@@ -151,6 +151,27 @@ pub side-refusals :
     × (sideOfWords MAX 5 falling sound ≡ good (only inputs))
 unfolding sideOf sorted noFall every interval sideMark stateCount trCount stateWord trWord firstOk nextOk firstOf nextOf listBy listFrom listOf
 side-refusals = (refl, refl, refl, refl, refl, refl)
+
+-- two states: state 0 has no list, state 1 one transition 9:9
+abbrev second : List ℕ
+second = 2 ∷ 1 ∷ 1 ∷ 0 ∷ 0 ∷ 0 ∷ 0 ∷ 0 ∷ 0 ∷ 1 ∷ 0 ∷ 0 ∷ 9 ∷ 9 ∷ 0 ∷ 0 ∷ 0 ∷ []
+
+-- the direction under "both" at a pair of states of two machines with these sigma labels
+abbrev directionOfWords : ℕ → ℕ → List ℕ → List ℕ → ℕ → ℕ → Checked MatchType
+directionOfWords sigma1 sigma2 m1 m2 s1 s2 = directionAt both (operandOf outputs m1 sigma1 0 none) (operandOf inputs m2 sigma2 0 none) s1 s2
+
+-- "length 1 at most length 2 gives input", each at its own state; the state with a sigma transition decides before that; "two such are refusal 10"
+pub directions :
+    (directionOfWords MAX MAX second second 0 1 ≡ good inputs)
+    × (directionOfWords MAX MAX second second 1 1 ≡ good inputs)
+    × (directionOfWords MAX MAX second second 1 0 ≡ good outputs)
+    × (directionOfWords 9 MAX second falling 1 0 ≡ good outputs)
+    × (directionOfWords 9 MAX second falling 0 0 ≡ good inputs)
+    × (directionOfWords MAX 9 falling second 0 1 ≡ good inputs)
+    × (directionOfWords MAX 9 falling second 0 0 ≡ good outputs)
+    × (directionOfWords 9 9 second second 1 1 ≡ refused 10)
+unfolding directionAt sigmaTrs labelled keepIf stateCount trCount stateWord trWord firstOk nextOk firstOf nextOf listBy listFrom listOf
+directions = (refl, refl, refl, refl, refl, refl, refl, refl)
 
 -- the start of the composition of two machines
 abbrev startOfWords : List ℕ → List ℕ → Option Triple
