@@ -173,8 +173,13 @@ def explained():
     return reasons
 
 
-def key(result):
-    return result["file"], result["name"], result["old"], result["new"]
+def key(r):
+    return r["file"], r["name"], r["old"], r["new"]
+
+
+def place(r):
+    """A line may stand in a function twice."""
+    return (*key(r), r["line"])
 
 
 def chosen(args, root):
@@ -199,7 +204,7 @@ def report(crate, results):
             print(f"{r['verdict']}: {r['file']}:{r['line']} {r['name']}\n- {r['old']}\n+ {r['new']}")
 
 
-def main():
+def arguments():
     parser = argparse.ArgumentParser()
     parser.add_argument("copy", type=pathlib.Path)
     parser.add_argument("--crate", required=True)
@@ -212,29 +217,47 @@ def main():
     parser.add_argument("--together", type=int, default=1, help="so many changes in one check, in functions of which none calls another")
     parser.add_argument("--log", type=pathlib.Path, help="verdicts, one a line; those that it holds are not judged again")
     parser.add_argument("--list", action="store_true", help="print the mutants and judge none")
-    args = parser.parse_args()
-    root = args.copy.resolve()
-    mutants = chosen(args, root)
-    if args.list:
-        for m in mutants:
-            print(f"{m.file}:{line_of(m)} {m.name}, {m.kind}\n- {shown(m)[0]}\n+ {shown(m)[1]}")
-        print(collections.Counter(m.kind for m in mutants))
-        return
-    if root == HERE.parent:
-        sys.exit("give a private copy of the repository, not the repository itself")
-    if verdict(check(root, args.crate, None), args.definitions) != "survived":
-        sys.exit(f"{args.crate} is not proved as it stands")
-    logged = [json.loads(line) for line in args.log.read_text().split("\n") if line] if args.log and args.log.exists() else []
-    old = {key(r): r for r in logged}
-    done = [old[k] for k in (key(result(m, "", [])) for m in mutants) if k in old]
-    left = [m for m in mutants if key(result(m, "", [])) not in old]
+    return parser.parse_args()
+
+
+def listed(mutants):
+    for m in mutants:
+        print(f"{m.file}:{line_of(m)} {m.name}, {m.kind}\n- {shown(m)[0]}\n+ {shown(m)[1]}")
+    print(f"{len(mutants)} mutants:", ", ".join(f"{n} {kind}" for kind, n in collections.Counter(m.kind for m in mutants).most_common()))
+
+
+def logged(args):
+    if not args.log or not args.log.exists():
+        return {}
+    return {place(r): r for r in map(json.loads, args.log.read_text().splitlines())}
+
+
+def judged(args, root, mutants):
+    """The results of all, each new one written to the log as soon as it is there."""
+    old = logged(args)
+    places = {m: place(result(m, "", [])) for m in mutants}
+    done = [old[places[m]] for m in mutants if places[m] in old]
+    left = [m for m in mutants if places[m] not in old]
     for group in [[m] for m in left] if args.definitions else batches(root, args.crate, left, args.together):
         new = judge_together(root, args.crate, group) if len(group) > 1 else [judge(root, args.crate, m, args.definitions) for m in group]
         done += new
         if args.log:
             with args.log.open("a") as log:
                 log.writelines(json.dumps(r, ensure_ascii=False) + "\n" for r in new)
-    report(args.crate, done)
+    return done
+
+
+def main():
+    args = arguments()
+    root = args.copy.resolve()
+    mutants = chosen(args, root)
+    if args.list:
+        return listed(mutants)
+    if root == HERE.parent:
+        sys.exit("give a private copy of the repository, not the repository itself")
+    if verdict(check(root, args.crate, None), args.definitions) != "survived":
+        sys.exit(f"{args.crate} is not proved as it stands")
+    report(args.crate, judged(args, root, mutants))
 
 
 main()
