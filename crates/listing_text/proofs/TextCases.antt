@@ -89,13 +89,13 @@ pub no-second-machine : Prints "0 0 4294967295 0 4294967295 0\n3 2 1 0 0 0 1 0 0
 unfolding Prints printedBytes lineAt step steps Holds starCases oddLines lineBytes spaced decimalBy flatMap listing
 no-second-machine = ap (flatMap lineBytes) (odd-line _ (there (there (there (there (here refl))))))
 
--- lines by themselves: the largest word, the first that is none, eleven digits, blanks, other bytes, the bytes beside the digits
+-- lines by themselves: the largest word, the first that is none, eleven digits, blanks, other bytes, the bytes beside the digits and the blanks
 pub words-read :
     Reads "4294967295" (MAX ∷ []) × Reads "4294967296" [] × Reads "00000000000" (0 ∷ []) × Reads "04294967295 00" (MAX ∷ 0 ∷ []) × Reads "10000000000" []
     × Reads "" [] × Reads " \t\r" [] × Reads "1  2\t\r3 " (1 ∷ 2 ∷ 3 ∷ []) × Reads "1 -2" [] × Reads "1.5" [] × Reads "7a" [] × Reads "a 7" [] × Reads "1\u{b}2" []
-    × Reads "/" [] × Reads ":" []
+    × Reads "/" [] × Reads ":" [] × Reads "1\u{8}2" [] × Reads "1\u{c}2" [] × Reads "1\u{e}2" [] × Reads "1\u{1f}2" [] × Reads "1!2" []
 unfolding Reads step steps
-words-read = (refl, refl, refl, refl, refl, refl, refl, refl, refl, refl, refl, refl, refl, refl, refl)
+words-read = (refl, refl, refl, refl, refl, refl, refl, refl, refl, refl, refl, refl, refl, refl, refl, refl, refl, refl, refl, refl)
 
 -- numbers printed
 pub numbers : (decimal 0 ≡ ascii "0") × (decimal 10 ≡ ascii "10") × (decimal 907 ≡ ascii "907") × (decimal MAX ≡ ascii "4294967295") × (decimal 18446744073709551615 ≡ ascii "18446744073709551615")
