@@ -4,7 +4,7 @@ use mathlib.Core.List.{List, [], _∷_, flatMap, List·Memᴰ·head as here, Lis
 use Prim.Native.Nat.{ℕ}
 use Prim.Native.String.{String}
 use Rattle.words.specs.Labels.{MAX}
-use Rattle.calls.specs.Listing.{listing}
+use Rattle.calls.specs.Listing.{sideLine, refusedLine, listing}
 use Rattle.calls.proofs.Cases.{Holds}
 use Rattle.calls.proofs.StarCases.{starCases, star-case}
 use Rattle.calls.proofs.ListingLaws.{oddLines, odd-line}
@@ -101,3 +101,12 @@ words-read = (refl, refl, refl, refl, refl, refl, refl, refl, refl, refl, refl, 
 pub numbers : (decimal 0 ≡ ascii "0") × (decimal 10 ≡ ascii "10") × (decimal 907 ≡ ascii "907") × (decimal MAX ≡ ascii "4294967295") × (decimal 18446744073709551615 ≡ ascii "18446744073709551615")
 unfolding decimalBy
 numbers = (refl, refl, refl, refl, refl)
+
+-- each side by its name, and a refusal of two digits
+pub lines-printed :
+    (lineBytes (sideLine 0) ≡ ascii "side input\n")
+    × (lineBytes (sideLine 1) ≡ ascii "side output\n")
+    × (lineBytes (sideLine 2) ≡ ascii "side both\n")
+    × (lineBytes (refusedLine 13) ≡ ascii "refused 13\n")
+unfolding lineBytes spaced decimalBy
+lines-printed = (refl, refl, refl, refl)
