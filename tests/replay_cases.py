@@ -40,16 +40,8 @@ def weighing(w):
 
 def stars():
     """The proved cases, each with what document 01 says of the answer."""
-    example = """side output
-s 0 0 0 0 -
-t 1 0 1 1
-s 1 1 0 0 -
-t 0 7 4 2
-s 2 1 1 0 -
-t 2 8 3 3
-s 3 2 2 0 3
-end 4 3
-"""
+    with open(os.path.join(rust.ROOT, "crates/composed/stdout")) as f:
+        example = f.read()
     yield listing(plain(0, 0), ONE1, ONE2), lambda a: a == example
     yield listing(plain(0, 1), ONE1, ONE2), lambda a: a.endswith("end 4 3\n")
     yield listing(plain(0, 2), ONE1, ONE2), lambda a: a.endswith("end 3 2\n") and a.split("\n")[2].startswith("t 1 7 5 ")

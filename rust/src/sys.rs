@@ -66,6 +66,41 @@ impl Session {
     }
 }
 
+/// Calls a function of the library: what stands before the session, the session, what every call is lent, memory, and
+/// what stands after it. A slice is handed over as its pointer and its length; `$ptr` takes the pointers of session and
+/// memory, to be read or to be written.
+macro_rules! call {
+    ($name:ident, $ptr:ident, [$($before:expr),*], $session:expr, $lent:expr, $memory:expr, [$($after:expr),*]) => {{
+        let (list1, has1) = listed($lent.allowed1);
+        let (list2, has2) = listed($lent.allowed2);
+        // SAFETY: every pointer and length is that of a live slice; the slices that are written are borrowed as such.
+        unsafe {
+            $name(
+                $($before.as_ptr(), $before.len(),)*
+                $session.0.$ptr(),
+                $session.0.len(),
+                $lent.first.as_ptr(),
+                $lent.first.len(),
+                $lent.second.as_ptr(),
+                $lent.second.len(),
+                list1.as_ptr(),
+                list1.len(),
+                has1,
+                list2.as_ptr(),
+                list2.len(),
+                has2,
+                $memory.heads.$ptr(),
+                $memory.heads.len(),
+                $memory.states.$ptr(),
+                $memory.states.len(),
+                $memory.trs.$ptr(),
+                $memory.trs.len(),
+                $($after,)*
+            )
+        }
+    }};
+}
+
 /// Opens a session. Answers 0, or the refusal's number; refused, session and memory stay.
 pub fn open(
     settings: &[u32; 6],
@@ -73,33 +108,15 @@ pub fn open(
     session: &mut Session,
     memory: &mut Memory,
 ) -> u32 {
-    let (list1, has1) = listed(lent.allowed1);
-    let (list2, has2) = listed(lent.allowed2);
-    // SAFETY: every pointer and length is that of a live slice; the slices that are written are borrowed as such.
-    unsafe {
-        rinkolza_open(
-            settings.as_ptr(),
-            settings.len(),
-            session.0.as_mut_ptr(),
-            session.0.len(),
-            lent.first.as_ptr(),
-            lent.first.len(),
-            lent.second.as_ptr(),
-            lent.second.len(),
-            list1.as_ptr(),
-            list1.len(),
-            has1,
-            list2.as_ptr(),
-            list2.len(),
-            has2,
-            memory.heads.as_mut_ptr(),
-            memory.heads.len(),
-            memory.states.as_mut_ptr(),
-            memory.states.len(),
-            memory.trs.as_mut_ptr(),
-            memory.trs.len(),
-        )
-    }
+    call!(
+        rinkolza_open,
+        as_mut_ptr,
+        [settings],
+        session,
+        lent,
+        memory,
+        []
+    )
 }
 
 /// Expands state n. Answers the number of its first record, from 1 on (0: none), and the count; or the refusal's
@@ -110,36 +127,16 @@ pub fn expand(
     memory: &mut Memory,
     n: u32,
 ) -> Result<(u32, u32), u32> {
-    let (list1, has1) = listed(lent.allowed1);
-    let (list2, has2) = listed(lent.allowed2);
     let mut answer = [0; 2];
-    // SAFETY: as in `open`.
-    let number = unsafe {
-        rinkolza_expand(
-            session.0.as_mut_ptr(),
-            session.0.len(),
-            lent.first.as_ptr(),
-            lent.first.len(),
-            lent.second.as_ptr(),
-            lent.second.len(),
-            list1.as_ptr(),
-            list1.len(),
-            has1,
-            list2.as_ptr(),
-            list2.len(),
-            has2,
-            memory.heads.as_mut_ptr(),
-            memory.heads.len(),
-            memory.states.as_mut_ptr(),
-            memory.states.len(),
-            memory.trs.as_mut_ptr(),
-            memory.trs.len(),
-            n,
-            answer.as_mut_ptr(),
-            answer.len(),
-        )
-    };
-    match number {
+    match call!(
+        rinkolza_expand,
+        as_mut_ptr,
+        [],
+        session,
+        lent,
+        memory,
+        [n, answer.as_mut_ptr(), answer.len()]
+    ) {
         0 => Ok((answer[0], answer[1])),
         refused => Err(refused),
     }
@@ -152,36 +149,16 @@ pub fn final_weight(
     memory: &Memory,
     n: u32,
 ) -> Result<Option<u32>, u32> {
-    let (list1, has1) = listed(lent.allowed1);
-    let (list2, has2) = listed(lent.allowed2);
     let mut answer = [0; 2];
-    // SAFETY: as in `open`; session and memory are only read.
-    let number = unsafe {
-        rinkolza_final_weight(
-            session.0.as_ptr(),
-            session.0.len(),
-            lent.first.as_ptr(),
-            lent.first.len(),
-            lent.second.as_ptr(),
-            lent.second.len(),
-            list1.as_ptr(),
-            list1.len(),
-            has1,
-            list2.as_ptr(),
-            list2.len(),
-            has2,
-            memory.heads.as_ptr(),
-            memory.heads.len(),
-            memory.states.as_ptr(),
-            memory.states.len(),
-            memory.trs.as_ptr(),
-            memory.trs.len(),
-            n,
-            answer.as_mut_ptr(),
-            answer.len(),
-        )
-    };
-    match number {
+    match call!(
+        rinkolza_final_weight,
+        as_ptr,
+        [],
+        session,
+        lent,
+        memory,
+        [n, answer.as_mut_ptr(), answer.len()]
+    ) {
         0 => Ok((answer[0] == 1).then_some(answer[1])),
         refused => Err(refused),
     }
@@ -190,65 +167,22 @@ pub fn final_weight(
 /// Expands in number order until no state is left or one is refused. Answers 0 or the refusal's number; refused at a
 /// state, the expansions before it stay.
 pub fn run(lent: &Lent<'_>, session: &mut Session, memory: &mut Memory) -> u32 {
-    let (list1, has1) = listed(lent.allowed1);
-    let (list2, has2) = listed(lent.allowed2);
-    // SAFETY: as in `open`.
-    unsafe {
-        rinkolza_run(
-            session.0.as_mut_ptr(),
-            session.0.len(),
-            lent.first.as_ptr(),
-            lent.first.len(),
-            lent.second.as_ptr(),
-            lent.second.len(),
-            list1.as_ptr(),
-            list1.len(),
-            has1,
-            list2.as_ptr(),
-            list2.len(),
-            has2,
-            memory.heads.as_mut_ptr(),
-            memory.heads.len(),
-            memory.states.as_mut_ptr(),
-            memory.states.len(),
-            memory.trs.as_mut_ptr(),
-            memory.trs.len(),
-        )
-    }
+    call!(rinkolza_run, as_mut_ptr, [], session, lent, memory, [])
 }
 
 /// The records of state n, five words each, as a part of the transition slice; empty where it is not expanded or a
 /// check from 1 to 9 would refuse.
 pub fn records<'m>(lent: &Lent<'_>, session: &Session, memory: &'m Memory, n: u32) -> &'m [u32] {
-    let (list1, has1) = listed(lent.allowed1);
-    let (list2, has2) = listed(lent.allowed2);
     let mut answer = [0; 2];
-    // SAFETY: as in `open`; session and memory are only read.
-    unsafe {
-        rinkolza_records(
-            session.0.as_ptr(),
-            session.0.len(),
-            lent.first.as_ptr(),
-            lent.first.len(),
-            lent.second.as_ptr(),
-            lent.second.len(),
-            list1.as_ptr(),
-            list1.len(),
-            has1,
-            list2.as_ptr(),
-            list2.len(),
-            has2,
-            memory.heads.as_ptr(),
-            memory.heads.len(),
-            memory.states.as_ptr(),
-            memory.states.len(),
-            memory.trs.as_ptr(),
-            memory.trs.len(),
-            n,
-            answer.as_mut_ptr(),
-            answer.len(),
-        )
-    };
+    call!(
+        rinkolza_records,
+        as_ptr,
+        [],
+        session,
+        lent,
+        memory,
+        [n, answer.as_mut_ptr(), answer.len()]
+    );
     part(&memory.trs, answer[0] as usize, answer[1] as usize)
 }
 

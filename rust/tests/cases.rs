@@ -12,16 +12,8 @@ const FIRST: [u32; 25] = [
 const SECOND: [u32; 25] = [
     3, 2, 1, 0, 0, 0, 1, 0, 0, 2, 0, 0, 0, 1, 3, 0, 7, 4, 1, 0, 5, 8, 1, 2, 0,
 ];
-const LISTED: &str = "side output
-s 0 0 0 0 -
-t 1 0 1 1
-s 1 1 0 0 -
-t 0 7 4 2
-s 2 1 1 0 -
-t 2 8 3 3
-s 3 2 2 0 3
-end 4 3
-";
+/// What document 01 lists of the two; the program `composed` is held to the same file.
+const LISTED: &str = include_str!("../../crates/composed/stdout");
 
 fn inputs(settings: [u32; 6], first: &[u32], second: &[u32]) -> Inputs {
     Inputs {
