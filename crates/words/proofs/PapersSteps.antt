@@ -132,6 +132,8 @@ Weighed c s l k v = ((t : Step) × At l k (good t) × IsStep c s v t) ⊎ (At l 
 pub record StepsExactly (d : MatchType) (c : Composition) (s : Triple) (l : List (Checked Step)) : Type 0 where
   -- the step at place k is that of a move of the papers, kept at place k
   pub sound : (k : ℕ) (t : Step) → At l k (good t) → (v : Kept) × At (keptAt c s) k (good v) × KeptMove (composedOf c) s (edgesOf (v .move)) (v .next) × IsStep c s v t
+  -- how its matches serve is known from its edges, so that a label is rewritten just where a transition serves as sigma
+  pub known : (k : ℕ) (v : Kept) → At (keptAt c s) k (good v) → matchesOf d (c .operand1) (c .operand2) (edgesOf (v .move)) ≡ v .move
   -- every move of the papers has a place
   pub complete : (m : Edges) (g : ℕ) → KeptMove (composedOf c) s m g
       → (k : ℕ) × (v : Kept) × (edgesOf (v .move) ≡ m) × (v .next ≡ g) × At (keptAt c s) k (good v) × Weighed c s l k v
@@ -149,6 +151,7 @@ steps-as-papers c S s d e =
     let E = kept-as-papers c S s d e in
     record {
       sound = λ k t h. let r = of-at-map step (keptAt c s) k h in of-good E k t (r .0) (r .1) (r .2);
+      known = λ k v i. E .known v (at-in (keptAt c s) k i);
       complete = λ m g h.
           let v : Kept = record { move = matchesOf d (c .operand1) (c .operand2) m; next = g } in
           let p = in-at (E .complete m g (at-direction c s d e m g .0 h)) in
