@@ -7,7 +7,7 @@ use mathlib.Core.Logic.{inl}
 use mathlib.Core.Option.{Option, none, some, Option·none-ne-some, Option·some-injective}
 use Prim.Native.Nat.{ℕ, zero, suc, _+_, _*_, _≤_, _<_}
 use native.Mathlib.Omega.{arith}
-use native.Mathlib.Decide.{decLt}
+use native.Mathlib.Decide.{ℕ-discrete, decLt}
 use lib.Dec.{leb}
 use lib.ListN.{length, getD}
 use borrow.Author.Tests.{leb-false}
@@ -135,6 +135,8 @@ pub record StepsMade (S1 S2 : ℕ) (d : Store) (steps : List Step) (e : Store) :
   -- the new states
   pub targets : (m : ℕ) → d .used .states ≤ m → m < e .used .states → (i : ℕ) × (d .used .trs ≤ i) × (i < e .used .trs) × (targetAt (e .memory .trs) i ≡ m)
   pub unexpanded : (m : ℕ) → d .used .states ≤ m → m < e .used .states → expandedAt (e .memory .states) m ≡ 0
+  -- their numbers in order: before record i leads to a state, every smaller new number is the target of an earlier one
+  pub order : (i m : ℕ) → d .used .trs ≤ i → i < e .used .trs → d .used .states ≤ m → m < targetAt (e .memory .trs) i → (j : ℕ) × (d .used .trs ≤ j) × (j < i) × (targetAt (e .memory .trs) j ≡ m)
 
 next-link : (d : Store) (b : Bool) → nextFor d b ≡ linkAt (d .used .trs) b
 next-link d true = refl
@@ -221,6 +223,18 @@ module _ {S1 S2 : ℕ} (narrow : S2 ≤ 65535) where
     join-unexpanded (yes l) = stay-state stay n 2 l (omega arith) ∙ k .fresh n new l .1
     join-unexpanded (no l) = r .unexpanded n (omega arith) used
 
+  -- the first record leads to an old state or to the first new one; a later one is of the other steps
+  module _ (d b e : Store) (last next : ℕ) (st : Step) (others : List Step) (k : StepMade S1 S2 d last next st b) (stay : Stays b e) (r : StepsMade S1 S2 b others e) (i n : ℕ) (from : d .used .trs ≤ i) (used : i < e .used .trs) (new : d .used .states ≤ n) (below : n < targetAt (e .memory .trs) i) where
+    first-target : targetAt (e .memory .trs) (d .used .trs) ≡ targetAt (b .memory .trs) (d .used .trs)
+    unfolding targetAt
+    first-target = stay-tr stay (d .used .trs) 3 (omega (arith, k .trs)) (omega arith)
+
+    join-order : Dec (i ≡ d .used .trs) → Dec (n < b .used .states) → (j : ℕ) × (d .used .trs ≤ j) × (j < i) × (targetAt (e .memory .trs) j ≡ n)
+    join-order (yes z) (yes l) = let t = ap (targetAt (e .memory .trs)) z in absurd (omega (arith, below, t, first-target, k .fresh n new l .0))
+    join-order (yes z) (no l) = let t = ap (targetAt (e .memory .trs)) z in absurd (omega (arith, below, t, first-target, k .made .used))
+    join-order (no z) (yes l) = (d .used .trs, omega arith, omega arith, first-target ∙ k .fresh n new l .0)
+    join-order (no z) (no l) = let q = r .order i n (omega (arith, k .trs)) used (omega arith) below in (q .0, omega (arith, k .trs, q .1), q .2, q .3)
+
   -- every target in range, and `last` the number of records when all steps are stored
   pub steps-made : (d : Store) (last : ℕ) (steps : List Step) (e : Store) → Form S1 S2 d last → Whole d → ((st : Step) → In st steps → InRange S1 S2 (st .to)) → 0 < d .used .states
       → d .used .trs + length steps ≡ last → storeSteps d (map good steps) ≡ good e → StepsMade S1 S2 d steps e
@@ -228,7 +242,7 @@ module _ {S1 S2 : ℕ} (narrow : S2 ≤ 65535) where
   steps-made d last [] e form whole ok any h g =
       let l : last ≡ d .used .trs = omega arith in
       subst (StepsMade S1 S2 d []) (good-is g)
-      (record { form = rw l at form; whole = whole; states = omega arith; trs = omega arith; written = tt; targets = λ m a b. absurd (omega arith); unexpanded = λ m a b. absurd (omega arith) })
+      (record { form = rw l at form; whole = whole; states = omega arith; trs = omega arith; written = tt; targets = λ m a b. absurd (omega arith); unexpanded = λ m a b. absurd (omega arith); order = λ i m a b. absurd (omega arith) })
   steps-made d last (st ∷ others) e form whole ok any h g =
       let m = past-then (storeStep d (nextFor d (nonEmpty {A = Checked Step} (map good others))) st) _ e g in
       let b = m .0 in
@@ -245,4 +259,5 @@ module _ {S1 S2 : ℕ} (narrow : S2 ≤ 65535) where
         written = (made, subst (λ i. Written e i others) (k .trs ∙ omega arith) (r .written));
         targets = λ n a l. join-target d b e last (nextFor d (nonEmpty {A = Checked Step} (map good others))) st others k stay r n a l (decLt n (b .used .states));
         unexpanded = λ n a l. join-unexpanded d b e last (nextFor d (nonEmpty {A = Checked Step} (map good others))) st others k stay r n a l (decLt n (b .used .states));
+        order = λ i n a l x y. join-order d b e last (nextFor d (nonEmpty {A = Checked Step} (map good others))) st others k stay r i n a l x y (ℕ-discrete i (d .used .trs)) (decLt n (b .used .states));
       }

@@ -1,7 +1,7 @@
 -- Each call keeps what every world of a list has, and the world grows: by one split of an expansion, and by induction for a run. What a call leaves, and that it is given again.
 use mathlib.Core.Path.{_≡_, refl, sym, _∙_, ap, subst}
 use mathlib.Core.Bool.{Bool, true, false}
-use mathlib.Core.Logic.{_≢_}
+use mathlib.Core.Logic.{_≢_, _⊎_, inl, inr, ⊎-elim}
 use mathlib.Core.Option.{Option}
 use Prim.Native.Nat.{ℕ, zero, suc, _+_, _≤_, _<_}
 use native.Mathlib.Omega.{arith}
@@ -21,7 +21,7 @@ use Rattle.calls.proofs.Parts.{words-alike}
 use Rattle.calls.proofs.ExpandCases.{stayed, stored, by-expand, store-refusals, final-refusals}
 use Rattle.readings.specs.Demands.{worldOf, Expanded, partIn, wordsIn, stateAt, Leaves, Again}
 use Rattle.readings.proofs.Grows.{Kept, Grows, grows-none, grows-on, room-grows}
-use Rattle.readings.proofs.Expansions.{expansion-keeps, expansion-grows, expansion-lists}
+use Rattle.readings.proofs.Expansions.{expansion-keeps, expansion-grows, expansion-lists, expansion-only}
 
 -- a later world
 pub record Onto (l : Lent) (c : Composition) (w v : World) : Type 0 where
@@ -58,6 +58,14 @@ module _ (l : Lent) (c : Composition) where
       by-expand l (w .session) (w .memory) c (k .sound .enters) n (λ o. o .answer ≡ good p → Expanded (worldOf o) n × (partIn (worldOf o) n ≡ p))
       (λ h e. absurd (good≢refused (sym e))) (λ h x e. ((h, x), good-is e)) (λ h x j y e. absurd (good≢refused (sym e)))
       (λ h b d g e. let r = expansion-lists l c (w .session) (w .memory) k n h d g b in (r .0, r .1 ∙ good-is e))
+
+  -- and no other state is
+  pub expand-only : (w : World) → Kept l c w → (n j : ℕ) → Expanded (worldOf (expandOf l (w .session) (w .memory) n)) j
+      → Expanded w j ⊎ ((j ≡ n) × ((p : Part) × (expandOf l (w .session) (w .memory) n .answer ≡ good p)))
+  expand-only w k n j =
+      by-expand l (w .session) (w .memory) c (k .sound .enters) n (λ o. Expanded (worldOf o) j → Expanded w j ⊎ ((j ≡ n) × ((p : Part) × (o .answer ≡ good p))))
+      (λ h x. inl x) (λ h y x. inl x) (λ h y i z x. inl x)
+      (λ h b d g x. ⊎-elim (λ z. inr (z, (newPart (w .session .used) (d .used), refl))) (λ z. inl z) (expansion-only l c (w .session) (w .memory) k n h d g b j x))
 
   -- a refused one changes nothing
   pub expand-stays : (w : World) → Kept l c w → (n k : ℕ) → expandOf l (w .session) (w .memory) n .answer ≡ refused k → worldOf (expandOf l (w .session) (w .memory) n) ≡ w
@@ -118,17 +126,18 @@ module _ (l : Lent) (c : Composition) where
       go (good x) p z = absurd (good≢refused z)
       go (refused j) p z = final-refusals c (stateAt w n) k (p ∙ ap refused (refused-is z))
 
-  -- a run from state n on, those before it expanded
-  pub record Run (w : World) (o : Outcome (Unit {0})) : Type 0 where
+  -- a run from a state on, those before it expanded
+  pub record Run (from : ℕ) (w : World) (o : Outcome (Unit {0})) : Type 0 where
     pub onto : Onto l c w (worldOf o)
     pub runs : o .answer ≡ good tt → (j : ℕ) → j < o .session .used .states → Expanded (worldOf o) j
-    pub stops : (k : ℕ) → o .answer ≡ refused k → (n : ℕ) × (n < o .session .used .states) × ((j : ℕ) → j < n → Expanded (worldOf o) j) × (expandOf l (o .session) (o .memory) n .answer ≡ refused k)
+    pub stops : (k : ℕ) → o .answer ≡ refused k → (n : ℕ) × (n < o .session .used .states) × ((j : ℕ) → j < n → Expanded (worldOf o) j) × ((j : ℕ) → Expanded (worldOf o) j → (j < n) ⊎ Expanded w j)
+        × (expandOf l (o .session) (o .memory) n .answer ≡ refused k) × (from ≤ n)
 
-  run-ended : (w : World) → Kept l c w → (n : ℕ) → w .session .used .states ≤ n → ((j : ℕ) → j < n → Expanded w j) → Run w (ended (w .session) (w .memory))
+  run-ended : (w : World) → Kept l c w → (n : ℕ) → w .session .used .states ≤ n → ((j : ℕ) → j < n → Expanded w j) → Run n w (ended (w .session) (w .memory))
   run-ended w k n h x = record { onto = onto-none l c w k; runs = λ e j i. x j (omega (arith, h, i)); stops = λ j e. absurd (good≢refused e) }
 
   abbrev RunsFrom : ℕ → ℕ → World → Type 0
-  RunsFrom k n w = Kept l c w → ((j : ℕ) → j < n → Expanded w j) → stateRoom (w .memory) ≤ k + n → Run w (runFrom l k n (w .session) (w .memory))
+  RunsFrom k n w = Kept l c w → ((j : ℕ) → j < n → Expanded w j) → stateRoom (w .memory) ≤ k + n → Run n w (runFrom l k n (w .session) (w .memory))
 
   pub run-from : (k n : ℕ) (w : World) → RunsFrom k n w
   unfolding runFrom
@@ -141,26 +150,31 @@ module _ (l : Lent) (c : Composition) where
       next : Onto l c w (worldOf o)
       next = expand-onto w h n
 
-      on : (a : Checked Part) → n < w .session .used .states → o .answer ≡ a → ((v : World) → RunsFrom k (suc n) v) → Run w (onward a (o .session) (o .memory) (runFrom l k (suc n)))
+      on : (a : Checked Part) → n < w .session .used .states → o .answer ≡ a → ((v : World) → RunsFrom k (suc n) v) → Run n w (onward a (o .session) (o .memory) (runFrom l k (suc n)))
       on (refused j) i e rec = record {
         onto = next;
         runs = λ z. absurd (good≢refused (sym z));
-        stops = λ q z. (n, omega (arith, i, next .grows .states), λ y a. next .grows .expanded y (x y a), subst (λ (v : World). expandOf l (v .session) (v .memory) n .answer ≡ refused q) (sym (expand-stays w h n j e)) (e ∙ ap refused (refused-is z)));
+        stops = λ q z. (n, omega (arith, i, next .grows .states), λ y a. next .grows .expanded y (x y a), λ y a. inr (subst (λ (v : World). Expanded v y) (expand-stays w h n j e) a), subst (λ (v : World). expandOf l (v .session) (v .memory) n .answer ≡ refused q) (sym (expand-stays w h n j e)) (e ∙ ap refused (refused-is z)), omega arith);
       }
       on (good p) i e rec =
           let y = expand-lists w h n p e in
           let r = rec (worldOf o) (next .kept) (λ j a. each j a (ℕ-discrete j n) (y .0)) (omega (arith, room-grows w (worldOf o) (next .grows), room)) in
-          record { onto = onto-on l c w (worldOf o) _ next (r .onto); runs = r .runs; stops = r .stops }
+          record { onto = onto-on l c w (worldOf o) _ next (r .onto); runs = r .runs; stops = λ q z. let t = r .stops q z in (t .0, t .1, t .2, λ j a. before (t .0) (t .5) j (t .3 j a), t .4, omega (arith, t .5)) }
         where
+          -- what this run expanded: n, or what the rest of it did
+          before : (m : ℕ) → suc n ≤ m → (j : ℕ) → (j < m) ⊎ Expanded (worldOf o) j → (j < m) ⊎ Expanded w j
+          before m b j (inl a) = inl a
+          before m b j (inr a) = ⊎-elim (λ z. inr z) (λ z. inl (omega (arith, z .0))) (expand-only w h n j a)
+
           each : (j : ℕ) → j < suc n → Dec (j ≡ n) → Expanded (worldOf o) n → Expanded (worldOf o) j
           each j a (yes z) y = subst (Expanded (worldOf o)) (sym z) y
           each j a (no z) y = next .grows .expanded j (x j (omega arith))
 
-      go : (b : Bool) → leb (w .session .used .states) n ≡ b → ((v : World) → RunsFrom k (suc n) v) → Run w (runBy b (w .session) (w .memory) o (runFrom l k (suc n)))
+      go : (b : Bool) → leb (w .session .used .states) n ≡ b → ((v : World) → RunsFrom k (suc n) v) → Run n w (runBy b (w .session) (w .memory) o (runFrom l k (suc n)))
       go true e rec = run-ended w h n (leb-true _ _ e) x
       go false e rec = on (o .answer) (leb-false _ _ e) refl rec
 
-  pub run-onto : (w : World) → Kept l c w → Run w (runOf l (w .session) (w .memory))
+  pub run-onto : (w : World) → Kept l c w → Run 0 w (runOf l (w .session) (w .memory))
   unfolding runOf
   run-onto w k = rw (k .sound .enters) (run-from (stateRoom (w .memory)) 0 w k (λ j h. absurd (omega arith)) (omega arith))
 
@@ -170,8 +184,9 @@ module _ (l : Lent) (c : Composition) where
       record {
         nine = λ n h. (λ e. let r = expand-numbers w k n h 9 e in omega (arith, r .0), λ e. let r = final-numbers w k n h 9 e in omega (arith, r));
         expands = expand-lists w k;
+        only = expand-only w k;
         runs = r .runs;
-        stops = r .stops;
+        stops = λ j e. let q = r .stops j e in (q .0, q .1, q .2, q .3, q .4);
       }
 
 -- 3a, where the later world grew from the earlier one

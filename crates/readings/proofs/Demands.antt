@@ -5,7 +5,7 @@ use Rattle.calls.specs.Calls.{openOf}
 use Rattle.calls.specs.Sequences.{after}
 use Rattle.calls.proofs.OpenKept.{open-kept}
 use Rattle.readings.specs.Demands.{worldOf, Claim}
-use Rattle.readings.proofs.Openings.{open-keeps}
+use Rattle.readings.proofs.Openings.{open-keeps, open-unexpanded}
 use Rattle.readings.proofs.CallLists.{calls-sound, calls-again}
 use Rattle.readings.proofs.NeverEight.{never-eight}
 use Rattle.readings.proofs.LargerMemory.{larger}
@@ -21,6 +21,7 @@ demand-3 s l got m e =
       o .rule,
       λ cs r. record {
         sound = calls-sound l c w cs k r;
+        unexpanded = open-unexpanded s l got m e;
         eight = never-eight l c w cs k r;
         again = calls-again l c w cs k r;
         larger = λ got2 big more. larger s l got got2 m big more e (o .side) (o .rule) cs r;

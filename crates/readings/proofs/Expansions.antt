@@ -215,6 +215,26 @@ module _ (l : Lent) (c : Composition) (s : Session) (m : Memory) (kept : Kept l 
   found-back q k (at-start _ t h z) = let a = kept .sound .found 0 .1 (at-start 0 t h refl) in omega (arith, a, z, made .states)
   found-back q k (as-target _ j r f x i h) = let b = used-record j r x i in let a = q .form .tr (r - 1) (omega (arith, b .0, b .1)) .target in omega (arith, a, h)
 
+  -- a new record that leads to a state: a smaller number is an old state's, which has an old record, or a new one's
+  order : (r k : ℕ) → 0 < r → r ≤ e .used .trs → 0 < k → k < targetOf v r → (q : ℕ) × (0 < q) × (q < r) × (targetOf v q ≡ k)
+  unfolding mark
+  order r k h i j below = go (decLt (s .used .trs) r) (decLt k (s .used .states))
+    where
+      old : s .used .trs < r → Found c w k → (q : ℕ) × (0 < q) × (q < r) × (targetOf v q ≡ k)
+      old x (at-start _ t a z) = absurd (omega (arith, z, j))
+      old x (as-target _ o q f y a z) = let b = kept .sound .listed q .1 (o, y, a) in (q, b .0, omega (arith, b .1, x), old-target l c w v (kept .sound) grows q (b .0) (b .1) ∙ z)
+
+      go : Dec (s .used .trs < r) → Dec (k < s .used .states) → (q : ℕ) × (0 < q) × (q < r) × (targetOf v q ≡ k)
+      go (no x) y =
+          let t = old-target l c w v (kept .sound) grows r h (omega arith) in
+          let q = kept .sound .order r k h (omega arith) j (omega (arith, below, t)) in
+          (q .0, q .1, q .2, old-target l c w v (kept .sound) grows (q .0) (q .1) (omega (arith, q .2)) ∙ q .3)
+      go (yes x) (yes y) = old x (kept .sound .found k .0 y)
+      go (yes x) (no y) =
+          let q = made .order (r - 1) k (omega arith) (omega arith) (omega arith) below in
+          let z : suc (q .0) - 1 ≡ q .0 = omega arith in
+          (suc (q .0), omega arith, omega (arith, q .2), ap (targetAt (e .memory .trs)) z ∙ q .3)
+
   -- the state's list: record by record, the kept moves
   list-it : IsList c v n
   unfolding mark
@@ -256,12 +276,17 @@ module _ (l : Lent) (c : Composition) (s : Session) (m : Memory) (kept : Kept l 
           alone = alone;
           distinct = whole-distinct f whole;
           start = λ t h. grows .state 0 (omega (arith, found)) ∙ kept .sound .start t h;
+          order = order;
           lists = lists;
         };
       }
 
   pub expansion-grows : Grows w v
   expansion-grows = grows
+
+  -- no other state became expanded
+  pub expansion-only : (k : ℕ) → Expanded v k → (k ≡ n) ⊎ Expanded w k
+  expansion-only = expanded-cases
 
   pub expansion-lists : Expanded v n × (partIn v n ≡ newPart (s .used) (e .used))
   expansion-lists = (expanded-it, part-it)

@@ -59,7 +59,7 @@ module _ (l : Lent) (c : Composition) where
   run-eight w h e =
       let r = run-onto l c w h in
       let q = r .stops 8 e in
-      let z = expand-numbers l c (worldOf (runOf l (w .session) (w .memory))) (r .onto .kept) (q .0) (q .1) 8 (q .3) in
+      let z = expand-numbers l c (worldOf (runOf l (w .session) (w .memory))) (r .onto .kept) (q .0) (q .1) 8 (q .4) in
       omega (arith, z .0)
 
   call-eight : (w : World) → Kept l c w → (x : Call) (t : Session) → callOf l w x .reply ≢ answered (refusal 8) t

@@ -34,6 +34,7 @@ module _ (s : Settings) (l : Lent) (side : Side) (rule : sideFor s l ≡ good si
       alone = λ r j k x y a b. absurd (omega (arith, x .0));
       distinct = λ i j p q z. absurd (omega arith);
       start = λ t z. absurd (Option·none-ne-some _ (sym h ∙ z));
+      order = λ r n a b. absurd (omega arith);
       lists = λ n x. absurd (omega (arith, x .0));
     };
   }
@@ -67,6 +68,7 @@ module _ (s : Settings) (l : Lent) (side : Side) (rule : sideFor s l ≡ good si
             alone = λ r j k x y a b. absurd (bare j x);
             distinct = whole-distinct (add (cleared m) t) whole;
             start = λ u z. begun-triple s l side t rule h m begins ∙ Option·some-injective t u (sym h ∙ z);
+            order = λ r n a b. absurd (omega arith);
             lists = λ n x. absurd (bare n x);
           };
         }
@@ -89,3 +91,13 @@ open-keeps s l got m e side rule =
     (λ x t r h b z. (x, r, start-kept s l x r m t h b))
     e in
     subst (λ x. entered l (openOf s l got m .session) (openOf s l got m .memory) ≡ good (compositionOf s l x) → Kept l (compositionOf s l x) (worldOf (openOf s l got m))) (good-is (sym (r .1) ∙ rule)) (r .2) q
+
+-- no state is expanded by an opening
+pub open-unexpanded : (s : Settings) (l : Lent) (got : Session) (m : Memory) → openOf s l got m .answer ≡ good tt → (n : ℕ) → Expanded (worldOf (openOf s l got m)) n → ⊥
+unfolding cleared
+open-unexpanded s l got m =
+    by-open s l got m (λ (o : Outcome (Unit {0})). o .answer ≡ good tt → (n : ℕ) → Expanded (worldOf o) n → ⊥)
+    (λ k r z. absurd (good≢refused (sym z)))
+    (λ x r h z n y. omega (arith, y .0))
+    (λ x t r h z. absurd (good≢refused (sym z)))
+    (λ x t r h b z. bare s l x r m t h b)

@@ -44,7 +44,7 @@ OpeningsRefused l w (finalWeight n ∷ cs) = OpeningsRefused l (callOf l w (fina
 OpeningsRefused l w (records n ∷ cs) = OpeningsRefused l (callOf l w (records n) .world) cs
 OpeningsRefused l w (run ∷ cs) = OpeningsRefused l (callOf l w run .world) cs
 
--- "expanded is one whose expansion was accepted, also in a run": as its record says; `Leaves` ties that to the calls
+-- "expanded is one whose expansion was accepted, also in a run": as its record says; `Leaves`, and `unexpanded` at the opening, tie that to the calls
 abbrev pub Expanded : World → ℕ → Type 0
 Expanded w n = (n < w .session .used .states) × (expandedAt (w .memory .states) n ≡ 1)
 
@@ -90,28 +90,33 @@ pub record IsList (c : Composition) (w : World) (n : ℕ) : Type 0 where
 pub record Sound (l : Lent) (c : Composition) (w : World) : Type 0 where
   -- the checks 1 to 8 pass: no call but a refused opening is refused by them, and 8 is never answered
   pub enters : entered l (w .session) (w .memory) ≡ good c
-  -- "used counts equal the records found": the used states are the found ones, and every used transition record stands in the list of one expanded state
+  -- "used counts: they equal the records found": the used states are the found ones, and every used transition record stands in the list of one expanded state
   pub found : (n : ℕ) → (n < w .session .used .states) ↔ Found c w n
   pub listed : (r : ℕ) → ((0 < r) × (r ≤ w .session .used .trs)) ↔ ((k : ℕ) × Expanded w k × List·Memᴰ r (recordsIn w k))
   pub alone : (r j k : ℕ) → Expanded w j → Expanded w k → List·Memᴰ r (recordsIn w j) → List·Memᴰ r (recordsIn w k) → j ≡ k
   -- a composed state has one number, and the start has number 0
   pub distinct : (i j : ℕ) → i < w .session .used .states → j < w .session .used .states → stateAt w i ≡ stateAt w j → i ≡ j
   pub start : (t : Triple) → startAt c ≡ some t → stateAt w 0 ≡ t
+  -- "numbers from 0 in order of first finding": before a record leads to a state, every smaller number but 0 is the target of an earlier record
+  pub order : (r n : ℕ) → 0 < r → r ≤ w .session .used .trs → 0 < n → n < targetOf w r → (q : ℕ) × (0 < q) × (q < r) × (targetOf w q ≡ n)
   -- every expanded state's list is that of its kept moves
   pub lists : (n : ℕ) → Expanded w n → IsList c w n
 
 -- What a call leaves.
 pub record Leaves (l : Lent) (w : World) : Type 0 where
-  -- "a found state never gets 9"
+  -- 9 is "state not found yet": a found one never gets it
   pub nine : (n : ℕ) → n < w .session .used .states → (expandOf l (w .session) (w .memory) n .answer ≢ refused 9) × (finalWeightOf l (w .session) (w .memory) n .answer ≢ refused 9)
   -- an accepted expansion: the state is expanded, and its list is the one that was answered
   pub expands : (n : ℕ) (p : Part) → expandOf l (w .session) (w .memory) n .answer ≡ good p
       → Expanded (worldOf (expandOf l (w .session) (w .memory) n)) n × (partIn (worldOf (expandOf l (w .session) (w .memory) n)) n ≡ p)
+  -- and no other state is expanded by it
+  pub only : (n j : ℕ) → Expanded (worldOf (expandOf l (w .session) (w .memory) n)) j → Expanded w j ⊎ ((j ≡ n) × ((p : Part) × (expandOf l (w .session) (w .memory) n .answer ≡ good p)))
   -- an accepted run: every found state is expanded
   pub runs : runOf l (w .session) (w .memory) .answer ≡ good tt → (n : ℕ) → n < runOf l (w .session) (w .memory) .session .used .states → Expanded (worldOf (runOf l (w .session) (w .memory))) n
-  -- a run refused at a state, a found one: those before it are expanded, and its expansion is refused by that number
+  -- a run refused at a state, a found one: those before it are expanded, and no others by this run; its expansion is refused by that number
   pub stops : (k : ℕ) → runOf l (w .session) (w .memory) .answer ≡ refused k
-      → (n : ℕ) × (n < runOf l (w .session) (w .memory) .session .used .states) × ((j : ℕ) → j < n → Expanded (worldOf (runOf l (w .session) (w .memory))) j) × (expandOf l (runOf l (w .session) (w .memory) .session) (runOf l (w .session) (w .memory) .memory) n .answer ≡ refused k)
+      → (n : ℕ) × (n < runOf l (w .session) (w .memory) .session .used .states) × ((j : ℕ) → j < n → Expanded (worldOf (runOf l (w .session) (w .memory))) j)
+      × ((j : ℕ) → Expanded (worldOf (runOf l (w .session) (w .memory))) j → (j < n) ⊎ Expanded w j) × (expandOf l (runOf l (w .session) (w .memory) .session) (runOf l (w .session) (w .memory) .memory) n .answer ≡ refused k)
 
 -- 3a: "an expanded state's list, or a final weight, once given is given again by every later call for it". w is a world of the list, v a later one.
 pub record Again (l : Lent) (w v : World) : Type 0 where
@@ -212,6 +217,8 @@ pub record Finished (s : Settings) (l : Lent) (w : World) : Type 0 where
 pub record Demand3 (s : Settings) (l : Lent) (m : Memory) (c : Composition) (w : World) (cs : List Call) : Type 0 where
   -- at every point of the list
   pub sound : (before later : List Call) → before ++ later ≡ cs → Sound l c (after l w before) × Leaves l (after l w before)
+  -- no state is expanded by the opening
+  pub unexpanded : (n : ℕ) → Expanded w n → ⊥
   -- 8 is never answered
   pub eight : (r : Reply) → List·Memᴰ r (replies l w cs) → (t : Session) → r ≢ answered (refusal 8) t
   -- 3a
