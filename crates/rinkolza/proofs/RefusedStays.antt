@@ -58,7 +58,8 @@ final-stays l w old m n =
     let s = sessionAt w in
     call-stays weight (λ p. refl) (nine w && two old) w old m (andThen (enteredAt l s m n) (λ c. andThen (finalAt c (tripleAt (m .states) n)) (λ x. good (unchanged s m x)))) (λ h. eqb-true _ _ (and-left (nine w) (two old) h))
 
--- a run, where the checks 1 to 8 refuse it
-pub run-stays : (l : Lent) (w : List ℕ) (m : Memory) (k : ℕ) → entered l (sessionAt w) m ≡ refused k → let x = runWords l w m in x .number ≢ 0 → Stays w [] m x
+-- a run with a session of another length, or which the checks 1 to 8 refuse
+pub run-stays : (l : Lent) (w : List ℕ) (m : Memory) → (nine w ≡ true → (k : ℕ) × (entered l (sessionAt w) m ≡ refused k)) → let x = runWords l w m in x .number ≢ 0 → Stays w [] m x
 unfolding runWords runOf
-run-stays l w m k e = rw e (call-stays {A = Unit {0}} (λ u. accepted) (λ u. refl) (nine w) w [] m (refused k) (λ h. eqb-true _ _ h))
+run-stays l w m e =
+    sized-stays (nine w) w [] m (inWords (λ u. accepted) [] (runOf l (sessionAt w) m)) (λ h. rw (e h .1) (settled-stays {A = Unit {0}} (λ u. accepted) (λ u. refl) w [] m (refused (e h .0)) (eqb-true _ _ h)))
