@@ -2,4 +2,3 @@ pub mod LinesFit
 pub mod WeightLaws
 pub mod LineLaws
 pub mod StageLaws
-pub mod AnswerLaws

@@ -4,13 +4,12 @@ mod stages;
 mod weights;
 
 ghost use mathlib.Core.Path.{_≡_};
-ghost use mathlib.Core.List.{List};
-ghost use Prim.Native.Nat.{ℕ};
 ghost use Rattle.io.specs.Counts.{Counts};
 ghost use Rattle.calls.specs.Listing.{listingOn};
-ghost use Rattle.listing_text.specs.Chunks.{opening, readBytes, inRooms, listingRooms};
-ghost use Rattle.listing_text.specs.Printing.{bytesOf, printedBytes};
+ghost use Rattle.listing_text.specs.Printing.{bytesOf};
+ghost use Rattle.listing_text.specs.Ended.{endedBytes};
 ghost use Rattle.listing_read.specs.Meaning.{inputOf, roomsOf};
+ghost use Rattle.listing_read.specs.Held.{held, heldEnded};
 ghost use Rattle.listing_write.specs.Written.{Written};
 ghost use Rattle.lazy_fst.specs.Meaning.{lentWith};
 use lazy_fst::Listed;
@@ -56,7 +55,7 @@ pub fn listing(
     )
 }
 
-// What `composed` prints, when the input that the reader has read has ended; the slices have the listing's rooms.
+// What is printed when the input that the reader has read has ended: the words that were being read are stored, and the lines' words are listed.
 pub fn answer(
     r: Reader,
     settings: &mut [u32],
@@ -64,8 +63,9 @@ pub fn answer(
     second: &mut [u32],
     out: &mut [u8; 131200],
 ) -> usize
-    ensures { λ n. ⌜ ((input : List ℕ) → roomsOf (now (settings .entry)) (now (first .entry)) (now (second .entry)) ≡ listingRooms → inputOf r (now (settings .entry)) (now (first .entry)) (now (second .entry)) ≡ inRooms listingRooms (readBytes opening input) → Written (now (out .entry)) 0 (printedBytes input) (now (out .exit)) n) ⌝ }
+    ensures { λ n. ⌜ Written (now (out .entry)) 0 (endedBytes (roomsOf (now (settings .entry)) (now (first .entry)) (now (second .entry))) (inputOf r (now (settings .entry)) (now (first .entry)) (now (second .entry)))) (now (out .exit)) n ⌝ }
     ensures counts { λ n. ⌜ Counts n (now (out .exit)) ⌝ }
+    ensures stored { λ n. ⌜ held r (now (settings .exit)) (now (first .exit)) (now (second .exit)) ≡ heldEnded (held r (now (settings .entry)) (now (first .entry)) (now (second .entry))) ⌝ }
 {
     let s = r.settings;
     let f = r.first;

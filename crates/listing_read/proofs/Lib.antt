@@ -1,2 +1,3 @@
 pub mod ScanLaws
 pub mod InputLaws
+pub mod HeldLaws

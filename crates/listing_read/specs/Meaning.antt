@@ -1,5 +1,5 @@
 -- What the reader's fields and the words in the lent slices stand for.
-use mathlib.Core.Bool.{false, true, cond}
+use mathlib.Core.Bool.{Bool, false, true, cond}
 use mathlib.Core.List.{List}
 use Prim.Native.Nat.{ℕ}
 use lib.ListN.{length, take}
@@ -25,9 +25,13 @@ roomsOf settings first second = record { settings = length settings; first = len
 abbrev pub readerOf : ℕ → LineReader → LineReader → LineReader → Reader
 readerOf at settings first second = record { at = at; settings = settings; first = first; second = second }
 
+-- a line by its fields, not bad
+abbrev pub lineOf : ℕ → ℕ → Bool → LineReader
+lineOf count value inside = record { count = count; value = value; inside = inside; bad = false }
+
 -- a line of which nothing is read
 abbrev pub newLine : LineReader
-newLine = record { count = 0; value = 0; inside = false; bad = false }
+newLine = lineOf 0 0 false
 
 -- a reader of which nothing is read
 abbrev pub newReader : Reader

@@ -4,6 +4,7 @@ mod line;
 ghost use mathlib.Core.Path.{_≡_};
 ghost use Rattle.listing_text.specs.Chunks.{readByte, readBytes, inRooms};
 ghost use Rattle.listing_read.specs.Meaning.{inputOf, roomsOf, newReader, readerOf};
+ghost use Rattle.listing_read.specs.Held.{held, heldByte, heldBytes};
 pub use line::LineReader;
 pub use line::line_words;
 pub use line::new_line;
@@ -33,6 +34,7 @@ pub fn read_byte(
     second: &mut [u32],
 ) -> Reader
     ensures { λ n. ⌜ inputOf n (now (settings .exit)) (now (first .exit)) (now (second .exit)) ≡ inRooms (roomsOf (now (settings .entry)) (now (first .entry)) (now (second .entry))) (readByte (inputOf r (now (settings .entry)) (now (first .entry)) (now (second .entry))) b) ⌝ }
+    ensures stored { λ n. ⌜ held n (now (settings .exit)) (now (first .exit)) (now (second .exit)) ≡ heldByte (held r (now (settings .entry)) (now (first .entry)) (now (second .entry))) b ⌝ }
 {
     let at = r.at;
     let s = r.settings;
@@ -73,6 +75,7 @@ pub fn read_chunk(
     second: &mut [u32],
 ) -> Reader
     ensures { λ n. ⌜ inputOf n (now (settings .exit)) (now (first .exit)) (now (second .exit)) ≡ inRooms (roomsOf (now (settings .entry)) (now (first .entry)) (now (second .entry))) (readBytes (inputOf start (now (settings .entry)) (now (first .entry)) (now (second .entry))) (now (chunk .entry))) ⌝ }
+    ensures stored { λ n. ⌜ held n (now (settings .exit)) (now (first .exit)) (now (second .exit)) ≡ heldBytes (held start (now (settings .entry)) (now (first .entry)) (now (second .entry))) (now (chunk .entry)) ⌝ }
 {
     let mut r = start;
     let mut i = 0;

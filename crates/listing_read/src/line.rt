@@ -5,6 +5,7 @@ ghost use Rattle.io.specs.Counts.{Counts};
 ghost use Rattle.listing_text.specs.Reading.{isBlank, ended, step};
 ghost use Rattle.listing_text.specs.Chunks.{within, lineWords};
 ghost use Rattle.listing_read.specs.Meaning.{scanOf, newLine, failedLine};
+ghost use Rattle.listing_read.specs.Held.{endedLine, endedWords, steppedLine, steppedWords};
 
 const MAX: u64 = 4294967295;
 
@@ -54,6 +55,8 @@ fn is_blank(b: u8) -> bool
 // The word that is being read is stored, if there is one and there is room.
 fn put_word(line: LineReader, words: &mut [u32]) -> LineReader
     ensures { λ r. ⌜ scanOf (now (words .exit)) r ≡ within (length (now (words .entry))) (ended (scanOf (now (words .entry)) line)) ⌝ }
+    ensures fields { λ r. ⌜ r ≡ endedLine (length (now (words .entry))) line ⌝ }
+    ensures stored { λ r. ⌜ now (words .exit) ≡ endedWords line (now (words .entry)) ⌝ }
 {
     if line.bad {
         return line;
@@ -77,6 +80,8 @@ fn put_word(line: LineReader, words: &mut [u32]) -> LineReader
 // One byte more of a line.
 pub fn step_byte(line: LineReader, b: u8, words: &mut [u32]) -> LineReader
     ensures { λ r. ⌜ scanOf (now (words .exit)) r ≡ within (length (now (words .entry))) (step (scanOf (now (words .entry)) line) b) ⌝ }
+    ensures fields { λ r. ⌜ r ≡ steppedLine (length (now (words .entry))) line b ⌝ }
+    ensures stored { λ r. ⌜ now (words .exit) ≡ steppedWords line (now (words .entry)) b ⌝ }
 {
     if line.bad {
         return line;
@@ -106,6 +111,7 @@ pub fn step_byte(line: LineReader, b: u8, words: &mut [u32]) -> LineReader
 pub fn line_words(line: LineReader, words: &mut [u32]) -> usize
     ensures { λ r. ⌜ take r (now (words .exit)) ≡ lineWords (length (now (words .entry))) (scanOf (now (words .entry)) line) ⌝ }
     ensures counts { λ r. ⌜ Counts r (now (words .exit)) ⌝ }
+    ensures stored { λ r. ⌜ now (words .exit) ≡ endedWords line (now (words .entry)) ⌝ }
 {
     let last = put_word(line, words);
     if last.bad {

@@ -8,12 +8,11 @@ use lib.ListN.{length}
 use lib.Dec.{eqb, leb}
 use borrow.Author.Tests.{leb-false, le-leb, ne-eqb}
 use mathlib.Core.Option.{none}
-use Rattle.words.specs.Labels.{refused}
-use Rattle.words.specs.Settings.{Lent}
-use Rattle.calls.specs.Listing.{Line, machineLine, composed, settingsOf, printed, listing}
+use Rattle.calls.specs.Listing.{lentOf, listingOn, listing}
 use Rattle.listing_text.specs.Reading.{lineAt, Scan, reading, notWords, start, ended, steps, kept, wordsOf}
 use Rattle.listing_text.specs.Chunks.{opening, readBytes, within, inRooms, lineWords, listingRooms}
 use Rattle.listing_text.specs.Printing.{bytesOf, printedBytes}
+use Rattle.listing_text.specs.Ended.{endedBytes}
 use Rattle.listing_text.proofs.Chunks.{within-ended}
 use Rattle.listing_text.proofs.LineLaws.{three-lines}
 
@@ -32,38 +31,24 @@ kept-within room (reading words value inside) = go (leb (length words) room)
 line-words : (room : ℕ) (line : List ℕ) → lineWords room (within room (steps start line)) ≡ atMost room (wordsOf line)
 line-words room line = ap kept (within-ended room (steps start line)) ∙ kept-within room (ended (steps start line))
 
-machine-once : (m : List ℕ) → machineLine (atMost 4096 m) ≡ machineLine m
-machine-once m = go (leb (length m) 4096) refl
-  where
-    go : (x : Bool) → leb (length m) 4096 ≡ x → machineLine (cond x m []) ≡ cond x m []
-    go true e = rw e refl
-    go false e = refl
-
-abbrev lent : List ℕ → List ℕ → Lent
-lent m1 m2 = record { m1 = m1; m2 = m2; allowed1 = none; allowed2 = none }
-
 -- a settings line of more than six words is refused like one without words
-listing-rooms : (w m1 m2 : List ℕ) → listing (atMost 6 w) (atMost 4096 m1) (atMost 4096 m2) ≡ listing w m1 m2
+listing-rooms : (w m1 m2 : List ℕ) → listingOn (atMost 6 w) (lentOf m1 m2) ≡ listing w m1 m2
 unfolding listing
-listing-rooms w m1 m2 = (λ k. shown (atMost 6 w) (machine-once m1 k) (machine-once m2 k)) ∙ go (leb (length w) 6) refl
+listing-rooms w m1 m2 = go (leb (length w) 6) refl
   where
-    shown : List ℕ → List ℕ → List ℕ → List Line
-    shown v a b = printed (cond (eqb (length v) 6) (composed (settingsOf v) (lent a b)) (refused 1))
-
-    go : (x : Bool) → leb (length w) 6 ≡ x → shown (cond x w []) (machineLine m1) (machineLine m2) ≡ listing w m1 m2
+    go : (x : Bool) → leb (length w) 6 ≡ x → listingOn (cond x w []) (lentOf m1 m2) ≡ listing w m1 m2
     go true e = refl
     go false e =
         let h : 6 < length w = leb-false (length w) 6 e in
         rw (ne-eqb (length w) 6 (λ (p : length w ≡ 6). absurd (omega (arith, p)))) refl
 
 -- what the words that are left when the input has ended print
-pub same-listing : (input : List ℕ) →
-    let i = inRooms listingRooms (readBytes opening input) in
-    bytesOf (listing (lineWords 6 (i .settings)) (lineWords 4096 (i .first)) (lineWords 4096 (i .second))) ≡ printedBytes input
+pub same-listing : (input : List ℕ) → endedBytes listingRooms (inRooms listingRooms (readBytes opening input)) ≡ printedBytes input
 unfolding printedBytes
 same-listing input =
     let h = three-lines start start start input in
     let A = ap (λ (s : Scan). lineWords 6 (within 6 s)) (h .0) ∙ line-words 6 (lineAt 0 input) in
     let B = ap (λ (s : Scan). lineWords 4096 (within 4096 s)) (h .1) ∙ line-words 4096 (lineAt 1 input) in
     let C = ap (λ (s : Scan). lineWords 4096 (within 4096 s)) (h .2) ∙ line-words 4096 (lineAt 2 input) in
-    ap bytesOf ((λ k. listing (A k) (B k) (C k)) ∙ listing-rooms (wordsOf (lineAt 0 input)) (wordsOf (lineAt 1 input)) (wordsOf (lineAt 2 input)))
+    (λ k. bytesOf (listingOn (A k) (record { m1 = B k; m2 = C k; allowed1 = none; allowed2 = none })))
+    ∙ ap bytesOf (listing-rooms (wordsOf (lineAt 0 input)) (wordsOf (lineAt 1 input)) (wordsOf (lineAt 2 input)))

@@ -2,3 +2,4 @@ pub mod Ascii
 pub mod Reading
 pub mod Printing
 pub mod Chunks
+pub mod Ended

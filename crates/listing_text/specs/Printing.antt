@@ -17,7 +17,7 @@ decimalBy (suc k) n = cond (ltb n 10) ((48 + n) ∷ []) (decimalBy k (n / 10) ++
 abbrev pub decimal : ℕ → List ℕ
 decimal n = decimalBy 20 n
 
--- one space stands before each word but the first, and a line feed at the end
+-- the words of a line after its first: one space stands before each, and a line feed at the end
 unfoldable pub spaced : List (List ℕ) → List ℕ
 spaced [] = lineFeed ∷ []
 spaced (w ∷ ws) = 32 ∷ w ++ spaced ws

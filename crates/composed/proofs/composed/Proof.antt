@@ -1,8 +1,11 @@
 -- `composed` meets its contract: what came is answered.
-use mathlib.Core.Path.{_≡_}
+use mathlib.Core.Path.{_≡_, _∙_}
 use native.Mathlib.Omega.{arith}
 use lib.ListN.{length}
 use borrow.Author.Needs.{needs}
+use Rattle.listing_text.specs.Ended.{endedBytes}
+use Rattle.listing_text.proofs.SameListing.{same-listing}
+use Rattle.listing_write.proofs.WrittenLaws.{same-text}
 use Rattle.composed.proofs.composed.Statement.{statement}
 use Rattle.composed.proofs.composed.Tie as tie
 
@@ -13,7 +16,7 @@ returns c =
     let x : length (c .before .before .before .before .before .before .before .before .before .before .before .read-lines .last .0) ≡ 6 = omega (arith, c .before .before .before .before .before .before .before .before .before .before .settings2 .given) in
     let y : length (c .before .before .before .before .before .before .before .before .before .before .before .read-lines .last .1 .0) ≡ 4096 = omega (arith, c .before .before .before .before .before .before .before .before .before .first2 .given) in
     let z : length (c .before .before .before .before .before .before .before .before .before .before .before .read-lines .last .1 .1 .0) ≡ 4096 = omega (arith, c .before .before .before .before .before .before .before .before .second2 .given) in
-    ((h .0, w .0 (h .0) (λ k. record { settings = x k; first = y k; second = z k }) (h .1)), w .1)
+    ((h .0, same-text ((λ k. endedBytes (record { settings = x k; first = y k; second = z k }) (h .1 k)) ∙ same-listing (h .0)) (w .0)), w .1 .0)
 
 pub composed-spec : {M : Type 1} → statement M
 composed-spec =

@@ -48,7 +48,7 @@ loop-again c =
       x ∙ p .inv .1,
       y ∙ p .inv .2,
       z ∙ p .inv .3,
-      more-came (a .settings .now) (a .first .now) (a .second .now) (p .settings) (p .first) (p .second) (inputOf (p .r) (p .settings) (p .first) (p .second)) (inputOf (w .result) (w .last .1 .1 .0) (w .last .1 .1 .1 .0) (w .last .1 .1 .1 .1 .0)) _ (p .inv .1) (p .inv .2) (p .inv .3) (p .inv .4) (w .ensures),
+      more-came (a .settings .now) (a .first .now) (a .second .now) (p .settings) (p .first) (p .second) (inputOf (p .r) (p .settings) (p .first) (p .second)) (inputOf (w .result) (w .last .1 .1 .0) (w .last .1 .1 .1 .0) (w .last .1 .1 .1 .1 .0)) _ (p .inv .1) (p .inv .2) (p .inv .3) (p .inv .4) (w .ensures .0),
     )
 
 returns-4 : tie.Need-returns-4 Inv-loop μ-loop

@@ -1,15 +1,18 @@
 -- `line::step_byte` meets its contract, by the law of each case.
 use mathlib.Core.Path.{_≡_, sym, ap, _∙_}
-use mathlib.Core.Bool.{false}
+use mathlib.Core.Bool.{true, false}
 use Rattle.listing_text.specs.Reading.{isBlank}
 use Rattle.listing_read.specs.Meaning.{scanOf}
 use Rattle.listing_read.proofs.ScanLaws.{step-bad, step-blank, step-other, step-large, step-digit, below-digits, above-digits, is-digit}
+use Rattle.listing_read.proofs.HeldLaws.{stepped-bad, stepped-blank, stepped-other, stepped-large, stepped-digit}
 use borrow.Author.Needs.{needs}
 use Rattle.listing_read.proofs.line.step_byte.Statement.{statement}
 use Rattle.listing_read.proofs.line.step_byte.Tie as tie
 
 returns : tie.Need-returns
-returns c = step-bad (c .before .before .args .words .now) (c .before .before .args .line) (c .before .before .args .b) (c .if1 .taken)
+returns c =
+    let a = c .before .before .args in
+    (step-bad (a .words .now) (a .line) (a .b) (c .if1 .taken), stepped-bad (a .words .now) (a .line) (a .b) (c .if1 .taken))
 
 is-blank-requires : tie.Need-is-blank-requires
 is-blank-requires c κs = search needs
@@ -24,7 +27,10 @@ returns-2 : tie.Need-returns-2
 returns-2 c =
     let s = c .before .before .before .before .before .before .before .before in
     let ws = s .args .words .now in
-    c .before .before .put-word .ensures ∙ step-blank ws (s .args .line) (s .args .b) (c .before .before .before .before .before .before .if1 .left) (sym (c .before .before .before .before .before .is-blank .ensures) ∙ c .before .before .before .before .if2 .taken)
+    let w = c .before .before .put-word in
+    let e : isBlank (s .args .b) ≡ true = sym (c .before .before .before .before .before .is-blank .ensures) ∙ c .before .before .before .before .if2 .taken in
+    let g = c .before .before .before .before .before .before .if1 .left in
+    (w .ensures .0 ∙ step-blank ws (s .args .line) (s .args .b) g e, stepped-blank ws (s .args .line) (s .args .b) (w .result) (w .last .1 .0) g e (w .ensures .1))
 
 failed-requires : tie.Need-failed-requires
 failed-requires c κs = search needs
@@ -34,7 +40,8 @@ returns-3 c =
     let s = c .before .before .before .before .before .before in
     let ws = s .args .words .now in
     let e : isBlank (s .args .b) ≡ false = sym (c .before .before .before .is-blank .ensures) ∙ c .before .before .if2 .left in
-    ap (scanOf ws) (c .failed .ensures) ∙ step-other ws (s .args .line) (s .args .b) (c .before .before .before .before .if1 .left) e (below-digits (s .args .b) (c .before .if3 .taken))
+    let p = stepped-other ws (s .args .line) (s .args .b) (c .before .before .before .before .if1 .left) e (below-digits (s .args .b) (c .before .if3 .taken)) in
+    (ap (scanOf ws) (c .failed .ensures) ∙ step-other ws (s .args .line) (s .args .b) (c .before .before .before .before .if1 .left) e (below-digits (s .args .b) (c .before .if3 .taken)), (c .failed .ensures ∙ p .0, p .1))
 
 failed-requires-2 : tie.Need-failed-requires-2
 failed-requires-2 c κs = search needs
@@ -44,7 +51,8 @@ returns-4 c =
     let s = c .before .before .before .before .before .before .before in
     let ws = s .args .words .now in
     let e : isBlank (s .args .b) ≡ false = sym (c .before .before .before .before .is-blank .ensures) ∙ c .before .before .before .if2 .left in
-    ap (scanOf ws) (c .failed2 .ensures) ∙ step-other ws (s .args .line) (s .args .b) (c .before .before .before .before .before .if1 .left) e (above-digits (s .args .b) (c .before .before .if3 .left) (c .before .if4 .taken))
+    let p = stepped-other ws (s .args .line) (s .args .b) (c .before .before .before .before .before .if1 .left) e (above-digits (s .args .b) (c .before .before .if3 .left) (c .before .if4 .taken)) in
+    (ap (scanOf ws) (c .failed2 .ensures) ∙ step-other ws (s .args .line) (s .args .b) (c .before .before .before .before .before .if1 .left) e (above-digits (s .args .b) (c .before .before .if3 .left) (c .before .if4 .taken)), (c .failed2 .ensures ∙ p .0, p .1))
 
 cast-v : tie.Need-cast-v
 cast-v c = search needs
@@ -66,7 +74,8 @@ returns-5 c =
     let s = c .before .before .before .before .before .before .before .before .before in
     let ws = s .args .words .now in
     let e : isBlank (s .args .b) ≡ false = sym (c .before .before .before .before .before .before .is-blank .ensures) ∙ c .before .before .before .before .before .if2 .left in
-    ap (scanOf ws) (c .failed3 .ensures) ∙ step-large ws (s .args .line) (s .args .b) (c .before .before .before .before .before .before .before .if1 .left) e (is-digit (s .args .b) (c .before .before .before .before .if3 .left) (c .before .before .before .if4 .left)) (c .before .if5 .taken)
+    let p = stepped-large ws (s .args .line) (s .args .b) (c .before .before .before .before .before .before .before .if1 .left) e (is-digit (s .args .b) (c .before .before .before .before .if3 .left) (c .before .before .before .if4 .left)) (c .before .if5 .taken) in
+    (ap (scanOf ws) (c .failed3 .ensures) ∙ step-large ws (s .args .line) (s .args .b) (c .before .before .before .before .before .before .before .if1 .left) e (is-digit (s .args .b) (c .before .before .before .before .if3 .left) (c .before .before .before .if4 .left)) (c .before .if5 .taken), (c .failed3 .ensures ∙ p .0, p .1))
 
 cast-t13 : tie.Need-cast-t13
 cast-t13 c = search needs
@@ -76,7 +85,7 @@ returns-6 c =
     let s = c .before .before .before .before .before .before .before .before in
     let ws = s .args .words .now in
     let e : isBlank (s .args .b) ≡ false = sym (c .before .before .before .before .before .is-blank .ensures) ∙ c .before .before .before .before .if2 .left in
-    step-digit ws (s .args .line) (s .args .b) (c .before .before .before .before .before .before .if1 .left) e (is-digit (s .args .b) (c .before .before .before .if3 .left) (c .before .before .if4 .left)) (c .if5 .left)
+    (step-digit ws (s .args .line) (s .args .b) (c .before .before .before .before .before .before .if1 .left) e (is-digit (s .args .b) (c .before .before .before .if3 .left) (c .before .before .if4 .left)) (c .if5 .left), stepped-digit ws (s .args .line) (s .args .b) (c .before .before .before .before .before .before .if1 .left) e (is-digit (s .args .b) (c .before .before .before .if3 .left) (c .before .before .if4 .left)) (c .if5 .left))
 
 pub step-byte-spec : {M : Type 1} → statement M
 step-byte-spec =
