@@ -84,6 +84,7 @@ machineOf m = record {
   output = λ t. trWord m t 1;
   weight = λ t. trWord m t 2;
   target = λ t. trWord m t 3;
+  -- "A final weight equal to zero counts as final for the filters": the weight is not looked at
   isFinal = λ s. eqb (stateWord m s 1) 1;
   finalWeight = λ s. stateWord m s 2;
 }

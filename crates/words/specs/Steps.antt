@@ -114,7 +114,7 @@ stepOf c s k =
     weighed a b (k .next) (times (c .kind) (a .weight) (b .weight))
 
 -- The composed transitions of a state in 01's order. A refusal stands at its place: 10 alone, 11 before a walked label's matches, 12 for a kept move. The expansion is refused
--- by the first of them (`collect`), unless a record is lacking before it.
+-- by the first of them, unless a record is lacking before it (`storeSteps` of crate calls).
 unfoldable pub stepsAt : Composition → Triple → List (Checked Step)
 stepsAt c s = map (λ k. andThen k (stepOf c s)) (keptAt c s)
 
@@ -128,7 +128,7 @@ startOf (some s) (some t) = some (record { s1 = s; s2 = t; f = 0 })
 unfoldable pub startAt : Composition → Option Triple
 startAt c = startOf (c .operand1 .machine .start) (c .operand2 .machine .start)
 
--- "A final weight equal to zero counts as final for the filters, but the composed state isn't final."
+-- "A final weight equal to zero .. the composed state isn't final."
 abbrev pub unlessZero : Kind → Option ℕ → Checked (Option ℕ)
 unlessZero k none = refused 12
 unlessZero k (some w) = good (cond (isZero k w) none (some w))
