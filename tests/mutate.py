@@ -1,12 +1,13 @@
 #!/usr/bin/env python3
 """Changes the code, or the definitions, of a crate in one place at a time, and sees whether the prover refuses.
 
-    tests/mutate.py COPY --crate NAME [--definitions] [--kinds K,K] [--only PATTERN] [--limit N] [--sample K --seed S] [--together N] [--log FILE]
+    tests/mutate.py COPY --crate NAME [--definitions | --wrong] [--kinds K,K] [--only PATTERN] [--limit N] [--sample K --seed S] [--together N] [--log FILE]
 
 COPY is a private copy of the repository, in which NAME is proved; each change is made there, judged by `rt dev NAME` and taken back. The gate does not run this:
 it takes hours. Verdicts: refused (the prover says not-proved), no program (the compiler, or for definitions the type checker of specs/, refuses the text before any proof is
 looked at; not scored), timeout, survived. Survivors that tests/mutants.txt explains are counted apart; the others are printed. A refusal says that the proof that stands does
-not fit the changed text: nearly always because the contract is false of it, but a change that keeps the meaning may be refused too.
+not fit the changed text: nearly always because the contract is false of it, but a change that keeps the meaning may be refused too. With --wrong the changes are those of
+tests/wrong.txt: two wrong programs for each public function, each with an input at which it is wrong.
 """
 import argparse
 import collections
@@ -42,6 +43,44 @@ def definition_mutants(root, crate):
         text = mutate_definitions.with_imports(path.read_text())
         for name, change in mutate_definitions.mutants_of(text, known):
             yield Mutant(path.relative_to(root), name, *change, text)
+
+
+def entries(name):
+    """What tests/NAME says of changes: file and function, the line before and after, the reason."""
+    place, old, new = None, None, None
+    for line in (HERE / name).read_text().split("\n"):
+        mark, rest = line[:1], line[2:].strip()
+        if mark == "-":
+            old = rest
+        elif mark == "+":
+            new = rest
+        elif mark == "=":
+            yield (*place, old, new), rest
+        elif line.startswith("crates/"):
+            place = tuple(line.split())
+
+
+def line_in(text, start, end, wanted):
+    """The place of the one line that reads so between two places."""
+    at, found = start, []
+    for line in text[start:end].split("\n"):
+        if line.strip() == wanted:
+            found.append((at + len(line) - len(line.lstrip()), at + len(line.rstrip())))
+        at += len(line) + 1
+    return found
+
+
+def wrong_programs(root, crate):
+    for (file, name, old, new), _ in entries("wrong.txt"):
+        if file.split("/")[1] != crate:
+            continue
+        text = (root / file).read_text()
+        source = mutate_code.Source(text)
+        bodies = [f.body for f in source.functions if f.name == name]
+        places = [p for a, b in bodies for p in line_in(text, source.tokens[a].start, source.tokens[b].end, old)]
+        if not places:
+            sys.exit(f"{file}: {name} has no line {old}")
+        yield Mutant(pathlib.Path(file), name, "wrong", *places[0], new, text)
 
 
 def lines(text):
@@ -157,22 +196,6 @@ def batches(root, crate, mutants, most):
         yield group
 
 
-def explained():
-    """The survivors of tests/mutants.txt: file and name, the line before and after, with the reason."""
-    reasons, place, old, new = {}, None, None, None
-    for line in (HERE / "mutants.txt").read_text().split("\n"):
-        mark, rest = line[:2], line[2:].strip()
-        if mark == "- ":
-            old = rest
-        elif mark == "+ ":
-            new = rest
-        elif mark == "= ":
-            reasons[(*place, old, new)] = rest
-        elif line.startswith("crates/"):
-            place = tuple(line.split())
-    return reasons
-
-
 def key(r):
     return r["file"], r["name"], r["old"], r["new"]
 
@@ -183,7 +206,8 @@ def place(r):
 
 
 def chosen(args, root):
-    mutants = list(distinct((definition_mutants if args.definitions else code_mutants)(root, args.crate)))
+    listed = wrong_programs if args.wrong else definition_mutants if args.definitions else code_mutants
+    mutants = list(distinct(listed(root, args.crate)))
     if args.kinds:
         mutants = [m for m in mutants if m.kind in args.kinds.split(",")]
     if args.only:
@@ -194,7 +218,7 @@ def chosen(args, root):
 
 
 def report(crate, results):
-    reasons = explained()
+    reasons = dict(entries("mutants.txt"))
     count = collections.Counter(r["verdict"] for r in results)
     known = sum(r["verdict"] == "survived" and key(r) in reasons for r in results)
     print(f"{crate}: {len(results)} mutants, {count['no program']} no program, {count['refused']} refused, {count['timeout']} timeout, "
@@ -209,6 +233,7 @@ def arguments():
     parser.add_argument("copy", type=pathlib.Path)
     parser.add_argument("--crate", required=True)
     parser.add_argument("--definitions", action="store_true")
+    parser.add_argument("--wrong", action="store_true", help="the programs of tests/wrong.txt")
     parser.add_argument("--kinds")
     parser.add_argument("--only", help="a pattern for the file and the name")
     parser.add_argument("--limit", type=int)
