@@ -55,7 +55,7 @@ pub record Reached : Type 0 where
   pub store : Store
   pub state : ℕ
 
--- the number of a triple: the state found, else a new one; 13 where its record is lacking
+-- "numbers from 0 in order of first finding": the number of a triple is that of the state found, else the first unused one; 13 where its record is lacking
 abbrev pub reachedBy : Store → Triple → Option ℕ → Checked Reached
 reachedBy d t (some n) = good (record { store = d; state = n })
 reachedBy d t none = refuseIf (leb (stateRoom (d .memory)) (d .used .states)) 13 (good (record { store = add d t; state = d .used .states }))
@@ -103,7 +103,7 @@ expandOf l s m n = settle s m (andThen (enteredAt l s m n) (λ c. expandBy c s m
 unfoldable pub finalWeightOf : Lent → Session → Memory → ℕ → Outcome (Option ℕ)
 finalWeightOf l s m n = settle s m (andThen (enteredAt l s m n) (λ c. andThen (finalAt c (tripleAt (m .states) n)) (λ w. good (unchanged s m w))))
 
--- a run goes on after an accepted expansion, with what it left; a refusal ends it
+-- a run goes on after an accepted expansion, with what it left; "A run refused at a state returns the session of the expansions kept."
 abbrev pub onward : Checked Part → Session → Memory → (Session → Memory → Outcome (Unit {0})) → Outcome (Unit {0})
 onward (good p) s m go = go s m
 onward (refused n) s m go = record { answer = refused n; session = s; memory = m }

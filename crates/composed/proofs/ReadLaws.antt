@@ -3,7 +3,7 @@ use mathlib.Core.Path.{_≡_, ap, _∙_}
 use mathlib.Core.List.{List, [], _++_}
 use Prim.Native.Nat.{ℕ}
 use lib.ListN.{length}
-use Rattle.listing_text.specs.Chunks.{Input, opening, readBytes, inRooms}
+use Rattle.listing_text.specs.Chunks.{Input, unread, readBytes, inRooms}
 use Rattle.listing_text.proofs.Chunks.{next-chunk}
 use Rattle.listing_read.specs.Meaning.{inputOf, roomsOf, newReader}
 use Rattle.listing_read.specs.declared.Reader.{Reader}
@@ -20,5 +20,5 @@ pub more-came : (s₀ f₀ g₀ s f g : List ℕ) (I I′ : Input) (chunk : List
     → Reads (roomsOf s₀ f₀ g₀) I′
 more-came s₀ f₀ g₀ s f g I I′ chunk p q t h e = (
   h .0 ++ chunk,
-  e ∙ (λ k. inRooms (same-rooms s f g s₀ f₀ g₀ p q t k) (readBytes (h .1 k) chunk)) ∙ next-chunk (roomsOf s₀ f₀ g₀) opening (h .0) chunk,
+  e ∙ (λ k. inRooms (same-rooms s f g s₀ f₀ g₀ p q t k) (readBytes (h .1 k) chunk)) ∙ next-chunk (roomsOf s₀ f₀ g₀) unread (h .0) chunk,
 )

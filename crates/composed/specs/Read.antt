@@ -3,13 +3,13 @@
 use mathlib.Core.Path.{_≡_}
 use mathlib.Core.List.{List}
 use Prim.Native.Nat.{ℕ}
-use Rattle.listing_text.specs.Chunks.{Input, Rooms, opening, readBytes, inRooms}
+use Rattle.listing_text.specs.Chunks.{Input, Rooms, unread, readBytes, inRooms}
 use Rattle.listing_text.specs.Printing.{printedBytes}
 use Rattle.listing_write.specs.Written.{Written}
 
 -- the reading, in these rooms, of some bytes, whatever the chunks in which they came
 abbrev pub Reads : Rooms → Input → Type 0
-Reads rooms i = (input : List ℕ) × (i ≡ inRooms rooms (readBytes opening input))
+Reads rooms i = (input : List ℕ) × (i ≡ inRooms rooms (readBytes unread input))
 
 -- out′ is out with what `composed` prints of some bytes, and n is the number of bytes printed
 abbrev pub Prints : List ℕ → List ℕ → ℕ → Type 0

@@ -16,7 +16,7 @@ use Rattle.calls.specs.Checks.{Session}
 use Rattle.calls.specs.Calls.{Outcome, openOf, runOf, finalWeightOf, recordsOf}
 use Rattle.calls.specs.Listing.{Line, sideLine, stateLine, endLine, refusedLine, trLines, listed, printed, composed, settingsOf, noSession, emptyMemory, listingOn}
 use Rattle.listing_text.specs.Printing.{lineBytes, bytesOf}
-use Rattle.listing.specs.Stages.{givenWeight, linesAt, linesFrom, ranOf, openedOf, FewLines}
+use Rattle.listing.specs.Stages.{givenWeight, linesAt, linesFrom, ranOf, openedOf, openedMemory, FewLines}
 use Rattle.listing.proofs.LinesFit.{few-lines}
 use Rattle.listing.proofs.LineLaws.{bytes-append, bytes-one}
 
@@ -52,6 +52,14 @@ module _ (s : Settings) (l : Lent) (got : Session) (m : Memory) (o : Outcome (Un
   pub open-accepted : o .answer ≡ good tt → printed (ranOf l (o .session) (o .memory)) ≡ printed (openedOf s l got m)
   unfolding openedOf
   open-accepted q = rw (← e, q)
+
+  pub open-left : (k : ℕ) → o .answer ≡ refused k → o .memory ≡ openedMemory s l got m
+  unfolding openedMemory
+  open-left k q = rw (← e, q)
+
+  pub open-ran : o .answer ≡ good tt → runOf l (o .session) (o .memory) .memory ≡ openedMemory s l got m
+  unfolding openedMemory
+  open-ran q = rw (← e, q)
 
   pub open-few : o .answer ≡ good tt → FewLines l (o .session) (o .memory)
   open-few q = rw e (few-lines s l got m (ap (λ (x : Outcome (Unit {0})). x .answer) (sym e) ∙ q))

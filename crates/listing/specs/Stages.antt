@@ -48,6 +48,14 @@ ranOf l s m = let r = runOf l s m in andThen (r .answer) (λ u. listed l (r .ses
 unfoldable pub openedOf : Settings → Lent → Session → Memory → Checked (List Line)
 openedOf s l got m = let o = openOf s l got m in andThen (o .answer) (λ u. ranOf l (o .session) (o .memory))
 
+-- the memory that is left: what an accepted opening leaves is run
+abbrev pub whereAccepted : {A : Type 0} → Checked A → Memory → Memory → Memory
+whereAccepted (good a) ran kept = ran
+whereAccepted (refused n) ran kept = kept
+
+unfoldable pub openedMemory : Settings → Lent → Session → Memory → Memory
+openedMemory s l got m = let o = openOf s l got m in whereAccepted (o .answer) (runOf l (o .session) (o .memory) .memory) (o .memory)
+
 -- memory of 1024 records of each sort, and a buffer for as many lines and two more
 pub record Sized (states trs out : List ℕ) : Type 0 where
   pub state-words : length states ≡ 5120

@@ -3,12 +3,13 @@ ghost use mathlib.Core.Path.{_≡_};
 ghost use Prim.Native.Nat.{_≤_};
 ghost use lib.ListN.{length};
 ghost use Rattle.calls.specs.Listing.{printed, listed as listedOf, noSession};
+ghost use Rattle.calls.specs.Calls.{runOf};
 ghost use Rattle.session_checks.specs.Meaning.{settingsMeans};
 ghost use Rattle.store_records.specs.Meaning.{memoryOf};
 ghost use Rattle.lazy_fst.specs.Meaning.{lentWith, sessionMeans};
 ghost use Rattle.listing_text.specs.Printing.{bytesOf};
 ghost use Rattle.listing_write.specs.Written.{Written};
-ghost use Rattle.listing.specs.Stages.{linesFrom, Room, Sized, FewLines, ranOf, openedOf};
+ghost use Rattle.listing.specs.Stages.{linesFrom, Room, Sized, FewLines, ranOf, openedOf, openedMemory};
 use crate::lines::put_listing;
 use crate::weights::Weighed;
 use crate::weights::weigh;
@@ -46,6 +47,7 @@ pub fn opened(
     requires { ⌜ Sized (now states) (now trs) (now out) ⌝ }
     ensures { λ r. ⌜ Written (now (out .entry)) 0 (bytesOf (printed (openedOf (settingsMeans settings) (lentWith (now (m1 .entry)) (now (m2 .entry)) (now (allowed1 .entry)) (now (allowed2 .entry)) listed) (noSession (settingsMeans settings)) (memoryOf (now (heads .entry)) (now (states .entry)) (now (trs .entry)))))) (now (out .exit)) r ⌝ }
     ensures counts { λ r. ⌜ r ≤ length (now (out .exit)) ⌝ }
+    ensures memory { λ _. ⌜ memoryOf (now (heads .exit)) (now (states .exit)) (now (trs .exit)) ≡ openedMemory (settingsMeans settings) (lentWith (now (m1 .entry)) (now (m2 .entry)) (now (allowed1 .entry)) (now (allowed2 .entry)) listed) (noSession (settingsMeans settings)) (memoryOf (now (heads .entry)) (now (states .entry)) (now (trs .entry))) ⌝ }
 {
     let got = no_session(settings);
     let answer = got.open(
@@ -93,6 +95,7 @@ fn ran(
     requires few { ⌜ FewLines (lentWith (now m1) (now m2) (now allowed1) (now allowed2) listed) (sessionMeans session) (memoryOf (now heads) (now states) (now trs)) ⌝ }
     ensures { λ r. ⌜ Written (now (out .entry)) 0 (bytesOf (printed (ranOf (lentWith (now (m1 .entry)) (now (m2 .entry)) (now (allowed1 .entry)) (now (allowed2 .entry)) listed) (sessionMeans session) (memoryOf (now (heads .entry)) (now (states .entry)) (now (trs .entry)))))) (now (out .exit)) r ⌝ }
     ensures counts { λ r. ⌜ r ≤ length (now (out .exit)) ⌝ }
+    ensures memory { λ _. ⌜ memoryOf (now (heads .exit)) (now (states .exit)) (now (trs .exit)) ≡ runOf (lentWith (now (m1 .entry)) (now (m2 .entry)) (now (allowed1 .entry)) (now (allowed2 .entry)) listed) (sessionMeans session) (memoryOf (now (heads .entry)) (now (states .entry)) (now (trs .entry))) .memory ⌝ }
 {
     let answer = session.run(m1, m2, allowed1, allowed2, listed, heads, states, trs);
     match answer {

@@ -12,7 +12,7 @@ use borrow.Author.Tests.{lt-ltb, le-ltb, le-leb, lt-leb, eq-eqb, ne-eqb}
 use Rattle.words.specs.Labels.{MAX}
 use Rattle.listing_text.specs.Reading.{lineFeed, isBlank, isDigit}
 use Rattle.listing_read.specs.Meaning.{lineOf, failedLine, readerOf}
-use Rattle.listing_read.specs.Held.{endedLine, endedWords, digitLine, steppedLine, steppedWords, Held, held, heldInLine, heldByte, heldBytes}
+use Rattle.listing_read.specs.Held.{endedLine, endedWords, steppedLine, steppedWords, Held, held, heldByte, heldBytes}
 use Rattle.listing_read.specs.declared.line.LineReader.{LineReader}
 use Rattle.listing_read.specs.declared.Reader.{Reader}
 

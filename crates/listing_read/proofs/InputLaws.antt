@@ -10,9 +10,9 @@ use lib.ListN.{length, take, getD}
 use lib.Seq.{take-suc, take-all}
 use borrow.Author.Tests.{lt-ltb, le-ltb, eq-eqb, ne-eqb}
 use Rattle.listing_text.specs.Reading.{lineFeed, step}
-use Rattle.listing_text.specs.Chunks.{Input, Rooms, opening, nextLine, within, inRooms, readByte, readBytes}
+use Rattle.listing_text.specs.Chunks.{Input, Rooms, nextLine, within, inRooms, readByte, readBytes}
 use Rattle.listing_text.proofs.Chunks.{made, in-chunks, rooms-byte}
-use Rattle.listing_read.specs.Meaning.{scanOf, inputOf, roomsOf, readerOf, newReader}
+use Rattle.listing_read.specs.Meaning.{scanOf, inputOf, roomsOf, readerOf}
 use Rattle.listing_read.specs.declared.line.LineReader.{LineReader}
 use Rattle.listing_read.specs.declared.Reader.{Reader}
 use Rattle.listing_read.proofs.ScanLaws.{scan-within}
@@ -91,7 +91,3 @@ all-read W I₀ I chunk i h p = p ∙ ap (λ (t : List ℕ). inRooms W (readByte
 pub none-read : (W : Rooms) (I₀ : Input) (chunk : List ℕ) → I₀ ≡ inRooms W I₀ → I₀ ≡ inRooms W (readBytes I₀ (take 0 chunk))
 unfolding readBytes
 none-read W I₀ chunk e = e
-
--- the reader before the first byte, whatever the slices hold
-pub opens : (s f g : List ℕ) → inputOf newReader s f g ≡ opening
-opens s f g = refl

@@ -1,5 +1,5 @@
 -- What a reader and its three slices are after each byte, field by field and word by word, on any fields. What they stand for is in Meaning.antt.
-use mathlib.Core.Bool.{Bool, true, false, cond}
+use mathlib.Core.Bool.{true, false, cond}
 use mathlib.Core.List.{List, [], _∷_}
 use Prim.Native.Nat.{ℕ, _+_, _-_, _*_}
 use lib.Dec.{eqb, leb, ltb}

@@ -5,12 +5,12 @@ use mathlib.Core.List.{List, []}
 use Prim.Native.Nat.{ℕ, _<_}
 use native.Mathlib.Omega.{arith}
 use lib.ListN.{length}
-use lib.Dec.{eqb, leb}
+use lib.Dec.{leb}
 use borrow.Author.Tests.{leb-false, le-leb, ne-eqb}
 use mathlib.Core.Option.{none}
 use Rattle.calls.specs.Listing.{lentOf, listingOn, listing}
 use Rattle.listing_text.specs.Reading.{lineAt, Scan, reading, notWords, start, ended, steps, kept, wordsOf}
-use Rattle.listing_text.specs.Chunks.{opening, readBytes, within, inRooms, lineWords, listingRooms}
+use Rattle.listing_text.specs.Chunks.{unread, readBytes, within, inRooms, lineWords, listingRooms}
 use Rattle.listing_text.specs.Printing.{bytesOf, printedBytes}
 use Rattle.listing_text.specs.Ended.{endedBytes}
 use Rattle.listing_text.proofs.Chunks.{within-ended}
@@ -43,7 +43,7 @@ listing-rooms w m1 m2 = go (leb (length w) 6) refl
         rw (ne-eqb (length w) 6 (λ (p : length w ≡ 6). absurd (omega (arith, p)))) refl
 
 -- what the words that are left when the input has ended print
-pub same-listing : (input : List ℕ) → endedBytes listingRooms (inRooms listingRooms (readBytes opening input)) ≡ printedBytes input
+pub same-listing : (input : List ℕ) → endedBytes listingRooms (inRooms listingRooms (readBytes unread input)) ≡ printedBytes input
 unfolding printedBytes
 same-listing input =
     let h = three-lines start start start input in

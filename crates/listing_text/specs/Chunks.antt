@@ -13,8 +13,8 @@ pub record Input : Type 0 where
   pub first : Scan
   pub second : Scan
 
-abbrev pub opening : Input
-opening = record { at = 0; settings = start; first = start; second = start }
+abbrev pub unread : Input
+unread = record { at = 0; settings = start; first = start; second = start }
 
 -- one byte goes into the line that is being read
 abbrev pub intoLine : Input → ℕ → Input

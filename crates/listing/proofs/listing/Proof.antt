@@ -26,7 +26,7 @@ returns-2 : tie.Need-returns-2
 returns-2 c =
     let a = c .before .before .before .before .before .before .before .before .before .before .before .before .before .before .before .args in
     let w = c .before .before .before .opened in
-    (same-text (ap bytesOf (six (a .words .now) (lentWith (a .m1 .now) (a .m2 .now) (a .allowed1 .now) (a .allowed2 .now) (a .listed)) _ (c .before .before .before .before .before .before .before .before .read-settings .ensures) (c .before .before .before .before .before .before .before .before .before .if1 .left))) (w .ensures .0), counted (w .result) (w .last .1 .1 .1 .1 .1 .1 .1 .1 .1 .0) (w .ensures .1))
+    (same-text (ap bytesOf (six (a .words .now) (lentWith (a .m1 .now) (a .m2 .now) (a .allowed1 .now) (a .allowed2 .now) (a .listed)) _ (c .before .before .before .before .before .before .before .before .read-settings .ensures) (c .before .before .before .before .before .before .before .before .before .if1 .left))) (w .ensures .0), counted (w .result) (w .last .1 .1 .1 .1 .1 .1 .1 .1 .1 .0) (w .ensures .1 .0))
 
 pub listing-spec : {M : Type 1} → statement M
 listing-spec =

@@ -10,7 +10,7 @@ use Rattle.lazy_fst.specs.Meaning.{lentWith, left}
 use Rattle.listing_text.specs.Printing.{bytesOf}
 use Rattle.listing_write.proofs.WrittenLaws.{same-text}
 use Rattle.listing.proofs.LineLaws.{bytes-one}
-use Rattle.listing.proofs.StageLaws.{open-refused, open-accepted, open-few}
+use Rattle.listing.proofs.StageLaws.{open-refused, open-accepted, open-left, open-ran, open-few}
 use Rattle.calls.specs.Calls.{openOf}
 use Rattle.calls.specs.Checks.{Session}
 use Rattle.listing.proofs.stages.opened.Statement.{statement}
@@ -35,7 +35,7 @@ returns c =
     let w = c .before .before .put-refused in
     let e = sym (ap (λ x. left x (memoryOf (r .last .1 .1 .1 .1 .1 .1 .1 .0) (r .last .1 .1 .1 .1 .1 .1 .1 .1 .0) (r .last .1 .1 .1 .1 .1 .1 .1 .1 .1 .0))) (c .before .before .before .before .before .answer .given .1)) ∙ r .ensures ∙ ap (λ (x : Session). openOf (settingsMeans (a .settings)) (lentWith (a .m1 .now) (a .m2 .now) (a .allowed1 .now) (a .allowed2 .now) (a .listed)) x (memoryOf (a .heads .now) (a .states .now) (a .trs .now))) (c .before .before .before .before .before .before .before .before .before .before .before .before .before .before .before .before .before .no-session .ensures) in
     let s : length (w .last .0) ≡ length (a .out .now) = search needs in
-    (same-text (sym (bytes-one (refusedLine _)) ∙ ap bytesOf (open-refused (settingsMeans (a .settings)) (lentWith (a .m1 .now) (a .m2 .now) (a .allowed1 .now) (a .allowed2 .now) (a .listed)) (noSession (settingsMeans (a .settings))) (memoryOf (a .heads .now) (a .states .now) (a .trs .now)) _ e _ refl)) (w .ensures .0), omega (arith, c .before .before .before .before .before .before .before .before .before .before .before .before .before .before .before .before .before .before .before .before .before .before .before .before .before .before .pre .bytes, w .ensures .1, s))
+    (same-text (sym (bytes-one (refusedLine _)) ∙ ap bytesOf (open-refused (settingsMeans (a .settings)) (lentWith (a .m1 .now) (a .m2 .now) (a .allowed1 .now) (a .allowed2 .now) (a .listed)) (noSession (settingsMeans (a .settings))) (memoryOf (a .heads .now) (a .states .now) (a .trs .now)) _ e _ refl)) (w .ensures .0), (omega (arith, c .before .before .before .before .before .before .before .before .before .before .before .before .before .before .before .before .before .before .before .before .before .before .before .before .before .before .pre .bytes, w .ensures .1, s), open-left (settingsMeans (a .settings)) (lentWith (a .m1 .now) (a .m2 .now) (a .allowed1 .now) (a .allowed2 .now) (a .listed)) (noSession (settingsMeans (a .settings))) (memoryOf (a .heads .now) (a .states .now) (a .trs .now)) _ e _ refl))
 
 returns-2 : tie.Need-returns-2
 returns-2 c =
@@ -43,7 +43,7 @@ returns-2 c =
     let r = c .before .before .before .before .before .before .before .before .before .before .before .before .before .before .before .before .before .before .before .before .before .before .«open» in
     let w = c .before .before .before .before .before .before .before .before .ran in
     let e = sym (ap (λ x. left x (memoryOf (r .last .1 .1 .1 .1 .1 .1 .1 .0) (r .last .1 .1 .1 .1 .1 .1 .1 .1 .0) (r .last .1 .1 .1 .1 .1 .1 .1 .1 .1 .0))) (c .before .before .before .before .before .before .before .before .before .before .before .before .before .before .answer2 .given .1)) ∙ r .ensures ∙ ap (λ (x : Session). openOf (settingsMeans (a .settings)) (lentWith (a .m1 .now) (a .m2 .now) (a .allowed1 .now) (a .allowed2 .now) (a .listed)) x (memoryOf (a .heads .now) (a .states .now) (a .trs .now))) (c .before .before .before .before .before .before .before .before .before .before .before .before .before .before .before .before .before .before .before .before .before .before .before .before .before .before .no-session .ensures) in
-    (same-text (ap bytesOf (open-accepted (settingsMeans (a .settings)) (lentWith (a .m1 .now) (a .m2 .now) (a .allowed1 .now) (a .allowed2 .now) (a .listed)) (noSession (settingsMeans (a .settings))) (memoryOf (a .heads .now) (a .states .now) (a .trs .now)) _ e refl)) (w .ensures .0), w .ensures .1)
+    (same-text (ap bytesOf (open-accepted (settingsMeans (a .settings)) (lentWith (a .m1 .now) (a .m2 .now) (a .allowed1 .now) (a .allowed2 .now) (a .listed)) (noSession (settingsMeans (a .settings))) (memoryOf (a .heads .now) (a .states .now) (a .trs .now)) _ e refl)) (w .ensures .0), (w .ensures .1 .0, w .ensures .1 .1 ∙ open-ran (settingsMeans (a .settings)) (lentWith (a .m1 .now) (a .m2 .now) (a .allowed1 .now) (a .allowed2 .now) (a .listed)) (noSession (settingsMeans (a .settings))) (memoryOf (a .heads .now) (a .states .now) (a .trs .now)) _ e refl))
 
 pub opened-spec : {M : Type 1} → statement M
 opened-spec =

@@ -4,6 +4,7 @@ use native.Mathlib.Omega.{arith}
 use lib.ListN.{length}
 use borrow.Author.Needs.{needs}
 use Rattle.calls.specs.Listing.{refusedLine}
+use Rattle.calls.specs.Calls.{Outcome}
 use Rattle.store_records.specs.Meaning.{memoryOf}
 use Rattle.lazy_fst.specs.Meaning.{lentWith, sessionMeans, left}
 use Rattle.listing_text.specs.Printing.{bytesOf}
@@ -33,7 +34,7 @@ returns c =
     let w = c .before .before .put-refused in
     let e = sym (ap (λ x. left x (memoryOf (r .last .1 .1 .1 .1 .1 .1 .0) (r .last .1 .1 .1 .1 .1 .1 .1 .0) (r .last .1 .1 .1 .1 .1 .1 .1 .1 .0))) (c .before .before .before .before .before .answer .given .1)) ∙ r .ensures in
     let s : length (w .last .0) ≡ length (a .out .now) = search needs in
-    (same-text (sym (bytes-one (refusedLine _)) ∙ ap bytesOf (ran-refused (lentWith (a .m1 .now) (a .m2 .now) (a .allowed1 .now) (a .allowed2 .now) (a .listed)) (sessionMeans (a .session)) (memoryOf (a .heads .now) (a .states .now) (a .trs .now)) _ e _ refl)) (w .ensures .0), omega (arith, c .before .before .before .before .before .before .before .before .before .before .before .before .before .before .before .before .before .before .before .before .before .before .before .before .before .pre .0 .bytes, w .ensures .1, s))
+    (same-text (sym (bytes-one (refusedLine _)) ∙ ap bytesOf (ran-refused (lentWith (a .m1 .now) (a .m2 .now) (a .allowed1 .now) (a .allowed2 .now) (a .listed)) (sessionMeans (a .session)) (memoryOf (a .heads .now) (a .states .now) (a .trs .now)) _ e _ refl)) (w .ensures .0), (omega (arith, c .before .before .before .before .before .before .before .before .before .before .before .before .before .before .before .before .before .before .before .before .before .before .before .before .before .pre .0 .bytes, w .ensures .1, s), ap (λ (x : Outcome (Unit {0})). x .memory) e))
 
 returns-2 : tie.Need-returns-2
 returns-2 c =
@@ -41,7 +42,7 @@ returns-2 c =
     let r = c .before .before .before .before .before .before .before .before .before .before .before .before .before .before .before .before .run in
     let w = c .before .before .weighed in
     let e = sym (ap (λ x. left x (memoryOf (r .last .1 .1 .1 .1 .1 .1 .0) (r .last .1 .1 .1 .1 .1 .1 .1 .0) (r .last .1 .1 .1 .1 .1 .1 .1 .1 .0))) (c .before .before .before .before .before .before .before .before .answer2 .given .1)) ∙ r .ensures in
-    (same-text (ap bytesOf (ran-accepted (lentWith (a .m1 .now) (a .m2 .now) (a .allowed1 .now) (a .allowed2 .now) (a .listed)) (sessionMeans (a .session)) (memoryOf (a .heads .now) (a .states .now) (a .trs .now)) _ e refl)) (w .ensures .0), w .ensures .1)
+    (same-text (ap bytesOf (ran-accepted (lentWith (a .m1 .now) (a .m2 .now) (a .allowed1 .now) (a .allowed2 .now) (a .listed)) (sessionMeans (a .session)) (memoryOf (a .heads .now) (a .states .now) (a .trs .now)) _ e refl)) (w .ensures .0), (w .ensures .1, ap (λ (x : Outcome (Unit {0})). x .memory) e))
 
 pub ran-spec : {M : Type 1} → statement M
 ran-spec =
