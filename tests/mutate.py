@@ -7,7 +7,7 @@ COPY is a private copy of the repository, in which NAME is proved; each change i
 it takes hours. Verdicts: refused (the prover says not-proved), no program (the compiler, or for definitions the type checker of specs/, refuses the text before any proof is
 looked at; not scored), timeout, survived. Survivors that tests/mutants.txt explains are counted apart; the others are printed. A refusal says that the proof that stands does
 not fit the changed text: nearly always because the contract is false of it, but a change that keeps the meaning may be refused too. With --wrong the changes are those of
-tests/wrong.txt: two wrong programs for each public function, each with an input at which it is wrong.
+docs/WRONG.md: two wrong programs for each public function, each with an input at which it is wrong.
 """
 import argparse
 import collections
@@ -45,21 +45,6 @@ def definition_mutants(root, crate):
             yield Mutant(path.relative_to(root), name, *change, text)
 
 
-def entries(name):
-    """What tests/NAME says of changes: file and function, the line before and after, the reason."""
-    place, old, new = None, None, None
-    for line in (HERE / name).read_text().split("\n"):
-        mark, rest = line[:1], line[2:].strip()
-        if mark == "-":
-            old = rest
-        elif mark == "+":
-            new = rest
-        elif mark == "=":
-            yield (*place, old, new), rest
-        elif line.startswith("crates/"):
-            place = tuple(line.split())
-
-
 def line_in(text, start, end, wanted):
     """The place of the one line that reads so between two places."""
     at, found = start, []
@@ -70,17 +55,26 @@ def line_in(text, start, end, wanted):
     return found
 
 
+def wrong_rows(crate):
+    """The rows of docs/WRONG.md for a crate: function, file, the line before and after."""
+    of = None
+    for line in (HERE.parent / "docs/WRONG.md").read_text().split("\n"):
+        row = re.match(r"\| `(\w+)`, `(\w+\.rt)` \| `(.*?)` \| (?:`(.*?)`|line dropped) \|", line)
+        of = line[3:] if line.startswith("## ") else of
+        if row and of == crate:
+            yield row.groups()
+
+
 def wrong_programs(root, crate):
-    for (file, name, old, new), _ in entries("wrong.txt"):
-        if file.split("/")[1] != crate:
-            continue
+    for name, file, old, new in wrong_rows(crate):
+        file = pathlib.Path("crates", crate, "src", file)
         text = (root / file).read_text()
         source = mutate_code.Source(text)
         bodies = [f.body for f in source.functions if f.name == name]
         places = [p for a, b in bodies for p in line_in(text, source.tokens[a].start, source.tokens[b].end, old)]
-        if not places:
-            sys.exit(f"{file}: {name} has no line {old}")
-        yield Mutant(pathlib.Path(file), name, "wrong", *places[0], new, text)
+        if len(places) != 1:
+            sys.exit(f"{file}: {name} has the line {len(places)} times: {old}")
+        yield Mutant(file, name, "wrong", *places[0], new or "", text)
 
 
 def lines(text):
@@ -196,6 +190,22 @@ def batches(root, crate, mutants, most):
         yield group
 
 
+def explained():
+    """The survivors of tests/mutants.txt: file and name, the line before and after, with the reason."""
+    reasons, place, old, new = {}, None, None, None
+    for line in (HERE / "mutants.txt").read_text().split("\n"):
+        mark, rest = line[:2], line[2:].strip()
+        if mark == "- ":
+            old = rest
+        elif mark == "+ ":
+            new = rest
+        elif mark == "= ":
+            reasons[(*place, old, new)] = rest
+        elif line.startswith("crates/"):
+            place = tuple(line.split())
+    return reasons
+
+
 def key(r):
     return r["file"], r["name"], r["old"], r["new"]
 
@@ -218,7 +228,7 @@ def chosen(args, root):
 
 
 def report(crate, results):
-    reasons = dict(entries("mutants.txt"))
+    reasons = explained()
     count = collections.Counter(r["verdict"] for r in results)
     known = sum(r["verdict"] == "survived" and key(r) in reasons for r in results)
     print(f"{crate}: {len(results)} mutants, {count['no program']} no program, {count['refused']} refused, {count['timeout']} timeout, "
@@ -233,7 +243,7 @@ def arguments():
     parser.add_argument("copy", type=pathlib.Path)
     parser.add_argument("--crate", required=True)
     parser.add_argument("--definitions", action="store_true")
-    parser.add_argument("--wrong", action="store_true", help="the programs of tests/wrong.txt")
+    parser.add_argument("--wrong", action="store_true", help="the wrong programs of docs/WRONG.md")
     parser.add_argument("--kinds")
     parser.add_argument("--only", help="a pattern for the file and the name")
     parser.add_argument("--limit", type=int)

@@ -141,6 +141,10 @@ class Collection:
                 self.take(*one)
 
 
+# The input ends inside a case: its settings without a line feed, and no machine. The missing lines are empty, so that machine 1 is malformed.
+CUT, CUT_ANSWER = f"-\n0 0 {MAX} 0 {MAX} 0", "refused 2\n"
+
+
 def main():
     oracle = rust.oracle_at(sys.argv[1])
     for (case, holds), answer in zip(list(stars()), rust.answers(oracle, [c for c, _ in stars()])):
@@ -153,9 +157,9 @@ def main():
     folder = os.path.join(rust.ROOT, "crates/replay")
     os.makedirs(folder, exist_ok=True)
     with open(os.path.join(folder, "stdin"), "w") as f:
-        f.writelines(all_.texts)
+        f.writelines([*all_.texts, CUT])
     with open(os.path.join(folder, "stdout"), "w") as f:
-        f.writelines(answer + "--\n" for answer in all_.texts.values())
+        f.writelines(answer + "--\n" for answer in [*all_.texts.values(), CUT_ANSWER])
     for name, count in sorted(all_.counts.items()):
         print(f"{count:6} {name}")
     sizes = [os.path.getsize(os.path.join(folder, n)) for n in ("stdin", "stdout")]

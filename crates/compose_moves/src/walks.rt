@@ -20,7 +20,7 @@ use matchers::Cursor;
 use matchers::IterItemMatcher;
 use matchers::SigmaIter;
 use matchers::Step;
-use matchers::next_match;
+use matchers::ask;
 use matchers::sigma_iter;
 use store_records::ComposeStateTuple;
 
@@ -96,7 +96,7 @@ fn match_tr_selected(mw: &[u32], mm: &[u32], walk: Walk, t: u32, matches: Cursor
     let edge = edge_item(mw, t);
     let mut left = matches;
     loop {
-        let step = next_match(mm, left);
+        let step = ask(mm, left);
         let Step::Match(found, rest) = step else {
             return Along::Done;
         };

@@ -153,7 +153,7 @@ fn weigh_from(
 }
 
 // The first refusal that storing the steps from a cursor on meets. The walk for earlier steps, quadratic in the targets that the table lacks, is made only where counting each of them as
-// new leaves one without a record.
+// new meets a lacking record.
 pub fn weigh(
     m1: &[u32],
     m2: &[u32],

@@ -4,7 +4,8 @@ ghost use mathlib.Core.List.{[], _∷_};
 ghost use Rattle.io.specs.Counts.{Counts};
 ghost use Rattle.listing_text.specs.Chunks.{inRooms, readBytes};
 ghost use Rattle.listing_read.specs.Meaning.{inputOf, roomsOf};
-ghost use Rattle.composed.specs.Read.{Reads, Prints};
+ghost use Rattle.listing_read.specs.Held.{held, heldBytes};
+ghost use Rattle.composed.specs.Read.{handedOn, readsOn, Reads, Prints};
 use libc::STDIN_FILENO;
 use libc::STDOUT_FILENO;
 use listing::answer;
@@ -18,11 +19,41 @@ const MOST_CHUNKS: u64 = 18446744073709551615;
 // A byte that is of no word: the line that is being read is not of words, and never taken for a whole one.
 fn spoil(r: Reader, settings: &mut [u32], first: &mut [u32], second: &mut [u32]) -> Reader
     ensures { λ n. ⌜ inputOf n (now (settings .exit)) (now (first .exit)) (now (second .exit)) ≡ inRooms (roomsOf (now (settings .entry)) (now (first .entry)) (now (second .entry))) (readBytes (inputOf r (now (settings .entry)) (now (first .entry)) (now (second .entry))) (33 ∷ [])) ⌝ }
+    ensures stored { λ n. ⌜ held n (now (settings .exit)) (now (first .exit)) (now (second .exit)) ≡ heldBytes (held r (now (settings .entry)) (now (first .entry)) (now (second .entry))) (33 ∷ []) ⌝ }
 {
     read_chunk(r, b"!", settings, first, second)
 }
 
-// Reads up to the third line feed or the end of the input. Where a read fails, or the chunks are used up, the line that is being read is spoiled.
+// What a read hands on, read: the bytes of the chunk that came, or a byte of no word where it failed.
+fn after_read(
+    r: Reader,
+    got: isize,
+    chunk: &[u8],
+    settings: &mut [u32],
+    first: &mut [u32],
+    second: &mut [u32],
+) -> Reader
+    ensures { λ n. ⌜ inputOf n (now (settings .exit)) (now (first .exit)) (now (second .exit)) ≡ inRooms (roomsOf (now (settings .entry)) (now (first .entry)) (now (second .entry))) (readBytes (inputOf r (now (settings .entry)) (now (first .entry)) (now (second .entry))) (handedOn got (now (chunk .entry)))) ⌝ }
+    ensures stored { λ n. ⌜ held n (now (settings .exit)) (now (first .exit)) (now (second .exit)) ≡ heldBytes (held r (now (settings .entry)) (now (first .entry)) (now (second .entry))) (handedOn got (now (chunk .entry))) ⌝ }
+{
+    if got < 0 {
+        return spoil(r, settings, first, second);
+    }
+    let n = io::count(got, chunk);
+    read_chunk(r, &chunk[..n], settings, first, second)
+}
+
+// Whether to read on, where the reader is in line `at` after a read.
+fn reads_on(at: u32, got: isize) -> bool
+    ensures { λ b. ⌜ b ≡ readsOn at got ⌝ }
+{
+    if 2 < at {
+        return false;
+    }
+    got > 0
+}
+
+// Reads up to the third line feed, the end of the input or a read that fails. Where the chunks are used up, the line that is being read is spoiled.
 fn read_lines(settings: &mut [u32], first: &mut [u32], second: &mut [u32]) -> Reader
     ensures { λ r. ⌜ Reads (roomsOf (now (settings .entry)) (now (first .entry)) (now (second .entry))) (inputOf r (now (settings .exit)) (now (first .exit)) (now (second .exit))) ⌝ }
 {
@@ -30,18 +61,11 @@ fn read_lines(settings: &mut [u32], first: &mut [u32], second: &mut [u32]) -> Re
     let mut r = new_reader();
     let mut left = MOST_CHUNKS;
     while left > 0 {
-        if 2 < r.at {
-            return r;
-        }
         let got = libc::read(STDIN_FILENO, &mut chunk);
-        if got == 0 {
+        r = after_read(r, got, &chunk, settings, first, second);
+        if !reads_on(r.at, got) {
             return r;
         }
-        if got < 0 {
-            return spoil(r, settings, first, second);
-        }
-        let n = io::count(got, &chunk);
-        r = read_chunk(r, &chunk[..n], settings, first, second);
         left -= 1;
     }
     spoil(r, settings, first, second)

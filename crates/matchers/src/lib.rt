@@ -213,7 +213,7 @@ pub fn next<'a>(r: Matcher<'a>) -> Step
     next_match(r.words, r.cursor)
 }
 
-// The same with plain parameters: its callers hold no reader.
+// The same with plain parameters, for the walk over the matches, whose own cursor outlives the reader.
 pub fn ask(words: &[u32], cursor: Cursor) -> Step
     ensures { λ r. ⌜ stepMeans (now (words .entry)) r ≡ asked (itemsLeft (now (words .entry)) cursor) ⌝ }
 {

@@ -24,39 +24,33 @@ loop-holds c =
     (c .before .large-buffer .ensures, refl, refl, refl, none-came (c .new-reader .result) (a .settings .now) (a .first .now) (a .second .now) (c .new-reader .ensures))
 
 returns : tie.Need-returns Inv-loop μ-loop
-returns c = c .before .before .before .loop .inv .4
-
-returns-2 : tie.Need-returns-2 Inv-loop μ-loop
-returns-2 c = c .before .before .before .before .before .before .before .loop .inv .4
-
-returns-3 : tie.Need-returns-3 Inv-loop μ-loop
-returns-3 c =
-    let a = c .before .before .before .before .before .before .before .before .before .before .before .before .before .before .before .before .before .before .before .before .before .before .before .before .args in
-    let p = c .before .before .before .before .before .before .before .before .before .before .before .before .before .before .before .before .before .before .loop in
-    let w = c .before .before .before .before .before .before .spoil in
-    more-came (a .settings .now) (a .first .now) (a .second .now) (p .settings) (p .first) (p .second) (inputOf (p .r) (p .settings) (p .first) (p .second)) (inputOf (w .result) (w .last .1 .0) (w .last .1 .1 .0) (w .last .1 .1 .1 .0)) (33 ∷ []) (p .inv .1) (p .inv .2) (p .inv .3) (p .inv .4) (w .ensures)
+returns c =
+    let a = c .before .before .before .before .before .before .before .before .before .before .before .before .before .before .before .before .before .before .before .before .before .before .before .args in
+    let p = c .before .before .before .before .before .before .before .before .before .before .before .before .before .before .before .before .before .loop in
+    let w = c .before .before .before .before .before .before .before .before .after-read in
+    more-came (a .settings .now) (a .first .now) (a .second .now) (p .settings) (p .first) (p .second) (inputOf (p .r) (p .settings) (p .first) (p .second)) (inputOf (w .result) (w .last .1 .1 .1 .0) (w .last .1 .1 .1 .1 .0) (w .last .1 .1 .1 .1 .1 .0)) _ (p .inv .1) (p .inv .2) (p .inv .3) (p .inv .4) (w .ensures .0)
 
 loop-again : tie.Need-loop-again Inv-loop μ-loop
 loop-again c =
-    let a = c .before .before .before .before .before .before .before .before .before .before .before .before .before .before .before .before .before .before .before .before .before .before .before .before .before .before .before .args in
-    let p = c .before .before .before .before .before .before .before .before .before .before .before .before .before .before .before .before .before .before .before .before .before .loop in
-    let w = c .before .before .before .before .before .before .read-chunk in
-    let x : length (w .last .1 .1 .0) ≡ length (p .settings) = search needs in
-    let y : length (w .last .1 .1 .1 .0) ≡ length (p .first) = search needs in
-    let z : length (w .last .1 .1 .1 .1 .0) ≡ length (p .second) = search needs in (
-      omega (arith, c .before .before .before .before .before .before .before .before .before .before .before .before .before .before .before .chunk2 .given, p .inv .0),
+    let a = c .before .before .before .before .before .before .before .before .before .before .before .before .before .before .before .before .before .before .before .before .before .before .before .args in
+    let p = c .before .before .before .before .before .before .before .before .before .before .before .before .before .before .before .before .before .loop in
+    let w = c .before .before .before .before .before .before .before .before .after-read in
+    let x : length (w .last .1 .1 .1 .0) ≡ length (p .settings) = search needs in
+    let y : length (w .last .1 .1 .1 .1 .0) ≡ length (p .first) = search needs in
+    let z : length (w .last .1 .1 .1 .1 .1 .0) ≡ length (p .second) = search needs in (
+      omega (arith, c .before .before .before .before .before .before .before .before .before .before .before .before .before .chunk2 .given, p .inv .0),
       x ∙ p .inv .1,
       y ∙ p .inv .2,
       z ∙ p .inv .3,
-      more-came (a .settings .now) (a .first .now) (a .second .now) (p .settings) (p .first) (p .second) (inputOf (p .r) (p .settings) (p .first) (p .second)) (inputOf (w .result) (w .last .1 .1 .0) (w .last .1 .1 .1 .0) (w .last .1 .1 .1 .1 .0)) _ (p .inv .1) (p .inv .2) (p .inv .3) (p .inv .4) (w .ensures .0),
+      more-came (a .settings .now) (a .first .now) (a .second .now) (p .settings) (p .first) (p .second) (inputOf (p .r) (p .settings) (p .first) (p .second)) (inputOf (w .result) (w .last .1 .1 .1 .0) (w .last .1 .1 .1 .1 .0) (w .last .1 .1 .1 .1 .1 .0)) _ (p .inv .1) (p .inv .2) (p .inv .3) (p .inv .4) (w .ensures .0),
     )
 
-returns-4 : tie.Need-returns-4 Inv-loop μ-loop
-returns-4 c =
+returns-2 : tie.Need-returns-2 Inv-loop μ-loop
+returns-2 c =
     let a = c .before .before .before .before .before .before .before .before .before .before .before .before .before .before .before .before .before .args in
     let p = c .before .before .before .before .before .before .before .before .before .before .before .loop in
-    let w = c .before .before .before .before .before .before .spoil2 in
-    more-came (a .settings .now) (a .first .now) (a .second .now) (p .settings) (p .first) (p .second) (inputOf (p .r) (p .settings) (p .first) (p .second)) (inputOf (w .result) (w .last .1 .0) (w .last .1 .1 .0) (w .last .1 .1 .1 .0)) (33 ∷ []) (p .inv .1) (p .inv .2) (p .inv .3) (p .inv .4) (w .ensures)
+    let w = c .before .before .before .before .before .before .spoil in
+    more-came (a .settings .now) (a .first .now) (a .second .now) (p .settings) (p .first) (p .second) (inputOf (p .r) (p .settings) (p .first) (p .second)) (inputOf (w .result) (w .last .1 .0) (w .last .1 .1 .0) (w .last .1 .1 .1 .0)) (33 ∷ []) (p .inv .1) (p .inv .2) (p .inv .3) (p .inv .4) (w .ensures .0)
 
 pub read-lines-spec : {M : Type 1} → statement M
 read-lines-spec =
@@ -68,25 +62,14 @@ read-lines-spec =
     (λ c κs. search needs)
     loop-holds
     (λ c. search needs)
+    (λ c κs. search needs)
+    (λ c. search needs)
+    (λ c κs. search needs)
+    (λ c κs. search needs)
+    (λ c. search needs)
     (λ c. search needs)
     (λ c. search needs)
     returns
-    (λ c. search needs)
-    (λ c κs. search needs)
-    (λ c. search needs)
-    (λ c. search needs)
-    (λ c. search needs)
-    returns-2
-    (λ c κs. search needs)
-    (λ c. search needs)
-    (λ c. search needs)
-    (λ c. search needs)
-    returns-3
-    (λ c. search needs)
-    (λ c κs. search needs)
-    (λ c. search needs)
-    (λ c. search needs)
-    (λ c κs. search needs)
     (λ c. search needs)
     (λ c. search needs)
     loop-again
@@ -94,4 +77,4 @@ read-lines-spec =
     (λ c. search needs)
     (λ c. search needs)
     (λ c. search needs)
-    returns-4)
+    returns-2)

@@ -24,7 +24,7 @@ turn : (c : tie.After-pair-step Inv-loop μ-loop) →
     ≡ madeMeans (c .pair-step .result) ++ edgeMade (now (a .mw)) (a .walk) (a .t) (itemsLeft (now (a .mm)) (c .before .before .step .given .0 .1 .0))
 turn c =
     let a = c .before .before .before .before .before .before .before .before .before .args in
-    made-turn (now (a .mw)) (now (a .mm)) (a .walk) (a .t) (c .before .before .before .before .before .loop .left) (c .before .before .step .given .0 .1 .0) (c .before .before .before .before .before .before .edge-item .result) (c .before .before .step .given .0 .0) (c .pair-step .result) (c .before .before .before .before .next-match .result) (c .before .before .step .given .1) (c .before .before .before .before .next-match .ensures) (c .before .before .before .before .before .before .edge-item .ensures) (c .pair-step .ensures)
+    made-turn (now (a .mw)) (now (a .mm)) (a .walk) (a .t) (c .before .before .before .before .before .loop .left) (c .before .before .step .given .0 .1 .0) (c .before .before .before .before .before .before .edge-item .result) (c .before .before .step .given .0 .0) (c .pair-step .result) (c .before .before .before .before .ask .result) (c .before .before .step .given .1) (c .before .before .before .before .ask .ensures) (c .before .before .before .before .before .before .edge-item .ensures) (c .pair-step .ensures)
 
 loop-holds : tie.Need-loop-holds Inv-loop μ-loop
 loop-holds c = refl
@@ -32,7 +32,7 @@ loop-holds c = refl
 returns : tie.Need-returns Inv-loop μ-loop
 returns c =
     let a = c .before .before .before .before .before .before .before .args in
-    let empty = none-is (now (a .mm)) (itemsLeft (now (a .mm)) (c .before .before .before .loop .left)) _ (rw (c .enum-told .given .1) at (c .before .before .next-match .ensures)) in
+    let empty = none-is (now (a .mm)) (itemsLeft (now (a .mm)) (c .before .before .before .loop .left)) _ (rw (c .enum-told .given .1) at (c .before .before .ask .ensures)) in
     λ am. edge-ends (now (a .mw)) (now (a .mm)) am (a .walk) (a .t) (a .matches) (sym (c .before .before .before .loop .inv) ∙ made-end (now (a .mw)) (a .walk) (a .t) (itemsLeft (now (a .mm)) (c .before .before .before .loop .left)) empty)
 
 returns-2 : tie.Need-returns-2 Inv-loop μ-loop
@@ -48,7 +48,7 @@ returns-3 c =
 loop-less : tie.Need-loop-less Inv-loop μ-loop
 loop-less c =
     let a = c .before .before .before .before .before .before .before .before .before .before .before .args in
-    let e = ap length (found-is (now (a .mm)) (itemsLeft (now (a .mm)) (c .before .before .before .before .before .before .before .loop .left)) (c .before .before .before .before .step .given .0 .0) (c .before .before .before .before .step .given .0 .1 .0) (rw (c .before .before .before .before .step .given .1) at (c .before .before .before .before .before .before .next-match .ensures))) in
+    let e = ap length (found-is (now (a .mm)) (itemsLeft (now (a .mm)) (c .before .before .before .before .before .before .before .loop .left)) (c .before .before .before .before .step .given .0 .0) (c .before .before .before .before .step .given .0 .1 .0) (rw (c .before .before .before .before .step .given .1) at (c .before .before .before .before .before .before .ask .ensures))) in
     omega arith
 
 loop-again : tie.Need-loop-again Inv-loop μ-loop

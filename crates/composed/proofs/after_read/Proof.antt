@@ -1,0 +1,57 @@
+-- `after_read` meets its contract, by the sign of what the read answered.
+use mathlib.Core.Path.{_≡_, ap, _∙_}
+use mathlib.Core.Bool.{true, false}
+use mathlib.Core.List.{List}
+use Prim.Native.Nat.{ℕ}
+use lib.IntN.{pos}
+use lib.Signed.{ltZ}
+use lib.ListN.{length, take}
+use mir.Facts.{toZ-ofZ}
+use Rattle.io.specs.Counts.{clamped}
+use borrow.Author.Needs.{needs}
+use Rattle.listing_text.specs.Chunks.{inRooms, readBytes}
+use Rattle.listing_read.specs.Meaning.{inputOf, roomsOf}
+use Rattle.listing_read.specs.Held.{held, heldBytes}
+use Rattle.composed.proofs.ReadLaws.{failed, came}
+use Rattle.composed.proofs.after_read.Statement.{statement}
+use Rattle.composed.proofs.after_read.Tie as tie
+
+returns : tie.Need-returns
+returns c =
+    let s = c .before .before .before .before .before .before .before .before .before .before .before .before .before .before .before in
+    let a = s .args in
+    let t : ltZ (a .got) (pos 0) ≡ true = rw (toZ-ofZ (s .fits .got)) at (c .before .before .before .before .before .before .before .before .before .before .if1 .taken) in
+    let w = c .before .before .before .before .before .before .spoil in
+    let e = failed (a .got) (a .chunk .now) t in (
+      w .ensures .0 ∙ ap (λ (bs : List ℕ). inRooms (roomsOf (a .settings .now) (a .first .now) (a .second .now)) (readBytes (inputOf (a .r) (a .settings .now) (a .first .now) (a .second .now)) bs)) e,
+      w .ensures .1 ∙ ap (heldBytes (held (a .r) (a .settings .now) (a .first .now) (a .second .now))) e,
+    )
+
+returns-2 : tie.Need-returns-2
+returns-2 c =
+    let s = c .before .before .before .before .before .before .before .before .before .before .before .before .before .before .before .before .before in
+    let a = s .args in
+    let t : ltZ (a .got) (pos 0) ≡ false = rw (toZ-ofZ (s .fits .got)) at (c .before .before .before .before .before .before .before .before .before .before .before .before .if1 .left) in
+    let w = c .before .before .before .before .before .before .read-chunk in
+    let n : c .before .before .before .before .before .before .before .before .before .before .before .count .result ≡ clamped (a .got) (length (a .chunk .now)) = rw (toZ-ofZ (s .fits .got)) at (c .before .before .before .before .before .before .before .before .before .before .before .count .ensures .1) in
+    let e = ap (λ (n : ℕ). take n (a .chunk .now)) n ∙ came (a .got) (a .chunk .now) t in (
+      w .ensures .0 ∙ ap (λ (bs : List ℕ). inRooms (roomsOf (a .settings .now) (a .first .now) (a .second .now)) (readBytes (inputOf (a .r) (a .settings .now) (a .first .now) (a .second .now)) bs)) e,
+      w .ensures .1 ∙ ap (heldBytes (held (a .r) (a .settings .now) (a .first .now) (a .second .now))) e,
+    )
+
+pub after-read-spec : {M : Type 1} → statement M
+after-read-spec =
+    tie.close
+    (tie.spec
+    (λ c κs. search needs)
+    (λ c. search needs)
+    (λ c. search needs)
+    (λ c. search needs)
+    returns
+    (λ c κs. search needs)
+    (λ c. search needs)
+    (λ c κs. search needs)
+    (λ c. search needs)
+    (λ c. search needs)
+    (λ c. search needs)
+    returns-2)
