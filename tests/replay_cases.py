@@ -1,5 +1,5 @@
 #!/usr/bin/env python3
-"""Writes crates/replay/stdin and crates/replay/stdout: the cases are ours, the answers are the Rust's.
+"""Writes crates/replay/stdin and crates/replay/stdout: the cases are ours, the answers are the Rust's, but for the last case, in which the input ends.
 
     python3 tests/replay_cases.py RUST      RUST is the folder of the Rust sources, or the program that oracle/build made of it
 

@@ -1,4 +1,4 @@
--- What the program holds of its input. What `read` puts into a buffer no contract of the kit names, so that a promise can only speak of some bytes; that they are those of standard input, in their
+-- What the program holds of its input. What `read` puts into a buffer no contract of the toolchain's library names, so that a promise can only speak of some bytes; that they are those of standard input, in their
 -- order, is what the loop of `read_lines` does with them.
 use mathlib.Core.Path.{_≡_}
 use mathlib.Core.Bool.{Bool, false, _&&_}

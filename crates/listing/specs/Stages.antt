@@ -62,6 +62,6 @@ pub record Sized (states trs out : List ℕ) : Type 0 where
   pub tr-words : length trs ≡ 5120
   pub bytes : 131200 ≤ length out
 
--- an accepted run leaves no more lines than used records
+-- an accepted run leaves no more lines than there is room for records
 abbrev pub FewLines : Lent → Session → Memory → Type 0
 FewLines l s m = let r = runOf l s m in r .answer ≡ good tt → length (linesFrom l (r .session) (r .memory) 0 (r .session .used .states)) ≤ stateRoom (r .memory) + trRoom (r .memory)

@@ -1,4 +1,4 @@
--- The reading of the input byte by byte, in chunks of any size, with room for so many words of each line. Equal to the plain reading: proofs/Chunks.antt.
+-- The reading of the input byte by byte, in chunks of any size, with room for so many words of each line. Chunks and room do not matter: proofs/Chunks.antt; the plain reading: proofs/SameListing.antt.
 use mathlib.Core.Bool.{cond}
 use mathlib.Core.List.{List, [], _∷_}
 use Prim.Native.Nat.{ℕ, _+_}
