@@ -155,36 +155,31 @@ def judge(root, crate, m, definitions):
 
 
 def refused_itself(said, m):
-    """Whether the function is not proved for its own sake, and not for one that it calls."""
-    stem = m.file.stem
-    for path, word in re.findall(r"^fn (\S+): (proved|not proved)$", said or "", flags=re.M):
-        parts = path.split("::")
-        if parts[-1] == m.name and (stem in parts[1:-1] or stem in ("lib", "main") and len(parts) < 3 or parts[-2][0].isupper()):
-            return word == "not proved"
-    return False
+    """Whether the function's own proof file is refused first hand: a function's proof looks at its own body and at the contracts of those that it calls."""
+    places = [re.sub(r".* \((.*)\)$", r"\1", by).split("/") for by in refusers(said)]
+    return any(parts[-2:] == [m.name, "Proof"] and (m.file.stem in parts or m.file.stem in ("lib", "main")) for parts in places)
 
 
 def judge_together(root, crate, mutants):
-    """One check of changes in functions of which none calls another: a function's proof looks at its own body and at the contracts of those that it calls. What is not refused
-    for its own sake is judged again alone, as are all where the compiler refuses the text."""
+    """One check of changes in different functions. What is not refused for its own sake is judged again alone; where the compiler refuses the text, each half is tried."""
+    if len(mutants) == 1:
+        return [judge(root, crate, mutants[0], False)]
     said = said_of(root, crate, mutants)
-    if verdict(said, False) != "refused":
-        return [judge(root, crate, m, False) for m in mutants]
+    if verdict(said, False) == "no program":
+        half = len(mutants) // 2
+        return judge_together(root, crate, mutants[:half]) + judge_together(root, crate, mutants[half:])
     return [result(m, "refused", []) if refused_itself(said, m) else judge(root, crate, m, False) for m in mutants]
 
 
 def batches(root, crate, mutants, most):
-    """The mutants in groups of at most so many, each group in functions of which none calls another; a constant's alone."""
-    sources = {p.relative_to(root): mutate_code.Source(p.read_text()) for p in (root / "crates" / crate / "src").glob("*.rt")}
-    reached = mutate_code.reached_from(sources)
+    """The mutants in groups of at most so many, each in a function of its own; a constant's alone."""
+    functions = {(p.relative_to(root), f.name) for p in (root / "crates" / crate / "src").glob("*.rt") for f in mutate_code.Source(p.read_text()).functions}
     left = list(mutants)
     while left:
         group = []
         for m in left:
-            place = (m.file, m.name)
-            apart = all(place in reached and (o.file, o.name) in reached and place != (o.file, o.name)
-                        and place not in reached[o.file, o.name] and (o.file, o.name) not in reached[place] for o in group)
-            if len(group) < most and apart:
+            places = [(o.file, o.name) for o in group]
+            if not group or len(group) < most and (m.file, m.name) not in places and {(m.file, m.name), *places} <= functions:
                 group.append(m)
         left = [m for m in left if m not in group]
         yield group
@@ -249,7 +244,7 @@ def arguments():
     parser.add_argument("--limit", type=int)
     parser.add_argument("--sample", type=int)
     parser.add_argument("--seed", type=int, default=1)
-    parser.add_argument("--together", type=int, default=1, help="so many changes in one check, in functions of which none calls another")
+    parser.add_argument("--together", type=int, default=1, help="so many changes in one check, each in a function of its own")
     parser.add_argument("--log", type=pathlib.Path, help="verdicts, one a line; those that it holds are not judged again")
     parser.add_argument("--list", action="store_true", help="print the mutants and judge none")
     return parser.parse_args()
@@ -274,7 +269,7 @@ def judged(args, root, mutants):
     done = [old[places[m]] for m in mutants if places[m] in old]
     left = [m for m in mutants if places[m] not in old]
     for group in [[m] for m in left] if args.definitions else batches(root, args.crate, left, args.together):
-        new = judge_together(root, args.crate, group) if len(group) > 1 else [judge(root, args.crate, m, args.definitions) for m in group]
+        new = [judge(root, args.crate, m, True) for m in group] if args.definitions else judge_together(root, args.crate, group)
         done += new
         if args.log:
             with args.log.open("a") as log:

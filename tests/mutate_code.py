@@ -328,20 +328,3 @@ def mutants_of(text, known):
         for i in range(first, last):
             for mutant in constants(source.tokens, i):
                 yield name, mutant
-
-
-def reached_from(sources):
-    """For each function, by file and name, those that it calls, at once or through others: by their names alone, so rather too many than too few."""
-    places = {}
-    for file, source in sources.items():
-        for function in source.functions:
-            places.setdefault(function.name, []).append((file, function.name))
-    calls = {}
-    for file, source in sources.items():
-        for function in source.functions:
-            names = {t.text for t in source.tokens[function.body[0]:function.body[1]]}
-            calls[file, function.name] = {p for n in names & places.keys() for p in places[n]}
-    for _ in calls:
-        for place in calls:
-            calls[place] = calls[place].union(*(calls[p] for p in calls[place]))
-    return calls
