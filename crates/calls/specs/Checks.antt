@@ -1,4 +1,5 @@
 -- 01, "Session and memory" and "Answers": the session, and the one order of checks.
+use mathlib.Core.Path.{_≡_}
 use mathlib.Core.Bool.{Bool, _&&_, not}
 use Prim.Native.Nat.{ℕ}
 use lib.Dec.{eqb, leb}
@@ -43,6 +44,10 @@ sessionOk l s m side =
 -- checks 1 to 8 of a later call, by the session's own settings; where none stands, the composition that it goes on with
 unfoldable pub entered : Lent → Session → Memory → Checked Composition
 entered l s m = andThen (sideFor (s .settings) l) (λ side. refuseIf (not (sessionOk l s m side)) 8 (good (compositionOf (s .settings) l side)))
+
+-- the checks 1 to 8 pass
+abbrev pub Passes : Lent → Session → Memory → Type 0
+Passes l s m = (c : Composition) × (entered l s m ≡ good c)
 
 -- checks 1 to 9: "state not found yet"
 unfoldable pub enteredAt : Lent → Session → Memory → ℕ → Checked Composition

@@ -1,26 +1,35 @@
 -- An expansion where the checks have passed, and one turn of a run: the rest of the run gives what the whole gives, and the checks pass again.
-use mathlib.Core.Path.{_≡_, refl, sym, _∙_, ap}
+use mathlib.Core.Path.{_≡_, refl, sym, _∙_, ap, subst}
 use mathlib.Core.Bool.{true, false}
 use Prim.Native.Nat.{ℕ, zero, suc, _+_, _-_, _≤_, _<_}
 use native.Mathlib.Numerals.{add-one}
 use native.Mathlib.Omega.{arith}
 use lib.Dec.{eqb, leb}
 use borrow.Author.Tests.{le-leb, lt-leb}
-use Rattle.words.specs.Labels.{good, refused}
+use Rattle.words.specs.Labels.{Checked, good, refused}
 use Rattle.words.specs.Settings.{Lent}
 use Rattle.words.specs.Steps.{Composition}
+use Rattle.words.proofs.CheckedLaws.{good≢refused, refused-is}
 use Rattle.calls.specs.Store.{Memory, expandedAt, Part, partAt}
 use Rattle.calls.specs.Checks.{Session, storeOf, entered}
 use Rattle.calls.specs.Calls.{Outcome, settle, expansion, expandOf, onward, ended, runFrom}
 use Rattle.calls.proofs.RunLaws.{expand-under}
 use Rattle.calls.proofs.ExpandKept.{expand-kept}
-use Rattle.store_records.specs.Meaning.{partMeans}
 use Rattle.store_records.specs.declared.Used.{Used}
-use Rattle.store_records.specs.declared.tr_records.Part.{Part as Records}
 use Rattle.compose_moves.specs.declared.ComposeFstOpOptions.{ComposeFstOpOptions}
-use Rattle.compose_store.specs.declared.Expanded.{Expanded}
-use Rattle.compose_store.specs.declared.Expanded.the-variants.{New, Refused}
-use Rattle.compose_store.specs.Meaning.{sessionOf, leftBy}
+use Rattle.compose_store.specs.Meaning.{sessionOf}
+use Rattle.compose_run.specs.declared.Ran.{Ran}
+use Rattle.compose_run.specs.declared.Ran.the-variants.{Done, Refused}
+use Rattle.compose_run.specs.Meaning.{ranLeft, turned, turnOf}
+
+-- what the answer of a turn says of the expansion's
+accepted : (a : Checked Part) → good tt ≡ turned a → (p : Part) × (a ≡ good p)
+accepted (good p) e = (p, refl)
+accepted (refused n) e = absurd (good≢refused e)
+
+stopped : (a : Checked Part) (j : ℕ) → refused j ≡ turned a → a ≡ refused j
+stopped (good p) j e = absurd (good≢refused (sym e))
+stopped (refused n) j e = ap refused (sym (refused-is e))
 
 module _ (l : Lent) where
   -- a state expanded before
@@ -52,20 +61,43 @@ module _ (l : Lent) where
       let z : suc k - 1 ≡ k = omega arith in
       simp (z, add-one n, q) (rw b at e)
 
-  kept : (s : Session) (m : Memory) (n : ℕ) (c : Composition) (p : Part) (o : Outcome Part) → entered l s m ≡ good c → o ≡ expandOf l s m n → o .answer ≡ good p → entered l (o .session) (o .memory) ≡ good c
-  kept s m n c p o e q h = rw (← q) at (expand-kept l s m n c p e (ap (λ (x : Outcome Part). x .answer) (sym q) ∙ h))
+  -- a turn of a run: a state expanded before, and one not expanded before
+  pub turn-listed : (s : Session) (m : Memory) (n : ℕ) (c : Composition) → entered l s m ≡ good c → n < s .used .states → eqb (expandedAt (m .states) n) 1 ≡ true
+      → record { answer = good tt; session = s; memory = m } ≡ turnOf (expandOf l s m n)
+  turn-listed s m n c e found h = ap turnOf (expand-listed s m n c (partAt (storeOf s m) n) e found h refl)
 
-  module _ (o : ComposeFstOpOptions) where
+  pub turn-new : (s : Session) (m : Memory) (n : ℕ) (c : Composition) (o : Outcome Part) → entered l s m ≡ good c → n < s .used .states → eqb (expandedAt (m .states) n) 1 ≡ false
+      → o ≡ settle s m (expansion c s m n) → turnOf o ≡ turnOf (expandOf l s m n)
+  turn-new s m n c o e found h q = ap turnOf (q ∙ expand-new s m n c e found h)
+
+  module _ (o : ComposeFstOpOptions) (u : Used) (m : Memory) (n : ℕ) (r : Ran) (m′ : Memory) (q : ranLeft o m′ r ≡ turnOf (expandOf l (sessionOf o u) m n)) where
+    abbrev next : Outcome Part
+    next = expandOf l (sessionOf o u) m n
+
+    -- an accepted turn leaves what the expansion leaves
+    same : (u′ : Used) → r ≡ Done u′ → ranLeft o m′ (Done u′) ≡ turnOf next
+    same u′ h = ap (ranLeft o m′) (sym h) ∙ q
+
     -- the checks 1 to 8 pass again after an accepted expansion
-    pub new-kept : (u : Used) (m : Memory) (n : ℕ) (c : Composition) (r : Expanded) (p : Records) (u′ : Used) (m′ : Memory) → entered l (sessionOf o u) m ≡ good c → leftBy o u m′ r ≡ expandOf l (sessionOf o u) m n → r ≡ New p u′
-        → entered l (sessionOf o u′) m′ ≡ good c
-    new-kept u m n c r p u′ m′ e q h = kept (sessionOf o u) m n c (partMeans p) (leftBy o u m′ (New p u′)) e (rw h at q) refl
+    pub new-kept : (c : Composition) (u′ : Used) → entered l (sessionOf o u) m ≡ good c → r ≡ Done u′ → entered l (sessionOf o u′) m′ ≡ good c
+    new-kept c u′ e h =
+        let t = same u′ h in
+        let p = accepted (next .answer) (ap (λ (x : Outcome (Unit {0})). x .answer) t) in
+        subst (λ (x : Outcome (Unit {0})). entered l (x .session) (x .memory) ≡ good c) (sym t) (expand-kept l (sessionOf o u) m n c (p .0) e (p .1))
 
-    pub new-turn : (k n : ℕ) (u : Used) (m : Memory) (r : Expanded) (p : Records) (u′ : Used) (m′ : Memory) (v : Outcome (Unit {0})) → 0 < k → n < u .states → leftBy o u m′ r ≡ expandOf l (sessionOf o u) m n → r ≡ New p u′
-        → runFrom l k n (sessionOf o u) m ≡ v → runFrom l (k - 1) (n + 1) (sessionOf o u′) m′ ≡ v
-    new-turn k n u m r p u′ m′ v some found q h e = run-turn k n (sessionOf o u) m (leftBy o u m′ (New p u′)) v some (lt-leb _ _ found) (rw h at q) e
+    module _ (k : ℕ) (v : Outcome (Unit {0})) (some : 0 < k) (found : n < u .states) (whole : runFrom l k n (sessionOf o u) m ≡ v) where
+      turned-on : onward (next .answer) (next .session) (next .memory) (runFrom l (k - 1) (n + 1)) ≡ v
+      turned-on = run-turn k n (sessionOf o u) m next v some (lt-leb _ _ found) refl whole
 
-    -- a refused expansion ends the run, and what was expanded before it stays
-    pub refused-turn : (k n : ℕ) (u : Used) (m : Memory) (r : Expanded) (j : ℕ) (m′ : Memory) (v : Outcome (Unit {0})) → 0 < k → n < u .states → leftBy o u m′ r ≡ expandOf l (sessionOf o u) m n → r ≡ Refused j
-        → runFrom l k n (sessionOf o u) m ≡ v → record { answer = refused j; session = sessionOf o u; memory = m′ } ≡ v
-    refused-turn k n u m r j m′ v some found q h e = run-turn k n (sessionOf o u) m (leftBy o u m′ (Refused j)) v some (lt-leb _ _ found) (rw h at q) e
+      pub new-turn : (u′ : Used) → r ≡ Done u′ → runFrom l (k - 1) (n + 1) (sessionOf o u′) m′ ≡ v
+      new-turn u′ h =
+          let t = same u′ h in
+          let p = accepted (next .answer) (ap (λ (x : Outcome (Unit {0})). x .answer) t) in
+          subst (λ (x : Outcome (Unit {0})). runFrom l (k - 1) (n + 1) (x .session) (x .memory) ≡ v) (sym t) (rw (p .1) at turned-on)
+
+      -- a refused expansion ends the run, and what was expanded before it stays
+      pub refused-turn : (j : ℕ) (kept : Used) → r ≡ Refused j kept → record { answer = refused j; session = sessionOf o kept; memory = m′ } ≡ v
+      refused-turn j kept h =
+          let t = ap (ranLeft o m′) (sym h) ∙ q in
+          let p = stopped (next .answer) j (ap (λ (x : Outcome (Unit {0})). x .answer) t) in
+          subst (λ (x : Outcome (Unit {0})). record { answer = refused j; session = x .session; memory = x .memory } ≡ v) (sym t) (rw p at turned-on)

@@ -1,8 +1,8 @@
 -- What the start and a run of the code stand for in the definitions of `words` and `calls`.
 use mathlib.Core.Option.{Option, none, some}
-use Rattle.words.specs.Labels.{good, refused}
+use Rattle.words.specs.Labels.{Checked, good, refused}
 use Rattle.words.specs.Steps.{Triple}
-use Rattle.calls.specs.Store.{Memory}
+use Rattle.calls.specs.Store.{Memory, Part}
 use Rattle.calls.specs.Calls.{Outcome}
 use Rattle.store_records.specs.Meaning.{tupleMeans}
 use Rattle.compose_moves.specs.declared.ComposeFstOpOptions.{ComposeFstOpOptions}
@@ -21,3 +21,11 @@ startMeans Missing = none
 abbrev pub ranLeft : ComposeFstOpOptions → Memory → Ran → Outcome (Unit {0})
 ranLeft o m (Done u) = record { answer = good tt; session = sessionOf o u; memory = m }
 ranLeft o m (Refused n u) = record { answer = refused n; session = sessionOf o u; memory = m }
+
+-- what one expansion of a run leaves: its list is stored, and no part of what a run answers
+abbrev pub turned : Checked Part → Checked (Unit {0})
+turned (good p) = good tt
+turned (refused n) = refused n
+
+abbrev pub turnOf : Outcome Part → Outcome (Unit {0})
+turnOf o = record { answer = turned (o .answer); session = o .session; memory = o .memory }

@@ -10,7 +10,7 @@ ghost use Rattle.calls.specs.Calls.{expandOf, runFrom};
 ghost use Rattle.compose_moves.specs.Composing.{lentOf, composing};
 ghost use Rattle.store_records.specs.Meaning.{memoryOf};
 ghost use Rattle.compose_store.specs.Meaning.{sessionOf, leftBy};
-ghost use Rattle.compose_run.specs.Meaning.{startMeans, ranLeft};
+ghost use Rattle.compose_run.specs.Meaning.{startMeans, ranLeft, turnOf};
 use compose_moves::ComposeFstOpOptions;
 use compose_store::Expanded;
 use compose_store::expand_state;
@@ -71,6 +71,32 @@ pub fn expand_found(
     expand_state(m1, m2, a1, a2, options, heads, states, trs, used, n)
 }
 
+// One turn of a run: state n is expanded, if it is not yet. Its list is not asked for.
+fn compute_state(
+    m1: &[u32],
+    m2: &[u32],
+    a1: &[u32],
+    a2: &[u32],
+    options: ComposeFstOpOptions,
+    heads: &mut [u32],
+    states: &mut [u32],
+    trs: &mut [u32],
+    used: Used,
+    n: StateId,
+) -> Ran
+    requires { ⌜ (entered (lentOf options (now m1) (now m2) (now a1) (now a2)) (sessionOf options used) (memoryOf (now heads) (now states) (now trs)) ≡ good (composing options (now m1) (now m2) (now a1) (now a2))) × (n .0 < used .states) ⌝ }
+    ensures { λ r. ⌜ ranLeft options (memoryOf (now (heads .exit)) (now (states .exit)) (now (trs .exit))) r ≡ turnOf (expandOf (lentOf options (now (m1 .entry)) (now (m2 .entry)) (now (a1 .entry)) (now (a2 .entry))) (sessionOf options used) (memoryOf (now (heads .entry)) (now (states .entry)) (now (trs .entry))) (n .0)) ⌝ }
+{
+    if is_expanded(states, n) {
+        return Ran::Done(used);
+    }
+    let expanded = expand_state(m1, m2, a1, a2, options, heads, states, trs, used, n);
+    match expanded {
+        Expanded::New(_, after) => Ran::Done(after),
+        Expanded::Refused(k) => Ran::Refused(k, used),
+    }
+}
+
 // Expands in number order, where the checks 1 to 8 pass, until none is left or one is refused. After an accepted expansion the checks pass again: they are not made again. No more states are
 // found than there is room for.
 pub fn compute(
@@ -94,7 +120,7 @@ pub fn compute(
         if latest.states <= n {
             return Ran::Done(latest);
         }
-        let expanded = expand_found(
+        let turn = compute_state(
             m1,
             m2,
             a1,
@@ -106,11 +132,11 @@ pub fn compute(
             latest,
             StateId(n),
         );
-        match expanded {
-            Expanded::Refused(k) => {
-                return Ran::Refused(k, latest);
+        match turn {
+            Ran::Refused(k, kept) => {
+                return Ran::Refused(k, kept);
             }
-            Expanded::New(_, after) => {
+            Ran::Done(after) => {
                 latest = after;
             }
         }

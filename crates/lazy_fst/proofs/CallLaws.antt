@@ -1,15 +1,18 @@
 -- A session whose checks pass has the side of the rule: it is the one that the composition below it stands for.
-use mathlib.Core.Path.{_≡_, sym, _∙_, ap, subst}
-use Prim.Native.Nat.{ℕ, _<_}
-use lib.Dec.{leb}
-use borrow.Author.Tests.{leb-false}
-use Rattle.words.specs.Labels.{good}
-use Rattle.words.specs.Sides.{Side}
+use mathlib.Core.Path.{_≡_, refl, sym, _∙_, ap, subst}
+use mathlib.Core.Bool.{cond}
+use mathlib.Core.List.{[]}
+use Prim.Native.Nat.{ℕ, _≤_, _<_}
+use lib.Dec.{eqb}
+use borrow.Author.Tests.{le-leb, lt-leb}
+use Rattle.words.specs.Labels.{good, refused, andThen}
+use Rattle.words.specs.Matches.{inputs, outputs}
+use Rattle.words.specs.Sides.{Side, only, both}
 use Rattle.words.specs.Settings.{Lent, compositionOf}
-use Rattle.words.specs.Steps.{Composition}
-use Rattle.words.proofs.CheckedLaws.{past-check, past-then}
-use Rattle.calls.specs.Store.{Memory}
-use Rattle.calls.specs.Checks.{Session, sideNumber, entered, enteredAt}
+use Rattle.words.specs.Steps.{Composition, finalAt}
+use Rattle.calls.specs.Store.{Memory, tripleAt, expandedAt, partAt}
+use Rattle.calls.specs.Checks.{Session, sideNumber, storeOf, entered, enteredAt, Passes}
+use Rattle.calls.specs.Calls.{settle, unchanged, wordsOf, expandOf, finalWeightOf, recordsOf}
 use Rattle.calls.proofs.ExpandKept.{entered-is}
 use Rattle.compose_fst_op.specs.Chosen.{sideMeans}
 use Rattle.compose_fst_op.specs.declared.Side.{Side as Direction}
@@ -17,19 +20,20 @@ use Rattle.compose_fst_op.specs.declared.Chosen.{Chosen}
 use Rattle.compose_fst_op.specs.declared.Chosen.the-variants.{By}
 use Rattle.compose_store.specs.Meaning.{sessionOf}
 use Rattle.store_records.specs.Meaning.{usedMeans}
-use Rattle.session_checks.specs.Meaning.{settingsMeans, enteredMeans}
+use Rattle.session_checks.specs.Meaning.{settingsMeans, enteredMeans, sideNumbered}
 use Rattle.lazy_fst.specs.Meaning.{sessionMeans, optionsOf}
 use Rattle.lazy_fst.specs.declared.Session.{Session as Latest}
 use Rattle.lazy_fst.specs.declared.Listed.{Listed}
 
+numbered : (side : Side) → sideNumbered (sideNumber side) ≡ side
+numbered (only inputs) = refl
+numbered (only outputs) = refl
+numbered both = refl
+
 module _ (l : Lent) where
-  -- the checks 1 to 9 are the checks 1 to 8, and that the state is found
-  pub at-entered : (s : Session) (m : Memory) (n : ℕ) (c : Composition) → enteredAt l s m n ≡ good c → (entered l s m ≡ good c) × (n < s .used .states)
-  unfolding enteredAt
-  at-entered s m n c e =
-      let x = past-then (entered l s m) _ c e in
-      let k = past-check (leb (s .used .states) n) 9 _ c (x .2) in
-      (x .1 ∙ k .1, leb-false _ _ (k .0))
+  -- the answer of the checks 1 to 8, where it is a side, says that they pass
+  pub passes-by : (s : Latest) (m : Memory) (r : Chosen) (side : Direction) → enteredMeans (s .settings) l r ≡ entered l (sessionMeans s) m → r ≡ By side → Passes l (sessionMeans s) m
+  passes-by s m r side e h = (compositionOf (settingsMeans (s .settings)) l (sideMeans side), sym e ∙ ap (enteredMeans (s .settings) l) h)
 
   same-side : (s : Session) (m : Memory) (side : Side) → entered l s m ≡ good (compositionOf (s .settings) l side) → s .side ≡ sideNumber side
   same-side s m side e =
@@ -55,8 +59,51 @@ module _ (l : Lent) where
   pub goes : (s : Latest) (m : Memory) (listed : Listed) (r : Chosen) (side : Direction) → enteredMeans (s .settings) l r ≡ entered l (sessionMeans s) m → r ≡ By side → Goes s m listed side
   goes s m listed r side e h = goes-on s m listed side (sym e ∙ ap (enteredMeans (s .settings) l) h)
 
-  -- and that of the checks 1 to 9
-  pub goes-at : (s : Latest) (m : Memory) (n : ℕ) (listed : Listed) (r : Chosen) (side : Direction) → enteredMeans (s .settings) l r ≡ enteredAt l (sessionMeans s) m n → r ≡ By side → Goes s m listed side × (n < s .used .states)
-  goes-at s m n listed r side e h =
-      let x = at-entered (sessionMeans s) m n (compositionOf (settingsMeans (s .settings)) l (sideMeans side)) (sym e ∙ ap (enteredMeans (s .settings) l) h) in
-      (goes-on s m listed side (x .0), x .1)
+  -- where the checks pass, the composition is that of the side with the session's number
+  pub known : (s : Latest) (m : Memory) (side : Direction) → Passes l (sessionMeans s) m → sideMeans side ≡ sideNumbered (s .side)
+      → entered l (sessionMeans s) m ≡ good (compositionOf (settingsMeans (s .settings)) l (sideMeans side))
+  known s m side p q =
+      let h = entered-is l (sessionMeans s) m (p .0) (p .1) in
+      let e : sideMeans side ≡ h .side = q ∙ ap sideNumbered (h .same) ∙ numbered (h .side) in
+      p .1 ∙ ap good (h .composition ∙ ap (compositionOf (settingsMeans (s .settings)) l) (sym e))
+
+  pub goes-known : (s : Latest) (m : Memory) (listed : Listed) (side : Direction) → Passes l (sessionMeans s) m → sideMeans side ≡ sideNumbered (s .side) → Goes s m listed side
+  goes-known s m listed side p q = goes-on s m listed side (known s m side p q)
+
+  -- a state that is not found yet: 9
+  pub late-expand : (s : Session) (m : Memory) (n : ℕ) → Passes l s m → s .used .states ≤ n → record { answer = refused 9; session = s; memory = m } ≡ expandOf l s m n
+  unfolding expandOf enteredAt
+  late-expand s m n p h = rw (p .1, le-leb _ _ h)
+
+  pub late-weight : (s : Session) (m : Memory) (n : ℕ) → Passes l s m → s .used .states ≤ n → record { answer = refused 9; session = s; memory = m } ≡ finalWeightOf l s m n
+  unfolding finalWeightOf enteredAt
+  late-weight s m n p h = rw (p .1, le-leb _ _ h)
+
+  pub late-records : (s : Session) (m : Memory) (n : ℕ) → Passes l s m → s .used .states ≤ n → [] ≡ recordsOf l s m n
+  unfolding recordsOf enteredAt
+  late-records s m n p h = rw (p .1, le-leb _ _ h)
+
+  -- a refusal of the checks 1 to 8 is each call's
+  module _ (s : Session) (m : Memory) (k : ℕ) (e : entered l s m ≡ refused k) where
+    pub stopped-expand : (n : ℕ) → record { answer = refused k; session = s; memory = m } ≡ expandOf l s m n
+    unfolding expandOf enteredAt
+    stopped-expand n = rw e
+
+    pub stopped-weight : (n : ℕ) → record { answer = refused k; session = s; memory = m } ≡ finalWeightOf l s m n
+    unfolding finalWeightOf enteredAt
+    stopped-weight n = rw e
+
+    pub stopped-records : (n : ℕ) → [] ≡ recordsOf l s m n
+    unfolding recordsOf enteredAt
+    stopped-records n = rw e
+
+  -- a found state, where the checks 1 to 8 pass
+  pub found-weight : (s : Session) (m : Memory) (n : ℕ) (c : Composition) → entered l s m ≡ good c → n < s .used .states
+      → settle s m (andThen (finalAt c (tripleAt (m .states) n)) (λ w. good (unchanged s m w))) ≡ finalWeightOf l s m n
+  unfolding finalWeightOf enteredAt
+  found-weight s m n c e h = rw (e, lt-leb _ _ h)
+
+  pub found-records : (s : Session) (m : Memory) (n : ℕ) → Passes l s m → n < s .used .states
+      → cond (eqb (expandedAt (m .states) n) 1) (wordsOf (m .trs) (partAt (storeOf s m) n)) [] ≡ recordsOf l s m n
+  unfolding recordsOf enteredAt
+  found-records s m n p h = rw (p .1, lt-leb _ _ h)

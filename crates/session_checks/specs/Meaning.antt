@@ -1,8 +1,10 @@
 -- What the code's types stand for in the definitions of `words` and `calls`, and what the checks before a call give.
 use mathlib.Core.List.{List}
 use mathlib.Core.Option.{Option}
-use Prim.Native.Nat.{ℕ}
+use Prim.Native.Nat.{ℕ, zero, suc}
 use Rattle.words.specs.Labels.{Checked, good, refused}
+use Rattle.words.specs.Matches.{inputs, outputs}
+use Rattle.words.specs.Sides.{Side, only, both}
 use Rattle.words.specs.Steps.{Composition}
 use Rattle.words.specs.Settings.{Settings as Six, Lent, compositionOf}
 use Rattle.calls.specs.Checks.{Session}
@@ -29,3 +31,9 @@ sessionOf s side used = record { settings = s; side = side; used = usedMeans use
 abbrev pub enteredMeans : Settings → Lent → Chosen → Checked Composition
 enteredMeans s l (By side) = good (compositionOf (settingsMeans s) l (sideMeans side))
 enteredMeans s l (Refused n) = refused n
+
+-- the side with a number, the inverse of `sideNumber`: "session side differs from the rule" is refused before it is asked
+abbrev pub sideNumbered : ℕ → Side
+sideNumbered zero = only inputs
+sideNumbered (suc zero) = only outputs
+sideNumbered (suc (suc n)) = both

@@ -1,20 +1,19 @@
-// The six settings, and the one order of checks 1 to 9 before a call.
+// The six settings, and the one order of checks 1 to 8 before a call.
 ghost use mathlib.Core.Path.{_≡_};
 ghost use mathlib.Core.List.{List};
 ghost use mathlib.Core.Option.{Option};
 ghost use Prim.Native.Nat.{ℕ};
 ghost use Rattle.words.specs.Settings.{Settings as Six, settingsOk};
 ghost use Rattle.calls.specs.Listing.{settingsOf};
-ghost use Rattle.calls.specs.Checks.{sideNumber, sideFor, sessionOk, entered, enteredAt};
+ghost use Rattle.calls.specs.Checks.{sideNumber, sideFor, sessionOk, entered};
 ghost use Rattle.compose_fst_op.specs.Chosen.{sideMeans, chosenMeans};
 ghost use Rattle.store_records.specs.Meaning.{memoryOf};
-ghost use Rattle.session_checks.specs.Meaning.{settingsMeans, lentOf, sessionOf, enteredMeans};
+ghost use Rattle.session_checks.specs.Meaning.{settingsMeans, lentOf, sessionOf, enteredMeans, sideNumbered};
 use compose_fst_op::Chosen;
 use compose_fst_op::Side;
 use compose_fst_op::match_type;
 use fst::Label;
 use fst::MatchType;
-use fst::StateId;
 use fst::num_states;
 use fst::word;
 use fst_properties::well_formed;
@@ -83,6 +82,17 @@ pub fn side_number(side: Side) -> u32
     }
 }
 
+// The side with a number: that of a session whose checks passed.
+pub fn side_of(number: u32) -> Side
+    ensures { λ r. ⌜ sideMeans r ≡ sideNumbered number ⌝ }
+{
+    match number {
+        0 => Side::Only(MatchType::MatchInput),
+        1 => Side::Only(MatchType::MatchOutput),
+        _ => Side::Both,
+    }
+}
+
 // Checks 1 to 7 in their order; where none stands, the side of the rule. Allowed lists play no part.
 pub fn side_for(settings: Settings, m1: &[u32], m2: &[u32]) -> Chosen
     ensures { λ r. ⌜ ((allowed1 allowed2 : Option (List ℕ)) → chosenMeans r ≡ sideFor (settingsMeans settings) (lentOf (now (m1 .entry)) (now (m2 .entry)) allowed1 allowed2)) ⌝ }
@@ -142,32 +152,6 @@ pub fn enter(
         Chosen::By(rule) => {
             if !session_ok(rule, side, used, m1, m2, heads, states, trs) {
                 return Chosen::Refused(8);
-            }
-            Chosen::By(rule)
-        }
-    }
-}
-
-// Checks 1 to 9.
-pub fn enter_at(
-    settings: Settings,
-    side: u32,
-    used: Used,
-    m1: &[u32],
-    m2: &[u32],
-    heads: &[u32],
-    states: &[u32],
-    trs: &[u32],
-    n: StateId,
-) -> Chosen
-    ensures { λ r. ⌜ ((allowed1 allowed2 : Option (List ℕ)) → enteredMeans settings (lentOf (now (m1 .entry)) (now (m2 .entry)) allowed1 allowed2) r ≡ enteredAt (lentOf (now (m1 .entry)) (now (m2 .entry)) allowed1 allowed2) (sessionOf (settingsMeans settings) side used) (memoryOf (now (heads .entry)) (now (states .entry)) (now (trs .entry))) (n .0)) ⌝ }
-{
-    let entered = enter(settings, side, used, m1, m2, heads, states, trs);
-    match entered {
-        Chosen::Refused(k) => Chosen::Refused(k),
-        Chosen::By(rule) => {
-            if used.states <= n.0 {
-                return Chosen::Refused(9);
             }
             Chosen::By(rule)
         }

@@ -38,13 +38,11 @@ returns c =
     let i = c .before .before .before .loop .inv in
     run-ends _ _ _ _ _ _ (c .before .before .loop-test .taken) (c .if1 .taken) (i .5)
 
-expand-found-requires : tie.Need-expand-found-requires Inv-loop μ-loop
-expand-found-requires c κs = (c .before .before .before .before .before .before .loop .inv .4, c .before .before .before .if1 .left)
+compute-state-requires : tie.Need-compute-state-requires Inv-loop μ-loop
+compute-state-requires c κs = (c .before .before .before .before .before .before .loop .inv .4, c .before .before .before .if1 .left)
 
 returns-2 : tie.Need-returns-2 Inv-loop μ-loop
-returns-2 c =
-    let i = c .before .before .before .before .before .before .before .before .before .before .before .before .before .before .before .before .loop .inv in
-    refused-turn _ _ _ _ _ _ _ _ _ _ (c .before .before .before .before .before .before .before .before .before .before .before .before .before .before .before .loop-test .taken) (c .before .before .before .before .before .before .before .before .before .before .before .before .before .if1 .left) (c .before .before .before .before .before .before .before .before .before .expand-found .ensures) (c .before .expanded .given .1) (i .5)
+returns-2 c = refused-turn _ _ _ _ _ _ _ (c .before .before .before .before .before .before .before .before .before .compute-state .ensures) _ _ (c .before .before .before .before .before .before .before .before .before .before .before .before .before .before .before .loop-test .taken) (c .before .before .before .before .before .before .before .before .before .before .before .before .before .if1 .left) (c .before .before .before .before .before .before .before .before .before .before .before .before .before .before .before .before .loop .inv .5) _ _ (c .before .turn .given .1)
 
 add-n : tie.Need-add-n Inv-loop μ-loop
 add-n c = let b = c .before .before .before .before .before .before .before .before .before .before .before .before .before .before .before .before .loop .inv .0 in omega (arith, b)
@@ -53,15 +51,14 @@ loop-again : tie.Need-loop-again Inv-loop μ-loop
 loop-again c =
     let i = c .before .before .before .before .before .before .before .before .before .before .before .before .before .before .before .before .loop .inv in
     let some = c .before .before .before .before .before .before .before .before .before .before .before .before .before .before .before .loop-test .taken in
-    let found = c .before .before .before .before .before .before .before .before .before .before .before .before .before .if1 .left in
-    let e = c .before .before .before .before .before .before .before .before .before .expand-found .ensures in
-    let p = c .before .expanded2 .given .1 in (
+    let e = c .before .before .before .before .before .before .before .before .before .compute-state .ensures in
+    let p = c .before .turn2 .given .1 in (
       omega (arith, i .0, some),
       search needs,
       search needs,
       search needs,
-      new-kept _ _ _ _ _ _ _ _ _ _ (i .4) e p,
-      new-turn _ _ _ _ _ _ _ _ _ _ _ some found e p (i .5),
+      new-kept _ _ _ _ _ _ _ e _ _ (i .4) p,
+      new-turn _ _ _ _ _ _ _ e _ _ some (c .before .before .before .before .before .before .before .before .before .before .before .before .before .if1 .left) (i .5) _ p,
     )
 
 returns-3 : tie.Need-returns-3 Inv-loop μ-loop
@@ -79,7 +76,7 @@ compute-spec =
     (λ c. search needs)
     (λ c. search needs)
     returns
-    expand-found-requires
+    compute-state-requires
     (λ c. search needs)
     (λ c. search needs)
     (λ c. search needs)

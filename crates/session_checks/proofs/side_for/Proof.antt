@@ -8,6 +8,9 @@ use borrow.Author.Needs.{needs}
 use Rattle.session_checks.proofs.side_for.Statement.{statement}
 use Rattle.session_checks.proofs.side_for.Tie as tie
 
+match-type-requires : tie.Need-match-type-requires
+match-type-requires c κs = (holds (c .before .before .before .before .before .well-formed .ensures) (c .before .before .before .before .if2 .left), holds (c .before .before .before .well-formed2 .ensures) (c .before .before .if3 .left))
+
 returns : tie.Need-returns
 unfolding sideFor
 returns c = λ a1 a2. rw (fails (c .before .settings-ok .ensures) (c .if1 .taken))
@@ -36,5 +39,5 @@ side-for-spec =
     returns-2
     (λ c κs. search needs)
     returns-3
-    (λ c κs. search needs)
+    match-type-requires
     returns-4)

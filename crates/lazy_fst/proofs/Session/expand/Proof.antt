@@ -1,38 +1,27 @@
--- Checks 1 to 9, then the expansion.
-use mathlib.Core.Path.{sym, _∙_, ap}
+-- Checks 1 to 8; then the call that does not check.
+use mathlib.Core.Path.{sym, ap, _∙_}
 use denote.Ref.{now}
-use Rattle.calls.specs.Checks.{Session}
-use Rattle.calls.specs.Calls.{expandOf}
-use Rattle.matchers.specs.Meaning.{allowedOf}
 use Rattle.store_records.specs.Meaning.{memoryOf}
-use Rattle.lazy_fst.specs.Meaning.{lentWith, optionsOf}
-use Rattle.lazy_fst.proofs.CallLaws.{goes-at}
+use Rattle.session_checks.specs.Meaning.{enteredMeans}
+use Rattle.lazy_fst.specs.Meaning.{lentWith, sessionMeans}
+use Rattle.lazy_fst.proofs.CallLaws.{passes-by, stopped-expand}
 use borrow.Author.Needs.{needs}
 use Rattle.lazy_fst.proofs.Session.expand.Statement.{statement}
 use Rattle.lazy_fst.proofs.Session.expand.Tie as tie
 
-expand-found-requires : tie.Need-expand-found-requires
-expand-found-requires c κs =
-    let x = c .before .before .before .before .before .before .before .before .before .before .before .before .before .before .before .before .before .before .before .before .args in
-    let l = lentWith (now (x .m1)) (now (x .m2)) (now (x .allowed1)) (now (x .allowed2)) (x .listed) in
-    let g = goes-at l (x .self) (memoryOf (now (x .heads)) (now (x .states)) (now (x .trs))) (x .n .0) (x .listed) (c .before .before .before .before .before .before .before .enter-at .result) (c .before .before .before .before .before .entered2 .given .0 .0) (c .before .before .before .before .before .before .before .enter-at .ensures (l .allowed1) (l .allowed2)) (c .before .before .before .before .before .entered2 .given .1) in
-    rw (c .before .before .before .options-of .ensures) (g .0 .passes, g .1)
-
-returns : tie.Need-returns
-unfolding expandOf
-returns c =
+trusted-expand-requires : tie.Need-trusted-expand-requires
+trusted-expand-requires c κs =
     let x = c .before .before .before .before .before .before .before .before .before .before .before .before .before .before .before .before .args in
-    rw (← c .before .before .before .enter-at .ensures (allowedOf (x .listed .first) (now (x .allowed1))) (allowedOf (x .listed .second) (now (x .allowed2))), c .before .entered .given .1)
-
-returns-2 : tie.Need-returns-2
-returns-2 c =
-    let x = c .before .before .before .before .before .before .before .before .before .before .before .before .before .before .before .before .before .before .before .before .before .before .before .before .before .before .before .before .args in
     let l = lentWith (now (x .m1)) (now (x .m2)) (now (x .allowed1)) (now (x .allowed2)) (x .listed) in
     let m = memoryOf (now (x .heads)) (now (x .states)) (now (x .trs)) in
-    let g = goes-at l (x .self) m (x .n .0) (x .listed) (c .before .before .before .before .before .before .before .before .before .before .before .before .before .before .before .enter-at .result) (c .before .before .before .before .before .before .before .before .before .before .before .before .before .entered2 .given .0 .0) (c .before .before .before .before .before .before .before .before .before .before .before .before .before .before .before .enter-at .ensures (l .allowed1) (l .allowed2)) (c .before .before .before .before .before .before .before .before .before .before .before .before .before .entered2 .given .1) in
-    let same = g .0 .same in
-    let done = rw (c .before .before .before .before .before .before .before .before .before .before .before .options-of .ensures) at (c .before .before .before .before .before .before .before .expand-found .ensures) in
-    c .part-answer .ensures (optionsOf (x .self .settings) (x .listed) (c .before .before .before .before .before .before .before .before .before .before .before .before .before .entered2 .given .0 .0)) _ same ∙ (done ∙ ap (λ (s : Session). expandOf l s m (x .n .0)) (sym same))
+    passes-by l (x .self) m (c .before .before .before .before .before .enter .result) (c .before .before .before .enum-told .given .0 .0) (c .before .before .before .before .before .enter .ensures (l .allowed1) (l .allowed2)) (c .before .before .before .enum-told .given .1)
+
+returns : tie.Need-returns
+returns c =
+    let x = c .before .before .before .before .before .before .before .before .before .before .before .before .before .before .args in
+    let l = lentWith (now (x .m1)) (now (x .m2)) (now (x .allowed1)) (now (x .allowed2)) (x .listed) in
+    let m = memoryOf (now (x .heads)) (now (x .states)) (now (x .trs)) in
+    stopped-expand l (sessionMeans (x .self)) m _ (sym (c .before .before .before .enter .ensures (l .allowed1) (l .allowed2)) ∙ ap (enteredMeans (x .self .settings) l) (c .before .entered .given .1)) (x .n .0)
 
 pub expand-spec : {M : Type 1} → statement M
 expand-spec =
@@ -41,9 +30,7 @@ expand-spec =
     (λ c κs. search needs)
     (λ c. search needs)
     (λ c. search needs)
-    (λ c κs. search needs)
-    expand-found-requires
-    (λ c κs. search needs)
+    trusted-expand-requires
     (λ c. search needs)
     (λ c. search needs)
     (λ c. search needs)
@@ -51,4 +38,4 @@ expand-spec =
     (λ c. search needs)
     (λ c. search needs)
     (λ c. search needs)
-    returns-2)
+    (λ c. search needs))

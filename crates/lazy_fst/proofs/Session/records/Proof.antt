@@ -1,31 +1,27 @@
--- Checks 1 to 9; then the part of an expanded state.
-use mathlib.Core.Path.{_∙_, ap}
+-- Checks 1 to 8; then the call that does not check.
+use mathlib.Core.Path.{sym, ap, _∙_}
 use denote.Ref.{now}
-use Rattle.fst.proofs.Tests.{fails, holds}
-use Rattle.calls.specs.Calls.{wordsOf, recordsOf}
-use Rattle.matchers.specs.Meaning.{allowedOf}
+use Rattle.store_records.specs.Meaning.{memoryOf}
+use Rattle.session_checks.specs.Meaning.{enteredMeans}
+use Rattle.lazy_fst.specs.Meaning.{lentWith, sessionMeans}
+use Rattle.lazy_fst.proofs.CallLaws.{passes-by, stopped-records}
 use borrow.Author.Needs.{needs}
 use Rattle.lazy_fst.proofs.Session.records.Statement.{statement}
 use Rattle.lazy_fst.proofs.Session.records.Tie as tie
 
+trusted-records-requires : tie.Need-trusted-records-requires
+trusted-records-requires c κs =
+    let x = c .before .before .before .before .before .before .before .before .before .before .args in
+    let l = lentWith (now (x .m1)) (now (x .m2)) (now (x .allowed1)) (now (x .allowed2)) (x .listed) in
+    let m = memoryOf (now (x .heads)) (now (x .states)) (now (x .trs)) in
+    passes-by l (x .self) m (c .before .before .enter .result) (c .enum-told2 .given .0 .0) (c .before .before .enter .ensures (l .allowed1) (l .allowed2)) (c .enum-told2 .given .1)
+
 returns : tie.Need-returns
-unfolding recordsOf
 returns c =
-    let x = c .before .before .before .before .before .before .before .before .before .before .before .before .before .before .before .args in
-    rw (← c .before .before .before .before .before .enter-at .ensures (allowedOf (x .listed .first) (now (x .allowed1))) (allowedOf (x .listed .second) (now (x .allowed2))), c .before .before .before .enum-told2 .given .1, fails (c .before .before .is-expanded .ensures) (c .before .if1 .taken))
-
-returns-2 : tie.Need-returns-2
-unfolding recordsOf
-returns-2 c =
-    let x = c .before .before .before .before .before .before .before .before .before .before .before .before .before .args in
-    rw (← c .before .before .before .enter-at .ensures (allowedOf (x .listed .first) (now (x .allowed1))) (allowedOf (x .listed .second) (now (x .allowed2))), c .before .enum-told .given .1)
-
-returns-3 : tie.Need-returns-3
-unfolding recordsOf
-returns-3 c =
-    let x = c .before .before .before .before .before .before .before .before .before .before .before .before .before .before .before .before .args in
-    rw (← c .before .before .before .before .before .before .enter-at .ensures (allowedOf (x .listed .first) (now (x .allowed1))) (allowedOf (x .listed .second) (now (x .allowed2))), c .before .before .before .before .enum-told2 .given .1, holds (c .before .before .before .is-expanded .ensures) (c .before .before .if1 .left))
-    (c .tr-part .ensures ∙ ap (wordsOf (now (x .trs))) (c .before .part-of .ensures (now (x .heads)) (x .self .used .states)))
+    let x = c .before .before .before .before .before .before .before .before .before .before .before .args in
+    let l = lentWith (now (x .m1)) (now (x .m2)) (now (x .allowed1)) (now (x .allowed2)) (x .listed) in
+    let m = memoryOf (now (x .heads)) (now (x .states)) (now (x .trs)) in
+    stopped-records l (sessionMeans (x .self)) m _ (sym (c .before .before .before .enter .ensures (l .allowed1) (l .allowed2)) ∙ ap (enteredMeans (x .self .settings) l) (c .before .enum-told .given .1)) (x .n .0)
 
 pub records-spec : {M : Type 1} → statement M
 records-spec =
@@ -37,12 +33,6 @@ records-spec =
     (λ c. search needs)
     (λ c. search needs)
     (λ c. search needs)
-    (λ c κs. search needs)
-    (λ c. search needs)
-    (λ c. search needs)
-    (λ c. search needs)
+    trusted-records-requires
     returns
-    (λ c κs. search needs)
-    (λ c κs. search needs)
-    returns-2
-    returns-3)
+    (λ c. search needs))

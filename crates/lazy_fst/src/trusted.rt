@@ -1,0 +1,108 @@
+// The calls without their checks 1 to 8, for a caller that knows that they pass: after an accepted opening, while nobody else writes, they do. Each answers just what the call with its
+// checks answers, and 9 as well.
+ghost use mathlib.Core.Path.{_≡_};
+ghost use Rattle.calls.specs.Checks.{Passes};
+ghost use Rattle.calls.specs.Calls.{expandOf, finalWeightOf, recordsOf};
+ghost use Rattle.store_records.specs.Meaning.{memoryOf};
+ghost use Rattle.lazy_fst.specs.Meaning.{lentWith, sessionMeans, partLeft, weightLeft};
+use crate::Listed;
+use crate::PartAnswer;
+use crate::Session;
+use crate::WeightAnswer;
+use crate::answers::final_of;
+use crate::answers::options_of;
+use crate::answers::part_answer;
+use compose_run::expand_found;
+use fst::StateId;
+use session_checks::side_of;
+use store_records::is_expanded;
+use store_records::part_of;
+use store_records::tr_part;
+
+impl Session {
+    // Expands state n; an expanded one is answered as stored.
+    pub fn trusted_expand(
+        self,
+        m1: &[u32],
+        m2: &[u32],
+        allowed1: &[u32],
+        allowed2: &[u32],
+        listed: Listed,
+        heads: &mut [u32],
+        states: &mut [u32],
+        trs: &mut [u32],
+        n: StateId,
+    ) -> PartAnswer
+        requires { ⌜ Passes (lentWith (now m1) (now m2) (now allowed1) (now allowed2) listed) (sessionMeans self) (memoryOf (now heads) (now states) (now trs)) ⌝ }
+        ensures { λ r. ⌜ partLeft r (memoryOf (now (heads .exit)) (now (states .exit)) (now (trs .exit))) ≡ expandOf (lentWith (now (m1 .entry)) (now (m2 .entry)) (now (allowed1 .entry)) (now (allowed2 .entry)) listed) (sessionMeans self) (memoryOf (now (heads .entry)) (now (states .entry)) (now (trs .entry))) (n .0) ⌝ }
+    {
+        let used = self.used;
+        if used.states <= n.0 {
+            return PartAnswer::Refused(9, self);
+        }
+        let options = options_of(self.settings, listed, side_of(self.side));
+        let expanded = expand_found(
+            m1,
+            m2,
+            allowed1,
+            allowed2,
+            options,
+            heads,
+            states,
+            trs,
+            used,
+            n,
+        );
+        part_answer(self, expanded)
+    }
+
+    // The final weight of state n.
+    pub fn trusted_final_weight(
+        self,
+        m1: &[u32],
+        m2: &[u32],
+        allowed1: &[u32],
+        allowed2: &[u32],
+        listed: Listed,
+        heads: &[u32],
+        states: &[u32],
+        trs: &[u32],
+        n: StateId,
+    ) -> WeightAnswer
+        requires { ⌜ Passes (lentWith (now m1) (now m2) (now allowed1) (now allowed2) listed) (sessionMeans self) (memoryOf (now heads) (now states) (now trs)) ⌝ }
+        ensures { λ r. ⌜ weightLeft r (memoryOf (now (heads .entry)) (now (states .entry)) (now (trs .entry))) ≡ finalWeightOf (lentWith (now (m1 .entry)) (now (m2 .entry)) (now (allowed1 .entry)) (now (allowed2 .entry)) listed) (sessionMeans self) (memoryOf (now (heads .entry)) (now (states .entry)) (now (trs .entry))) (n .0) ⌝ }
+    {
+        let used = self.used;
+        if used.states <= n.0 {
+            return WeightAnswer::Refused(9, self);
+        }
+        let options = options_of(self.settings, listed, side_of(self.side));
+        final_of(self, options, m1, m2, states, n)
+    }
+
+    // The records of an expanded state, as a part of the lent slice; none where the state is not found or not expanded.
+    pub fn trusted_records<'a>(
+        self,
+        m1: &[u32],
+        m2: &[u32],
+        allowed1: &[u32],
+        allowed2: &[u32],
+        listed: Listed,
+        heads: &[u32],
+        states: &[u32],
+        trs: &'a [u32],
+        n: StateId,
+    ) -> &'a [u32]
+        requires { ⌜ Passes (lentWith (now m1) (now m2) (now allowed1) (now allowed2) listed) (sessionMeans self) (memoryOf (now heads) (now states) (now trs)) ⌝ }
+        ensures { λ r. ⌜ now r ≡ recordsOf (lentWith (now (m1 .entry)) (now (m2 .entry)) (now (allowed1 .entry)) (now (allowed2 .entry)) listed) (sessionMeans self) (memoryOf (now (heads .entry)) (now (states .entry)) (now (trs .entry))) (n .0) ⌝ }
+    {
+        let used = self.used;
+        if used.states <= n.0 {
+            return &trs[0..0];
+        }
+        if !is_expanded(states, n) {
+            return &trs[0..0];
+        }
+        tr_part(trs, part_of(states, trs, used.trs, n))
+    }
+}
