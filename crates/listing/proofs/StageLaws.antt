@@ -12,9 +12,10 @@ use Rattle.words.specs.Labels.{good, refused}
 use Rattle.words.specs.Steps.{Triple}
 use Rattle.words.specs.Settings.{Settings, Lent}
 use Rattle.calls.specs.Store.{Memory, roomOf, stateRoom, trRoom, tripleAt}
-use Rattle.calls.specs.Checks.{Session}
+use Rattle.calls.specs.Checks.{Session, Passes}
 use Rattle.calls.specs.Calls.{Outcome, openOf, runOf, finalWeightOf, recordsOf}
 use Rattle.calls.specs.Listing.{Line, sideLine, stateLine, endLine, refusedLine, trLines, listed, printed, composed, settingsOf, noSession, emptyMemory, listingOn}
+use Rattle.calls.proofs.RunLaws.{run-passes}
 use Rattle.listing_text.specs.Printing.{lineBytes, bytesOf}
 use Rattle.listing.specs.Stages.{givenWeight, linesAt, linesFrom, ranOf, openedOf, openedMemory, FewLines}
 use Rattle.listing.proofs.LinesFit.{few-lines}
@@ -43,6 +44,9 @@ module _ (l : Lent) (s : Session) (m : Memory) (o : Outcome (Unit {0})) (e : o �
 
   pub ran-few : o .answer ≡ good tt → FewLines l s m → length (linesFrom l (o .session) (o .memory) 0 (o .session .used .states)) ≤ stateRoom (o .memory) + trRoom (o .memory)
   ran-few q h = rw e (h (ap (λ (x : Outcome (Unit {0})). x .answer) (sym e) ∙ q))
+
+  pub ran-passes : o .answer ≡ good tt → Passes l (o .session) (o .memory)
+  ran-passes q = rw e (run-passes l s m tt (ap (λ (x : Outcome (Unit {0})). x .answer) (sym e) ∙ q))
 
 module _ (s : Settings) (l : Lent) (got : Session) (m : Memory) (o : Outcome (Unit {0})) (e : o ≡ openOf s l got m) where
   pub open-refused : (k : ℕ) → o .answer ≡ refused k → refusedLine k ∷ [] ≡ printed (openedOf s l got m)

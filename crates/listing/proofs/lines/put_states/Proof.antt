@@ -35,7 +35,7 @@ put-one-requires c κs =
     let f = c .before .before .before .found in
     let e = ap (λ (k : ℕ). length (linesFrom (lentWith (a .m1 .now) (a .m2 .now) (a .allowed1 .now) (a .allowed2 .now) (a .listed)) (sessionMeans (a .session)) (memoryOf (a .heads .now) (a .states .now) (a .trs .now)) 0 k)) (f .ensures) in
     let t = states-length (lentWith (a .m1 .now) (a .m2 .now) (a .allowed1 .now) (a .allowed2 .now) (a .listed)) (sessionMeans (a .session)) (memoryOf (a .heads .now) (a .states .now) (a .trs .now)) (p .n) (f .result) (c .before .loop-test .taken) in
-    omega (arith, c .before .before .before .before .before .before .before .before .before .before .before .before .pre, e, t, p .inv .1, p .inv .2)
+    (omega (arith, c .before .before .before .before .before .before .before .before .before .before .before .before .pre .0, e, t, p .inv .1, p .inv .2), c .before .before .before .before .before .before .before .before .before .before .before .before .pre .1)
 
 loop-again : tie.Need-loop-again Inv-loop μ-loop
 loop-again c =

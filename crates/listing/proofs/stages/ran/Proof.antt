@@ -10,7 +10,7 @@ use Rattle.lazy_fst.specs.Meaning.{lentWith, sessionMeans, left}
 use Rattle.listing_text.specs.Printing.{bytesOf}
 use Rattle.listing_write.proofs.WrittenLaws.{same-text}
 use Rattle.listing.proofs.LineLaws.{bytes-one}
-use Rattle.listing.proofs.StageLaws.{ran-refused, ran-accepted, ran-few, lines-room}
+use Rattle.listing.proofs.StageLaws.{ran-refused, ran-accepted, ran-few, ran-passes, lines-room}
 use Rattle.listing.proofs.stages.ran.Statement.{statement}
 use Rattle.listing.proofs.stages.ran.Tie as tie
 
@@ -25,7 +25,8 @@ weighed-requires c κs =
     let e = sym (ap (λ x. left x (memoryOf (r .last .1 .1 .1 .1 .1 .1 .0) (r .last .1 .1 .1 .1 .1 .1 .1 .0) (r .last .1 .1 .1 .1 .1 .1 .1 .1 .0))) g) ∙ r .ensures in
     let s : length (r .last .1 .1 .1 .1 .1 .1 .1 .0) ≡ length (a .states .now) = search needs in
     let t : length (r .last .1 .1 .1 .1 .1 .1 .1 .1 .0) ≡ length (a .trs .now) = search needs in
-    lines-room (memoryOf (r .last .1 .1 .1 .1 .1 .1 .0) (r .last .1 .1 .1 .1 .1 .1 .1 .0) (r .last .1 .1 .1 .1 .1 .1 .1 .1 .0)) _ (a .out .now) (s ∙ c .before .before .before .before .before .before .before .before .before .before .before .before .before .before .before .before .before .before .before .before .before .before .before .before .before .pre .0 .state-words) (t ∙ c .before .before .before .before .before .before .before .before .before .before .before .before .before .before .before .before .before .before .before .before .before .before .before .before .before .pre .0 .tr-words) (ran-few (lentWith (a .m1 .now) (a .m2 .now) (a .allowed1 .now) (a .allowed2 .now) (a .listed)) (sessionMeans (a .session)) (memoryOf (a .heads .now) (a .states .now) (a .trs .now)) _ e refl (c .before .before .before .before .before .before .before .before .before .before .before .before .before .before .before .before .before .before .before .before .before .before .before .before .before .pre .1)) (c .before .before .before .before .before .before .before .before .before .before .before .before .before .before .before .before .before .before .before .before .before .before .before .before .before .pre .0 .bytes)
+    (lines-room (memoryOf (r .last .1 .1 .1 .1 .1 .1 .0) (r .last .1 .1 .1 .1 .1 .1 .1 .0) (r .last .1 .1 .1 .1 .1 .1 .1 .1 .0)) _ (a .out .now) (s ∙ c .before .before .before .before .before .before .before .before .before .before .before .before .before .before .before .before .before .before .before .before .before .before .before .before .before .pre .0 .state-words) (t ∙ c .before .before .before .before .before .before .before .before .before .before .before .before .before .before .before .before .before .before .before .before .before .before .before .before .before .pre .0 .tr-words) (ran-few (lentWith (a .m1 .now) (a .m2 .now) (a .allowed1 .now) (a .allowed2 .now) (a .listed)) (sessionMeans (a .session)) (memoryOf (a .heads .now) (a .states .now) (a .trs .now)) _ e refl (c .before .before .before .before .before .before .before .before .before .before .before .before .before .before .before .before .before .before .before .before .before .before .before .before .before .pre .1)) (c .before .before .before .before .before .before .before .before .before .before .before .before .before .before .before .before .before .before .before .before .before .before .before .before .before .pre .0 .bytes),
+    ran-passes (lentWith (a .m1 .now) (a .m2 .now) (a .allowed1 .now) (a .allowed2 .now) (a .listed)) (sessionMeans (a .session)) (memoryOf (a .heads .now) (a .states .now) (a .trs .now)) _ e refl)
 
 returns : tie.Need-returns
 returns c =

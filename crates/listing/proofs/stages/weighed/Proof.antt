@@ -14,7 +14,7 @@ use Rattle.listing.proofs.stages.weighed.Statement.{statement}
 use Rattle.listing.proofs.stages.weighed.Tie as tie
 
 put-refused-requires : tie.Need-put-refused-requires
-put-refused-requires c κs = omega (arith, c .before .before .before .before .before .before .before .before .before .before .before .before .before .pre)
+put-refused-requires c κs = omega (arith, c .before .before .before .before .before .before .before .before .before .before .before .before .before .pre .0)
 
 returns : tie.Need-returns
 returns c =
@@ -22,7 +22,7 @@ returns c =
     let w = c .before .before .put-refused in
     let e = sym (c .before .before .before .before .before .before .before .weigh .ensures) ∙ c .before .before .before .before .before .weights .given .1 in
     let s : length (w .last .0) ≡ length (a .out .now) = search needs in
-    (same-text (sym (bytes-one (refusedLine _)) ∙ ap bytesOf (sym (refused-listed (lentWith (a .m1 .now) (a .m2 .now) (a .allowed1 .now) (a .allowed2 .now) (a .listed)) (sessionMeans (a .session)) (memoryOf (a .heads .now) (a .states .now) (a .trs .now)) _ e))) (w .ensures .0), omega (arith, c .before .before .before .before .before .before .before .before .before .before .before .before .before .before .before .before .pre, w .ensures .1, s))
+    (same-text (sym (bytes-one (refusedLine _)) ∙ ap bytesOf (sym (refused-listed (lentWith (a .m1 .now) (a .m2 .now) (a .allowed1 .now) (a .allowed2 .now) (a .listed)) (sessionMeans (a .session)) (memoryOf (a .heads .now) (a .states .now) (a .trs .now)) _ e))) (w .ensures .0), omega (arith, c .before .before .before .before .before .before .before .before .before .before .before .before .before .before .before .before .pre .0, w .ensures .1, s))
 
 returns-2 : tie.Need-returns-2
 returns-2 c =

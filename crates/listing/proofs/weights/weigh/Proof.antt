@@ -29,7 +29,7 @@ returns c =
     let p = c .before .before .before .before .before .before .loop in
     let f = c .before .before .before .before .before .before .before .found in
     weights-stop (lentWith (a .m1 .now) (a .m2 .now) (a .allowed1 .now) (a .allowed2 .now) (a .listed)) (sessionMeans (a .session)) (memoryOf (a .heads .now) (a .states .now) (a .trs .now)) (p .n) (f .result) (verdict (weightsFrom (lentWith (a .m1 .now) (a .m2 .now) (a .allowed1 .now) (a .allowed2 .now) (a .listed)) (sessionMeans (a .session)) (memoryOf (a .heads .now) (a .states .now) (a .trs .now)) 0 (f .result))) (c .before .before .before .judged .result) _ (c .before .before .before .before .before .loop-test .taken) (p .inv .1)
-    (c .before .before .before .judged .ensures (memoryOf (a .heads .now) (a .states .now) (a .trs .now)) ∙ ap (λ o. verdict (o .answer)) (c .before .before .before .before .final-weight .ensures)) (c .before .one .given .1)
+    (c .before .before .before .judged .ensures (memoryOf (a .heads .now) (a .states .now) (a .trs .now)) ∙ ap (λ o. verdict (o .answer)) (c .before .before .before .before .trusted-final-weight .ensures)) (c .before .one .given .1)
     ∙ ap (λ (k : ℕ). verdict (weightsFrom (lentWith (a .m1 .now) (a .m2 .now) (a .allowed1 .now) (a .allowed2 .now) (a .listed)) (sessionMeans (a .session)) (memoryOf (a .heads .now) (a .states .now) (a .trs .now)) 0 k)) (f .ensures)
 
 loop-again : tie.Need-loop-again Inv-loop μ-loop
@@ -39,7 +39,7 @@ loop-again c =
     let f = c .before .before .before .before .before .before .found in (
       omega (arith, c .before .before .before .before .loop-test .taken),
       weights-again (lentWith (a .m1 .now) (a .m2 .now) (a .allowed1 .now) (a .allowed2 .now) (a .listed)) (sessionMeans (a .session)) (memoryOf (a .heads .now) (a .states .now) (a .trs .now)) (p .n) (f .result) (verdict (weightsFrom (lentWith (a .m1 .now) (a .m2 .now) (a .allowed1 .now) (a .allowed2 .now) (a .listed)) (sessionMeans (a .session)) (memoryOf (a .heads .now) (a .states .now) (a .trs .now)) 0 (f .result))) (c .before .before .judged .result) (c .before .before .before .before .loop-test .taken) (p .inv .1)
-          (c .before .before .judged .ensures (memoryOf (a .heads .now) (a .states .now) (a .trs .now)) ∙ ap (λ o. verdict (o .answer)) (c .before .before .before .final-weight .ensures)) (c .enum-told .given .1),
+          (c .before .before .judged .ensures (memoryOf (a .heads .now) (a .states .now) (a .trs .now)) ∙ ap (λ o. verdict (o .answer)) (c .before .before .before .trusted-final-weight .ensures)) (c .enum-told .given .1),
     )
 
 returns-2 : tie.Need-returns-2 Inv-loop μ-loop
