@@ -10,7 +10,10 @@ say() {
     bad=1
 }
 
-rows=$(awk '/^\|/ { if ($0 == "| crate | seconds | edits |") { on = 1; rows = "" } else if (on) rows = rows $0 "\n"; next } { on = 0 } END { printf "%s", rows }' docs/LANDINGS.md |
+rows=$(awk '$0 == "| crate | seconds | edits |" { on = 1; rows = ""; next }
+    !/^\|/ { on = 0 }
+    on { rows = rows $0 "\n" }
+    END { printf "%s", rows }' docs/LANDINGS.md |
     sed -n 's/^| `\([a-z0-9_]*\)` | \([0-9]\{1,\}\) | \([0-9]\{1,\}\) |$/\1 \2 \3/p')
 crates=$(sed -n 's/^\([a-z0-9_]*\):.*/\1/p' crates.txt)
 if [ "$(printf '%s\n' "$rows" | cut -d ' ' -f 1 | sort)" != "$(printf '%s\n' "$crates" | sort)" ]; then

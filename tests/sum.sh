@@ -1,8 +1,7 @@
 # Read in by the gate: runs its parts, shows what each says as it comes, and adds up what passed and what failed.
-# A part that ends with a status other than 0 has at least one failure, whatever it says of itself: so has one of which nothing passed.
+# A part that ends with a status other than 0, or of which nothing passed, has at least one failure, whatever it says of itself.
 passed=0 failed=0 room=
 trap 'rm -rf "$room"' EXIT
-trap 'exit 1' HUP INT TERM
 room=$(mktemp -d) || exit 1
 
 # A tally of the part's own gets the part's name in front: the gate's last line is the only one of its form.
