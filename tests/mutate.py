@@ -7,7 +7,7 @@ COPY is a private copy of the repository, in which NAME is proved; each change i
 it takes hours. Verdicts: refused (the prover says not-proved), no program (the compiler, or for definitions the type checker of specs/, refuses the text before any proof is
 looked at; not scored), timeout, survived. Survivors that tests/mutants.txt explains are counted apart; the others are printed. A refusal says that the proof that stands does
 not fit the changed text: nearly always because the contract is false of it, but a change that keeps the meaning may be refused too. With --wrong the changes are those of
-docs/WRONG.md: two wrong programs for each public function, each with an input at which it is wrong.
+docs/WRONG.md: two or more wrong programs for each public function, each with an input at which it is wrong.
 """
 import argparse
 import collections

@@ -12,13 +12,9 @@ const CALLS: [&str; 5] = [
     "rinkolza_records",
 ];
 
-fn header() -> Option<String> {
+fn header() -> String {
     let path = Path::new(env!("CARGO_MANIFEST_DIR")).join("../include/rinkolza.h");
-    let text = fs::read_to_string(&path).ok();
-    if text.is_none() {
-        eprintln!("header: skipped: there is no {}", path.display());
-    }
-    text
+    fs::read_to_string(path).expect("include/rinkolza.h")
 }
 
 /// What stands between the parentheses of a declaration, and what stands before and after it up to the line's ends.
@@ -54,9 +50,7 @@ fn in_rust(parameter: &str) -> String {
 
 #[test]
 fn the_calls_are_declared_as_in_the_header() {
-    let Some(header) = header() else {
-        return;
-    };
+    let header = header();
     let own = include_str!("../src/sys.rs");
     for name in CALLS {
         let (returned, parameters, _) = declaration(&header, " ", name);
@@ -79,9 +73,7 @@ fn the_calls_are_declared_as_in_the_header() {
 
 #[test]
 fn the_refusals_are_numbered_as_in_the_header() {
-    let Some(header) = header() else {
-        return;
-    };
+    let header = header();
     let mut numbers: Vec<u32> = header
         .lines()
         .filter_map(|line| line.strip_prefix("#define RINKOLZA_REFUSED_"))

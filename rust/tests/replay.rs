@@ -1,8 +1,9 @@
 //! The replay vectors: cases of ours with the answers of the Rust, `crates/replay`.
 //!
 //! Each case is six lines (`-` for a listing or the states to expand; settings; two allowed lists; two machines), each
-//! answer ends in a line `--`. They are run by plain calls in the room that the answers have, and again by the
-//! composition that owns its memory, from no room on: what is answered must be the same.
+//! answer ends in a line `--`. In the last case the input ends; its answer is ours. They are run by plain calls in the
+//! room that the answers have, and again by the composition that owns its memory, from no room on: what is answered
+//! must be the same.
 
 mod common;
 
@@ -34,23 +35,20 @@ fn growing_room() {
 
 fn replay<W: World>(open: impl Fn(Inputs) -> Result<W, u32>) {
     let folder: PathBuf = Path::new(env!("CARGO_MANIFEST_DIR")).join("../crates/replay");
-    let (Ok(cases), Ok(answers)) = (
-        fs::read_to_string(folder.join("stdin")),
-        fs::read_to_string(folder.join("stdout")),
-    ) else {
-        eprintln!(
-            "replay: skipped: {} has no stdin and stdout",
-            folder.display()
-        );
-        return;
-    };
+    let text = |name: &str| fs::read_to_string(folder.join(name)).expect(name);
+    let (cases, answers) = (text("stdin"), text("stdout"));
     let lines: Vec<&str> = cases.lines().collect();
     let answers: Vec<&str> = answers.split_terminator("--\n").collect();
-    assert_eq!(lines.len(), 6 * answers.len(), "six lines a case");
+    assert_eq!(lines.len().div_ceil(6), answers.len(), "an answer a case");
     for (place, (case, answer)) in lines.chunks(6).zip(answers).enumerate() {
-        let given = answer_to(case, &open);
+        let given = answer_to(&whole(case), &open);
         assert_eq!(given, answer, "case {place}:\n{}", case.join("\n"));
     }
+}
+
+/// A case in which the input ends has empty lines for those that it lacks.
+fn whole<'a>(case: &[&'a str]) -> [&'a str; 6] {
+    std::array::from_fn(|line| case.get(line).copied().unwrap_or(""))
 }
 
 fn answer_to<W: World>(case: &[&str], open: impl Fn(Inputs) -> Result<W, u32>) -> String {
