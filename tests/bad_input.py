@@ -57,7 +57,7 @@ def machine(m):
     for t in (0, 1, MAX):
         line("r", w.tr(t, 4), w.tr(t, MAX), w.next(t), w.tr(t, 0), w.tr(t, 1), *(w.tr(t, k) for k in range(4)))
     line("f", w.none(1, MAX), w.all(1, MAX), w.none(0, 0), w.all(0, 0))
-    line("m", side(w, MAX, MAX), side(w, 7, MAX), side(w, MAX, 7), side(w, 7, 0))
+    line("m", *([side(w, MAX, MAX), side(w, 7, MAX), side(w, MAX, 7), side(w, 7, 0)] if w.well_formed() else []))
 
 
 def times(kind, a, b):

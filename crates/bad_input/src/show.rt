@@ -137,12 +137,20 @@ fn chosen(x: Chosen) {
     }
 }
 
+// The choice of the side is for well-formed machines.
+fn side(m: &[u32], sigma1: Label, sigma2: Label) {
+    if !fst_properties::well_formed(m) {
+        return;
+    }
+    chosen(compose_fst_op::match_type(m, m, sigma1, sigma2));
+}
+
 fn sides(m: &[u32]) {
     io::write_all(1, b"m");
-    chosen(compose_fst_op::match_type(m, m, NO_LABEL, NO_LABEL));
-    chosen(compose_fst_op::match_type(m, m, Label(7), NO_LABEL));
-    chosen(compose_fst_op::match_type(m, m, NO_LABEL, Label(7)));
-    chosen(compose_fst_op::match_type(m, m, Label(7), Label(0)));
+    side(m, NO_LABEL, NO_LABEL);
+    side(m, Label(7), NO_LABEL);
+    side(m, NO_LABEL, Label(7));
+    side(m, Label(7), Label(0));
     end();
 }
 
