@@ -2,9 +2,9 @@
 use mathlib.Core.Bool.{Bool, true, false, not, _||_, cond}
 use mathlib.Core.List.{List, [], _∷_, map}
 use mathlib.Core.Option.{Option, none, some}
-use Prim.Native.Nat.{ℕ, zero, suc, _+_, _-_, _*_}
+use Prim.Native.Nat.{ℕ, zero, suc, _+_, _-_, _*_, min}
 use lib.Dec.{eqb, leb}
-use lib.ListN.{take, drop}
+use lib.ListN.{take, drop, length}
 use Rattle.words.specs.Labels.{Checked, good, refused, refuseIf, andThen}
 use Rattle.words.specs.Sides.{Side, nonEmpty}
 use Rattle.words.specs.Steps.{Composition, Triple, Step, stepsAt, startAt, finalAt}
@@ -134,6 +134,10 @@ runOf l s m = runAfter (entered l s m) l s m
 abbrev pub wordsOf : List ℕ → Part → List ℕ
 wordsOf trs p = take (trSize * p .count) (drop (trSize * (p .first - 1)) trs)
 
+-- "as that part of the lent slice": the word of the slice at which the part begins
+abbrev pub placeOf : List ℕ → Part → ℕ
+placeOf trs p = min (trSize * (p .first - 1)) (length trs)
+
 -- "the state's records are handed back as that part of the lent slice, an empty part where n is not expanded or 1 to 9 would stand; that call returns the part alone"
 abbrev pub recordsBy : Checked Composition → Store → ℕ → List ℕ
 recordsBy (refused k) d n = []
@@ -141,3 +145,11 @@ recordsBy (good c) d n = cond (eqb (expandedAt (d .memory .states) n) 1) (wordsO
 
 unfoldable pub recordsOf : Lent → Session → Memory → ℕ → List ℕ
 recordsOf l s m n = recordsBy (enteredAt l s m n) (storeOf s m) n
+
+-- and where it lies in that slice: an empty part lies at its start
+abbrev pub recordsPlaceBy : Checked Composition → Store → ℕ → ℕ
+recordsPlaceBy (refused k) d n = 0
+recordsPlaceBy (good c) d n = cond (eqb (expandedAt (d .memory .states) n) 1) (placeOf (d .memory .trs) (partAt d n)) 0
+
+unfoldable pub recordsPlace : Lent → Session → Memory → ℕ → ℕ
+recordsPlace l s m n = recordsPlaceBy (enteredAt l s m n) (storeOf s m) n

@@ -2,7 +2,8 @@
 use mathlib.Core.Path.{_≡_, refl, sym, _∙_, ap, subst}
 use mathlib.Core.Bool.{cond}
 use mathlib.Core.List.{[]}
-use Prim.Native.Nat.{ℕ, _≤_, _<_}
+use Prim.Native.Nat.{ℕ, _+_, _*_, _≤_, _<_}
+use native.Mathlib.Omega.{arith}
 use lib.Dec.{eqb}
 use borrow.Author.Tests.{le-leb, lt-leb}
 use Rattle.words.specs.Labels.{good, refused, andThen}
@@ -12,7 +13,7 @@ use Rattle.words.specs.Settings.{Lent, compositionOf}
 use Rattle.words.specs.Steps.{Composition, finalAt}
 use Rattle.calls.specs.Store.{Memory, tripleAt, expandedAt, partAt}
 use Rattle.calls.specs.Checks.{Session, sideNumber, storeOf, entered, enteredAt, Passes}
-use Rattle.calls.specs.Calls.{settle, unchanged, wordsOf, expandOf, finalWeightOf, recordsOf}
+use Rattle.calls.specs.Calls.{settle, unchanged, wordsOf, placeOf, expandOf, finalWeightOf, recordsOf, recordsPlace}
 use Rattle.calls.proofs.ExpandKept.{entered-is}
 use Rattle.compose_fst_op.specs.Chosen.{sideMeans}
 use Rattle.compose_fst_op.specs.declared.Side.{Side as Direction}
@@ -83,6 +84,10 @@ module _ (l : Lent) where
   unfolding recordsOf enteredAt
   late-records s m n p h = rw (p .1, le-leb _ _ h)
 
+  pub late-place : (s : Session) (m : Memory) (n : ℕ) → Passes l s m → s .used .states ≤ n → 0 ≡ recordsPlace l s m n
+  unfolding recordsPlace enteredAt
+  late-place s m n p h = rw (p .1, le-leb _ _ h)
+
   -- a refusal of the checks 1 to 8 is each call's
   module _ (s : Session) (m : Memory) (k : ℕ) (e : entered l s m ≡ refused k) where
     pub stopped-expand : (n : ℕ) → record { answer = refused k; session = s; memory = m } ≡ expandOf l s m n
@@ -97,6 +102,10 @@ module _ (l : Lent) where
     unfolding recordsOf enteredAt
     stopped-records n = rw e
 
+    pub stopped-place : (n : ℕ) → 0 ≡ recordsPlace l s m n
+    unfolding recordsPlace enteredAt
+    stopped-place n = rw e
+
   -- a found state, where the checks 1 to 8 pass
   pub found-weight : (s : Session) (m : Memory) (n : ℕ) (c : Composition) → entered l s m ≡ good c → n < s .used .states
       → settle s m (andThen (finalAt c (tripleAt (m .states) n)) (λ w. good (unchanged s m w))) ≡ finalWeightOf l s m n
@@ -107,3 +116,12 @@ module _ (l : Lent) where
       → cond (eqb (expandedAt (m .states) n) 1) (wordsOf (m .trs) (partAt (storeOf s m) n)) [] ≡ recordsOf l s m n
   unfolding recordsOf enteredAt
   found-records s m n p h = rw (p .1, lt-leb _ _ h)
+
+  pub found-place : (s : Session) (m : Memory) (n : ℕ) → Passes l s m → n < s .used .states
+      → cond (eqb (expandedAt (m .states) n) 1) (placeOf (m .trs) (partAt (storeOf s m) n)) 0 ≡ recordsPlace l s m n
+  unfolding recordsPlace enteredAt
+  found-place s m n p h = rw (p .1, lt-leb _ _ h)
+
+-- a part that begins at a word of a slice: the place of its first byte
+pub begins : (o word place : ℕ) → word ≡ place → word * 4 + o ≡ o + 4 * place
+begins o word place e = omega (arith, e)

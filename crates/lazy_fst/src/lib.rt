@@ -5,7 +5,8 @@ mod opening;
 mod trusted;
 
 ghost use mathlib.Core.Path.{_≡_};
-ghost use Rattle.calls.specs.Calls.{openOf, expandOf, finalWeightOf, runOf, recordsOf};
+ghost use Prim.Native.Nat.{_+_, _*_};
+ghost use Rattle.calls.specs.Calls.{openOf, expandOf, finalWeightOf, runOf, recordsOf, recordsPlace};
 ghost use Rattle.store_records.specs.Meaning.{memoryOf};
 ghost use Rattle.session_checks.specs.Meaning.{settingsMeans};
 ghost use Rattle.lazy_fst.specs.Meaning.{lentWith, sessionMeans, left, partLeft, weightLeft};
@@ -68,7 +69,12 @@ impl Session {
         states: &mut [u32],
         trs: &mut [u32],
     ) -> Answer
-        ensures { λ r. ⌜ left r (memoryOf (now (heads .exit)) (now (states .exit)) (now (trs .exit))) ≡ openOf (settingsMeans settings) (lentWith (now (m1 .entry)) (now (m2 .entry)) (now (allowed1 .entry)) (now (allowed2 .entry)) listed) (sessionMeans self) (memoryOf (now (heads .entry)) (now (states .entry)) (now (trs .entry))) ⌝ }
+        ensures { λ r. ⌜ (
+            let l = lentWith (now (m1 .entry)) (now (m2 .entry)) (now (allowed1 .entry)) (now (allowed2 .entry)) listed in
+            let m = memoryOf (now (heads .entry)) (now (states .entry)) (now (trs .entry)) in
+            let m′ = memoryOf (now (heads .exit)) (now (states .exit)) (now (trs .exit)) in
+            left r m′ ≡ openOf (settingsMeans settings) l (sessionMeans self) m
+            ) ⌝ }
     {
         let chosen = side_for(settings, m1, m2);
         match chosen {
@@ -90,7 +96,12 @@ impl Session {
         trs: &mut [u32],
         n: StateId,
     ) -> PartAnswer
-        ensures { λ r. ⌜ partLeft r (memoryOf (now (heads .exit)) (now (states .exit)) (now (trs .exit))) ≡ expandOf (lentWith (now (m1 .entry)) (now (m2 .entry)) (now (allowed1 .entry)) (now (allowed2 .entry)) listed) (sessionMeans self) (memoryOf (now (heads .entry)) (now (states .entry)) (now (trs .entry))) (n .0) ⌝ }
+        ensures { λ r. ⌜ (
+            let l = lentWith (now (m1 .entry)) (now (m2 .entry)) (now (allowed1 .entry)) (now (allowed2 .entry)) listed in
+            let m = memoryOf (now (heads .entry)) (now (states .entry)) (now (trs .entry)) in
+            let m′ = memoryOf (now (heads .exit)) (now (states .exit)) (now (trs .exit)) in
+            partLeft r m′ ≡ expandOf l (sessionMeans self) m (n .0)
+            ) ⌝ }
     {
         let entered = enter(
             self.settings,
@@ -123,7 +134,11 @@ impl Session {
         trs: &[u32],
         n: StateId,
     ) -> WeightAnswer
-        ensures { λ r. ⌜ weightLeft r (memoryOf (now (heads .entry)) (now (states .entry)) (now (trs .entry))) ≡ finalWeightOf (lentWith (now (m1 .entry)) (now (m2 .entry)) (now (allowed1 .entry)) (now (allowed2 .entry)) listed) (sessionMeans self) (memoryOf (now (heads .entry)) (now (states .entry)) (now (trs .entry))) (n .0) ⌝ }
+        ensures { λ r. ⌜ (
+            let l = lentWith (now (m1 .entry)) (now (m2 .entry)) (now (allowed1 .entry)) (now (allowed2 .entry)) listed in
+            let m = memoryOf (now (heads .entry)) (now (states .entry)) (now (trs .entry)) in
+            weightLeft r m ≡ finalWeightOf l (sessionMeans self) m (n .0)
+            ) ⌝ }
     {
         let entered = enter(
             self.settings,
@@ -155,7 +170,12 @@ impl Session {
         states: &mut [u32],
         trs: &mut [u32],
     ) -> Answer
-        ensures { λ r. ⌜ left r (memoryOf (now (heads .exit)) (now (states .exit)) (now (trs .exit))) ≡ runOf (lentWith (now (m1 .entry)) (now (m2 .entry)) (now (allowed1 .entry)) (now (allowed2 .entry)) listed) (sessionMeans self) (memoryOf (now (heads .entry)) (now (states .entry)) (now (trs .entry))) ⌝ }
+        ensures { λ r. ⌜ (
+            let l = lentWith (now (m1 .entry)) (now (m2 .entry)) (now (allowed1 .entry)) (now (allowed2 .entry)) listed in
+            let m = memoryOf (now (heads .entry)) (now (states .entry)) (now (trs .entry)) in
+            let m′ = memoryOf (now (heads .exit)) (now (states .exit)) (now (trs .exit)) in
+            left r m′ ≡ runOf l (sessionMeans self) m
+            ) ⌝ }
     {
         let settings = self.settings;
         let used = self.used;
@@ -193,7 +213,16 @@ impl Session {
         trs: &'a [u32],
         n: StateId,
     ) -> &'a [u32]
-        ensures { λ r. ⌜ now r ≡ recordsOf (lentWith (now (m1 .entry)) (now (m2 .entry)) (now (allowed1 .entry)) (now (allowed2 .entry)) listed) (sessionMeans self) (memoryOf (now (heads .entry)) (now (states .entry)) (now (trs .entry))) (n .0) ⌝ }
+        ensures { λ r. ⌜ (
+            let l = lentWith (now (m1 .entry)) (now (m2 .entry)) (now (allowed1 .entry)) (now (allowed2 .entry)) listed in
+            let m = memoryOf (now (heads .entry)) (now (states .entry)) (now (trs .entry)) in
+            now r ≡ recordsOf l (sessionMeans self) m (n .0)
+            ) ⌝ }
+        ensures place { λ r. ⌜ (
+            let l = lentWith (now (m1 .entry)) (now (m2 .entry)) (now (allowed1 .entry)) (now (allowed2 .entry)) listed in
+            let m = memoryOf (now (heads .entry)) (now (states .entry)) (now (trs .entry)) in
+            r .ptr ≡ (trs .entry .ptr .0, trs .entry .ptr .1 + 4 * recordsPlace l (sessionMeans self) m (n .0))
+            ) ⌝ }
     {
         let entered = enter(
             self.settings,

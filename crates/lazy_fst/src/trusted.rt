@@ -1,8 +1,9 @@
 // The calls without their checks 1 to 8, for a caller that knows that they pass: after an accepted opening, while nobody else writes, they do. Each answers just what the call with its
 // checks answers, and 9 as well.
 ghost use mathlib.Core.Path.{_≡_};
+ghost use Prim.Native.Nat.{_+_, _*_};
 ghost use Rattle.calls.specs.Checks.{Passes};
-ghost use Rattle.calls.specs.Calls.{expandOf, finalWeightOf, recordsOf};
+ghost use Rattle.calls.specs.Calls.{expandOf, finalWeightOf, recordsOf, recordsPlace};
 ghost use Rattle.store_records.specs.Meaning.{memoryOf};
 ghost use Rattle.lazy_fst.specs.Meaning.{lentWith, sessionMeans, partLeft, weightLeft};
 use crate::Listed;
@@ -33,8 +34,17 @@ impl Session {
         trs: &mut [u32],
         n: StateId,
     ) -> PartAnswer
-        requires { ⌜ Passes (lentWith (now m1) (now m2) (now allowed1) (now allowed2) listed) (sessionMeans self) (memoryOf (now heads) (now states) (now trs)) ⌝ }
-        ensures { λ r. ⌜ partLeft r (memoryOf (now (heads .exit)) (now (states .exit)) (now (trs .exit))) ≡ expandOf (lentWith (now (m1 .entry)) (now (m2 .entry)) (now (allowed1 .entry)) (now (allowed2 .entry)) listed) (sessionMeans self) (memoryOf (now (heads .entry)) (now (states .entry)) (now (trs .entry))) (n .0) ⌝ }
+        requires { ⌜ (
+            let l = lentWith (now m1) (now m2) (now allowed1) (now allowed2) listed in
+            let m = memoryOf (now heads) (now states) (now trs) in
+            Passes l (sessionMeans self) m
+            ) ⌝ }
+        ensures { λ r. ⌜ (
+            let l = lentWith (now (m1 .entry)) (now (m2 .entry)) (now (allowed1 .entry)) (now (allowed2 .entry)) listed in
+            let m = memoryOf (now (heads .entry)) (now (states .entry)) (now (trs .entry)) in
+            let m′ = memoryOf (now (heads .exit)) (now (states .exit)) (now (trs .exit)) in
+            partLeft r m′ ≡ expandOf l (sessionMeans self) m (n .0)
+            ) ⌝ }
     {
         let used = self.used;
         if used.states <= n.0 {
@@ -69,8 +79,16 @@ impl Session {
         trs: &[u32],
         n: StateId,
     ) -> WeightAnswer
-        requires { ⌜ Passes (lentWith (now m1) (now m2) (now allowed1) (now allowed2) listed) (sessionMeans self) (memoryOf (now heads) (now states) (now trs)) ⌝ }
-        ensures { λ r. ⌜ weightLeft r (memoryOf (now (heads .entry)) (now (states .entry)) (now (trs .entry))) ≡ finalWeightOf (lentWith (now (m1 .entry)) (now (m2 .entry)) (now (allowed1 .entry)) (now (allowed2 .entry)) listed) (sessionMeans self) (memoryOf (now (heads .entry)) (now (states .entry)) (now (trs .entry))) (n .0) ⌝ }
+        requires { ⌜ (
+            let l = lentWith (now m1) (now m2) (now allowed1) (now allowed2) listed in
+            let m = memoryOf (now heads) (now states) (now trs) in
+            Passes l (sessionMeans self) m
+            ) ⌝ }
+        ensures { λ r. ⌜ (
+            let l = lentWith (now (m1 .entry)) (now (m2 .entry)) (now (allowed1 .entry)) (now (allowed2 .entry)) listed in
+            let m = memoryOf (now (heads .entry)) (now (states .entry)) (now (trs .entry)) in
+            weightLeft r m ≡ finalWeightOf l (sessionMeans self) m (n .0)
+            ) ⌝ }
     {
         let used = self.used;
         if used.states <= n.0 {
@@ -93,8 +111,21 @@ impl Session {
         trs: &'a [u32],
         n: StateId,
     ) -> &'a [u32]
-        requires { ⌜ Passes (lentWith (now m1) (now m2) (now allowed1) (now allowed2) listed) (sessionMeans self) (memoryOf (now heads) (now states) (now trs)) ⌝ }
-        ensures { λ r. ⌜ now r ≡ recordsOf (lentWith (now (m1 .entry)) (now (m2 .entry)) (now (allowed1 .entry)) (now (allowed2 .entry)) listed) (sessionMeans self) (memoryOf (now (heads .entry)) (now (states .entry)) (now (trs .entry))) (n .0) ⌝ }
+        requires { ⌜ (
+            let l = lentWith (now m1) (now m2) (now allowed1) (now allowed2) listed in
+            let m = memoryOf (now heads) (now states) (now trs) in
+            Passes l (sessionMeans self) m
+            ) ⌝ }
+        ensures { λ r. ⌜ (
+            let l = lentWith (now (m1 .entry)) (now (m2 .entry)) (now (allowed1 .entry)) (now (allowed2 .entry)) listed in
+            let m = memoryOf (now (heads .entry)) (now (states .entry)) (now (trs .entry)) in
+            now r ≡ recordsOf l (sessionMeans self) m (n .0)
+            ) ⌝ }
+        ensures place { λ r. ⌜ (
+            let l = lentWith (now (m1 .entry)) (now (m2 .entry)) (now (allowed1 .entry)) (now (allowed2 .entry)) listed in
+            let m = memoryOf (now (heads .entry)) (now (states .entry)) (now (trs .entry)) in
+            r .ptr ≡ (trs .entry .ptr .0, trs .entry .ptr .1 + 4 * recordsPlace l (sessionMeans self) m (n .0))
+            ) ⌝ }
     {
         let used = self.used;
         if used.states <= n.0 {

@@ -1,12 +1,12 @@
 // Transition records: input, output, weight, target, next. They count from 1: record i + 1 stands at place i.
 ghost use mathlib.Core.Path.{_≡_};
 ghost use mathlib.Core.List.{List};
-ghost use Prim.Native.Nat.{ℕ, _+_, _≤_, _<_};
+ghost use Prim.Native.Nat.{ℕ, _+_, _*_, _≤_, _<_};
 ghost use lib.ListN.{length};
 ghost use Rattle.lists.specs.Lists.{put, linked};
 ghost use Rattle.words.specs.Steps.{Triple};
 ghost use Rattle.calls.specs.Store.{roomOf, trSize, targetAt, trNextAt, trRecord, append, partAt};
-ghost use Rattle.calls.specs.Calls.{wordsOf};
+ghost use Rattle.calls.specs.Calls.{wordsOf, placeOf};
 ghost use Rattle.store_records.specs.Meaning.{partMeans, stepMeans, stored};
 use crate::lent::LIMIT;
 use crate::lent::least;
@@ -95,6 +95,7 @@ pub fn part_of(states: &[u32], trs: &[u32], used: u32, n: StateId) -> Part
 // The records of a list as a part of the lent slice, cut where the slice ends.
 pub fn tr_part<'a>(trs: &'a [u32], part: Part) -> &'a [u32]
     ensures { λ r. ⌜ now r ≡ wordsOf (now (trs .entry)) (partMeans part) ⌝ }
+    ensures place { λ r. ⌜ r .ptr ≡ (trs .entry .ptr .0, trs .entry .ptr .1 + 4 * placeOf (now (trs .entry)) (partMeans part)) ⌝ }
 {
     let first = part.first as usize;
     let before = first - least(1, first);

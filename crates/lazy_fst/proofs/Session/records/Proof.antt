@@ -4,7 +4,7 @@ use denote.Ref.{now}
 use Rattle.store_records.specs.Meaning.{memoryOf}
 use Rattle.session_checks.specs.Meaning.{enteredMeans}
 use Rattle.lazy_fst.specs.Meaning.{lentWith, sessionMeans}
-use Rattle.lazy_fst.proofs.CallLaws.{passes-by, stopped-records}
+use Rattle.lazy_fst.proofs.CallLaws.{passes-by, stopped-records, stopped-place, begins}
 use borrow.Author.Needs.{needs}
 use Rattle.lazy_fst.proofs.Session.records.Statement.{statement}
 use Rattle.lazy_fst.proofs.Session.records.Tie as tie
@@ -21,7 +21,10 @@ returns c =
     let x = c .before .before .before .before .before .before .before .before .before .before .before .args in
     let l = lentWith (now (x .m1)) (now (x .m2)) (now (x .allowed1)) (now (x .allowed2)) (x .listed) in
     let m = memoryOf (now (x .heads)) (now (x .states)) (now (x .trs)) in
-    stopped-records l (sessionMeans (x .self)) m _ (sym (c .before .before .before .enter .ensures (l .allowed1) (l .allowed2)) ∙ ap (enteredMeans (x .self .settings) l) (c .before .enum-told .given .1)) (x .n .0)
+    let e = sym (c .before .before .before .enter .ensures (l .allowed1) (l .allowed2)) ∙ ap (enteredMeans (x .self .settings) l) (c .before .enum-told .given .1) in (
+      stopped-records l (sessionMeans (x .self)) m _ e (x .n .0),
+      (λ i. (x .trs .ptr .0, begins (x .trs .ptr .1) 0 _ (stopped-place l (sessionMeans (x .self)) m _ e (x .n .0)) i)),
+    )
 
 pub records-spec : {M : Type 1} → statement M
 records-spec =

@@ -1,7 +1,8 @@
--- The part asked for, cut where the slice ends.
+-- The part asked for, cut where the slice ends, and where it begins.
 use mathlib.Core.Path.{_≡_}
-use Prim.Native.Nat.{_+_, _-_, _*_}
+use Prim.Native.Nat.{_+_, _-_, _*_, min}
 use native.Mathlib.Omega.{arith}
+use lib.ListN.{length}
 use denote.Ref.{now}
 use Rattle.store_records.proofs.PartLaws.{part-cut}
 use borrow.Author.Needs.{needs}
@@ -15,7 +16,11 @@ returns c =
     let k = c .before .least3 .result in
     let z : s + k - s ≡ k = omega arith in
     let b : x .part .first - c .before .before .before .before .least .result ≡ x .part .first - 1 = omega (arith, c .before .before .before .before .least .ensures) in
-    rw (z, c .before .least3 .ensures, c .before .before .before .least2 .ensures, b) (part-cut (now (x .trs)) (5 * (x .part .first - 1)) (5 * x .part .count))
+    let e : s ≡ min (5 * (x .part .first - 1)) (length (now (x .trs))) = rw b at (c .before .before .before .least2 .ensures) in
+    let q : s * 4 + x .trs .ptr .1 ≡ x .trs .ptr .1 + 4 * min (5 * (x .part .first - 1)) (length (now (x .trs))) = omega (arith, e) in (
+      rw (z, c .before .least3 .ensures, c .before .before .before .least2 .ensures, b) (part-cut (now (x .trs)) (5 * (x .part .first - 1)) (5 * x .part .count)),
+      (λ i. (x .trs .ptr .0, q i)),
+    )
 
 pub tr-part-spec : {M : Type 1} → statement M
 tr-part-spec =
