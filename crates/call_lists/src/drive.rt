@@ -1,6 +1,8 @@
 // Lists of calls. A line's code, and its words:
 // 1 the lengths of heads, states and transitions, and the word that fills them: a list begins; 2, 3 the words of machine 1, 2; 4, 5 whether machine 1, 2 has an allowed list, and the list;
 // 6 a session, its nine words; 7 a slice from 0 to 2, an index, a word: written to memory; 8 open, the six settings; 9 expand; 10 final weight; 11 run; 12 records; 13 memory is printed.
+ghost use mathlib.Core.Path.{_≡_};
+ghost use Rattle.call_lists.specs.Lines.{nextLine, listEnd};
 use crate::lines::Span;
 use crate::lines::after;
 use crate::lines::arg;
@@ -247,7 +249,9 @@ fn fill(slice: &mut [u32], w: u32) {
 }
 
 // The lines from a place on, up to the first line of the next list. Answers where that stands.
-fn steps(words: &[u32], at: u32, heads: &mut [u32], states: &mut [u32], trs: &mut [u32]) -> u32 {
+fn steps(words: &[u32], at: u32, heads: &mut [u32], states: &mut [u32], trs: &mut [u32]) -> u32
+    ensures { λ r. ⌜ r ≡ listEnd (now (words .entry)) 1024 at ⌝ }
+{
     let mut place = at;
     let mut lending = nothing();
     let mut session = session_at(words, 4294967295);
@@ -265,7 +269,9 @@ fn steps(words: &[u32], at: u32, heads: &mut [u32], states: &mut [u32], trs: &mu
 }
 
 // The first line of a list, and the lines after it.
-fn list_on(words: &[u32], at: u32, heads: &mut [u32], states: &mut [u32], trs: &mut [u32]) -> u32 {
+fn list_on(words: &[u32], at: u32, heads: &mut [u32], states: &mut [u32], trs: &mut [u32]) -> u32
+    ensures { λ r. ⌜ r ≡ listEnd (now (words .entry)) 1024 (nextLine (now (words .entry)) at) ⌝ }
+{
     let w = arg(words, at, 4);
     fill(heads, w);
     fill(states, w);
@@ -273,8 +279,10 @@ fn list_on(words: &[u32], at: u32, heads: &mut [u32], states: &mut [u32], trs: &
     steps(words, after(words, at), heads, states, trs)
 }
 
-// The list that begins at a place.
-pub fn one_list(words: &[u32], at: u32) -> u32 {
+// The list that begins at a place. Answers where the next one stands.
+pub fn one_list(words: &[u32], at: u32) -> u32
+    ensures { λ r. ⌜ r ≡ listEnd (now (words .entry)) 1024 (nextLine (now (words .entry)) at) ⌝ }
+{
     let mut heads = [0u32; 16];
     let mut states = [0u32; 128];
     let mut trs = [0u32; 128];

@@ -1,5 +1,8 @@
 // Lines of decimal words: a count, a code, and the code's words.
-ghost use Prim.Native.Nat.{_≤_};
+ghost use mathlib.Core.Path.{_≡_};
+ghost use Prim.Native.Nat.{min};
+ghost use lib.ListN.{take, drop};
+ghost use Rattle.call_lists.specs.Lines.{argOf, argsOf, nextLine};
 use fst::word;
 use store_records::store;
 
@@ -54,31 +57,39 @@ pub fn read_words(text: &[u8], words: &mut [u32]) {
 }
 
 fn least(a: usize, b: usize) -> usize
-    ensures { λ r. ⌜ (r ≤ a) × (r ≤ b) ⌝ }
+    ensures { λ r. ⌜ r ≡ min a b ⌝ }
 {
     if a <= b { a } else { b }
 }
 
 // The words of a part, cut where the words end.
-pub fn words_of<'a>(words: &'a [u32], part: Span) -> &'a [u32] {
+pub fn words_of<'a>(words: &'a [u32], part: Span) -> &'a [u32]
+    ensures { λ r. ⌜ now r ≡ take (part .count) (drop (part .at) (now (words .entry))) ⌝ }
+{
     let start = least(part.at as usize, words.len());
     let count = least(part.count as usize, words.len() - start);
     &words[start..start + count]
 }
 
 // The first words of a slice.
-pub fn first<'a>(slice: &'a mut [u32], count: u32) -> &'a mut [u32] {
+pub fn first<'a>(slice: &'a mut [u32], count: u32) -> &'a mut [u32]
+    ensures { λ r. ⌜ now r ≡ take count (now (slice .entry)) ⌝ }
+{
     let n = least(count as usize, slice.len());
     &mut slice[0..n]
 }
 
 // Word k of the line at a place: 0 its code.
-pub fn arg(words: &[u32], at: u32, k: u32) -> u32 {
+pub fn arg(words: &[u32], at: u32, k: u32) -> u32
+    ensures { λ r. ⌜ r ≡ argOf (now (words .entry)) at k ⌝ }
+{
     word(words, at as usize + 1 + k as usize)
 }
 
 // The words of the line from the k-th on.
-pub fn args(words: &[u32], at: u32, k: u32) -> Span {
+pub fn args(words: &[u32], at: u32, k: u32) -> Span
+    ensures { λ r. ⌜ r ≡ argsOf (now (words .entry)) at k ⌝ }
+{
     let count = word(words, at as usize);
     if count < k {
         return Span { at: 0, count: 0 };
@@ -90,7 +101,9 @@ pub fn args(words: &[u32], at: u32, k: u32) -> Span {
 }
 
 // The next line.
-pub fn after(words: &[u32], at: u32) -> u32 {
+pub fn after(words: &[u32], at: u32) -> u32
+    ensures { λ r. ⌜ r ≡ nextLine (now (words .entry)) at ⌝ }
+{
     let count = word(words, at as usize);
     ((at as u64 + 1 + count as u64) % 4294967296) as u32
 }

@@ -1,4 +1,6 @@
 // What a call answered, in words; the session that it handed back; and a number mixed from every word of memory.
+ghost use mathlib.Core.Path.{_≡_};
+ghost use Rattle.call_lists.specs.Sessions.{handedBy, handedByPart, handedByWeight};
 use lazy_fst::Answer;
 use lazy_fst::PartAnswer;
 use lazy_fst::Session;
@@ -68,7 +70,9 @@ pub fn memory(heads: &[u32], states: &[u32], trs: &[u32]) {
 }
 
 // The number, 0 where the call is accepted. Each of these three answers the session that the call handed back.
-pub fn answer(a: Answer) -> Session {
+pub fn answer(a: Answer) -> Session
+    ensures { λ r. ⌜ r ≡ handedBy a ⌝ }
+{
     match a {
         Answer::Accepted(s) => {
             put(0);
@@ -82,7 +86,9 @@ pub fn answer(a: Answer) -> Session {
 }
 
 // The number, then the first and the count.
-pub fn part(a: PartAnswer) -> Session {
+pub fn part(a: PartAnswer) -> Session
+    ensures { λ r. ⌜ r ≡ handedByPart a ⌝ }
+{
     match a {
         PartAnswer::Part(p, s) => {
             put(0);
@@ -98,7 +104,9 @@ pub fn part(a: PartAnswer) -> Session {
 }
 
 // The number, then 1 and the weight, or 0 where the state is not final.
-pub fn weight(a: WeightAnswer) -> Session {
+pub fn weight(a: WeightAnswer) -> Session
+    ensures { λ r. ⌜ r ≡ handedByWeight a ⌝ }
+{
     match a {
         WeightAnswer::Weight(w, s) => {
             put(0);

@@ -18,3 +18,5 @@ pub mod Parts
 pub mod ExpandCases
 pub mod OpenCases
 pub mod TwoStores
+pub mod ExpandMade
+pub mod FewRecords

@@ -8,4 +8,4 @@ pub mod Links
 pub mod Apart
 pub mod Rising
 pub mod Runs
-pub mod Few
+pub mod Totals

@@ -1,32 +1,26 @@
 -- An accepted expansion of an unexpanded state: the world grows, and stays sound. Its new records are the state's list, its new states are targets of them, and all else stays.
 use mathlib.Core.Path.{_≡_, refl, sym, _∙_, ap, subst}
-use mathlib.Core.List.{List, [], _∷_, map, List·Memᴰ as In, Memᴰ·map}
+use mathlib.Core.List.{[], _∷_, List·Memᴰ as In}
 use mathlib.Core.Logic.{_⊎_, inl, inr, ⊎-elim, _≢_}
 use Prim.Native.Nat.{ℕ, suc, _+_, _-_, _*_, _≤_, _<_}
 use native.Mathlib.Omega.{arith}
 use native.Mathlib.Decide.{ℕ-discrete, decLt}
-use lib.ListN.{length}
 use Rattle.lists.specs.Lists.{interval}
 use Rattle.lists.proofs.Members.{in-interval}
 use Rattle.lists.proofs.Places.{at-length}
 use Rattle.lists.proofs.Put.{length-put}
 use Rattle.words.specs.Labels.{good}
-use Rattle.words.specs.Machines.{stateCount}
 use Rattle.words.specs.Steps.{Composition, Step, stepsAt}
 use Rattle.words.specs.Settings.{Lent}
-use Rattle.words.proofs.FormLaws.{form}
-use Rattle.words.proofs.StepRange.{InRange}
-use Rattle.calls.specs.Store.{Memory, Store, stateField, tripleAt, expandedAt, firstAt, trField, targetAt, mark, Part}
+use Rattle.calls.specs.Store.{Memory, Store, tripleAt, expandedAt, firstAt, trField, targetAt, mark, Part}
 use Rattle.calls.specs.Checks.{Session, storeOf, entered}
 use Rattle.calls.specs.Calls.{storeSteps, newPart}
 use Rattle.calls.specs.Sequences.{World}
-use Rattle.calls.proofs.ExpandKept.{Sided, sided, Entered, entered-is, steps-range}
-use Rattle.calls.proofs.FormKept.{mark-other, mark-expanded}
-use Rattle.calls.proofs.StepsKept.{longer}
-use Rattle.calls.proofs.StepsStay.{Stays, steps-stay}
-use Rattle.calls.proofs.FindLaws.{whole-distinct, marked-triple, whole-mark}
-use Rattle.calls.proofs.StepsMade.{IsTr, written-at, stay-state, stay-triple, stored-good, StepsMade, steps-made}
-use Rattle.calls.proofs.Parts.{part-alike, some-first, new-low, in-new, of-new, part-new}
+use Rattle.calls.proofs.ExpandKept.{Entered, entered-is}
+use Rattle.calls.proofs.FindLaws.{whole-distinct}
+use Rattle.calls.proofs.StepsMade.{IsTr, written-at, stay-triple}
+use Rattle.calls.proofs.Parts.{some-first, in-new, of-new}
+use Rattle.calls.proofs.ExpandMade.{markedBy, ExpandMade, expand-made}
 use Rattle.readings.specs.Demands.{Expanded, partIn, recordsIn, stateAt, targetOf, Found, at-start, as-target, IsRecord, IsList, Sound}
 use Rattle.readings.proofs.Grows.{Kept, Grows}
 
@@ -76,56 +70,17 @@ module _ (l : Lent) (c : Composition) (s : Session) (m : Memory) (kept : Kept l 
   abbrev d : Store
   d = storeOf s m
 
-  abbrev S1 : ℕ
-  S1 = stateCount (l .m1)
+  mades : ExpandMade l c s m n e
+  mades = expand-made l c s m (kept .sound .enters) (kept .whole) n found e stored
 
-  abbrev S2 : ℕ
-  S2 = stateCount (l .m2)
-
-  checks : Entered l s m c
-  checks = entered-is l s m c (kept .sound .enters)
-
-  rule : Sided (s .settings) l (checks .side)
-  rule = sided (s .settings) l (checks .side) (checks .rule)
-
-  narrow : S2 ≤ 65535
-  narrow = form (l .m2) (rule .formed2) .states
-
-  all : (steps : List Step) × (stepsAt c (tripleAt (m .states) n) ≡ map good steps)
-  all = stored-good d (stepsAt c (tripleAt (m .states) n)) e stored
-
-  abbrev steps : List Step
-  steps = all .0
-
-  in-range : (st : Step) → In st steps → InRange S1 S2 (st .to)
-  in-range st i = steps-range l s m c (kept .sound .enters) n found st (subst (λ x. In (good st) x) (sym (all .1)) (Memᴰ·map good i))
-
-  made : StepsMade S1 S2 d steps e
-  made =
-      steps-made narrow d (s .used .trs + length steps) steps e (longer d (s .used .trs + length steps) (checks .form) (omega arith)) (kept .whole) in-range (omega (arith, found)) refl
-      (subst (λ x. storeSteps d x ≡ good e) (all .1) stored)
-
-  stays : Stays d e
-  stays = steps-stay d (stepsAt c (tripleAt (m .states) n)) e stored
-
-  abbrev from : ℕ
-  from = newPart (s .used) (e .used) .first
-
-  low : from ≤ e .used .trs
-  low = new-low (s .used) (e .used) (stays .trs)
+  open ExpandMade mades using (steps, moves, made, stays, field-other, part-it)
 
   abbrev f : Store
-  f = mark e n from
+  f = markedBy s n e
 
   -- the world after it
   abbrev v : World
   v = record { session = record { settings = s .settings; side = s .side; used = f .used }; memory = f .memory }
-
-  here′ : n < e .used .states
-  here′ = omega (arith, found, made .states)
-
-  field-other : (k j : ℕ) → k < s .used .states → k ≢ n → j < 5 → stateField (f .memory .states) k j ≡ stateField (m .states) k j
-  field-other k j h x i = mark-other narrow e (made .form) n from here′ low k j x i ∙ stay-state stays k j h i
 
   others : (k : ℕ) → Expanded w k → k ≢ n
   others k x z = bare (subst (λ j. expandedAt (m .states) j ≡ 1) z (x .1))
@@ -135,21 +90,18 @@ module _ (l : Lent) (c : Composition) (s : Session) (m : Memory) (kept : Kept l 
   grows = record {
     states = made .states;
     trs = stays .trs;
-    states-length = length-put (e .memory .states) (5 * n + 2) (1 ∷ from ∷ []) ∙ stays .states-length;
+    states-length = length-put (e .memory .states) (5 * n + 2) (1 ∷ newPart (s .used) (e .used) .first ∷ []) ∙ stays .states-length;
     trs-length = stays .trs-length;
-    state = λ k h. marked-triple e (made .form) (made .whole) narrow n from here′ low k ∙ stay-triple stays k h;
+    state = λ k h. mades .triple k ∙ stay-triple stays k h;
     expanded = λ k x. (omega (arith, x .0, made .states), field-other k 2 (x .0) (others k x) (omega arith) ∙ x .1);
-    part = λ k x. part-alike d f (checks .form) (stays .trs) k (x .0) (λ i h. stays .tr-word i (inl h)) (field-other k 3 (x .0) (others k x) (omega arith));
+    part = λ k x. mades .part-other k (x .0) (others k x);
     word = λ i h. stays .tr-word i (inl h);
   }
 
   -- the state is expanded, and its list is the part of the new records
   expanded-it : Expanded v n
   unfolding mark
-  expanded-it = (here′, mark-expanded narrow e (made .form) n from here′ low)
-
-  part-it : partIn v n ≡ newPart (s .used) (e .used)
-  part-it = part-new narrow (s .used) e (made .form) n here′ steps (made .trs) (made .written) low
+  expanded-it = (omega (arith, found, made .states), mades .expanded)
 
   -- no other state became expanded
   expanded-cases : (k : ℕ) → Expanded v k → (k ≡ n) ⊎ Expanded w k
@@ -159,7 +111,7 @@ module _ (l : Lent) (c : Composition) (s : Session) (m : Memory) (kept : Kept l 
       go : Dec (k ≡ n) → Dec (k < s .used .states) → (k ≡ n) ⊎ Expanded w k
       go (yes z) q = inl z
       go (no z) (yes h) = inr (h, sym (field-other k 2 h z (omega arith)) ∙ x .1)
-      go (no z) (no h) = let a = made .unexpanded k (omega arith) (x .0) in let b = mark-other narrow e (made .form) n from here′ low k 2 z (omega arith) in absurd (omega (arith, a, b, x .1))
+      go (no z) (no h) = let a = made .unexpanded k (omega arith) (x .0) in let b = mades .other k 2 z (omega arith) in absurd (omega (arith, a, b, x .1))
 
   -- a record of a list is new and the state's, or was in the same list before
   record-cases : (k r : ℕ) → Expanded v k → In r (recordsIn v k) → ((k ≡ n) × (s .used .trs < r) × (r ≤ e .used .trs)) ⊎ (Expanded w k × In r (recordsIn w k))
@@ -240,7 +192,7 @@ module _ (l : Lent) (c : Composition) (s : Session) (m : Memory) (kept : Kept l 
   unfolding mark
   list-it = record {
     steps = steps;
-    moves = ap (stepsAt c) (grows .state n found) ∙ all .1;
+    moves = ap (stepsAt c) (grows .state n found) ∙ moves;
     count = ap (λ (o : Part). o .count) part-it ∙ omega (arith, made .trs);
     record-of = λ k st a.
         let some′ : e .used .trs ≢ s .used .trs = λ z. omega (arith, z, made .trs, at-length steps k a) in
@@ -256,7 +208,7 @@ module _ (l : Lent) (c : Composition) (s : Session) (m : Memory) (kept : Kept l 
         output = q .output;
         weight = q .weight;
         used = q .used;
-        target = marked-triple e (made .form) (made .whole) narrow n from here′ low (targetAt (e .memory .trs) (r - 1)) ∙ q .target;
+        target = mades .triple (targetAt (e .memory .trs) (r - 1)) ∙ q .target;
       }
 
   lists : (k : ℕ) → Expanded v k → IsList c v k
@@ -266,15 +218,14 @@ module _ (l : Lent) (c : Composition) (s : Session) (m : Memory) (kept : Kept l 
   pub expansion-keeps : entered l (v .session) (v .memory) ≡ good c → Kept l c v
   unfolding mark
   expansion-keeps q =
-      let whole = whole-mark e (made .form) (made .whole) narrow n from here′ low in
       record {
-        whole = whole;
+        whole = mades .whole;
         sound = record {
           enters = q;
           found = λ k. (found-to k, found-back (entered-is l (v .session) (v .memory) c q) k);
           listed = λ r. (listed r, λ a. used-record (a .0) r (a .1) (a .2));
           alone = alone;
-          distinct = whole-distinct f whole;
+          distinct = whole-distinct f (mades .whole);
           start = λ t h. grows .state 0 (omega (arith, found)) ∙ kept .sound .start t h;
           order = order;
           lists = lists;

@@ -1,5 +1,8 @@
 // The lines of a case, read byte by byte; the case is answered when its last line ends.
-ghost use Prim.Native.Nat.{_≤_};
+ghost use mathlib.Core.Path.{_≡_};
+ghost use Prim.Native.Nat.{min};
+ghost use lib.ListN.{length};
+ghost use Rattle.replay.specs.Places.{newPlace, roomAt, placeEnded, placeByte, placeAfter};
 use crate::order::print_order;
 use fst::word;
 use lazy_fst::Listed;
@@ -23,7 +26,10 @@ pub struct Place {
     pub line: LineReader,
 }
 
-pub fn new_place() -> Place {
+// Before the first byte of a case.
+pub fn new_place() -> Place
+    ensures { λ r. ⌜ r ≡ newPlace ⌝ }
+{
     Place {
         at: 0,
         begun: false,
@@ -32,13 +38,15 @@ pub fn new_place() -> Place {
 }
 
 fn least(a: usize, b: usize) -> usize
-    ensures { λ r. ⌜ (r ≤ a) × (r ≤ b) ⌝ }
+    ensures { λ r. ⌜ r ≡ min a b ⌝ }
 {
     if a <= b { a } else { b }
 }
 
 // The room of line k.
-fn room_of<'a>(words: &'a mut [u32], k: u32) -> &'a mut [u32] {
+fn room_of<'a>(words: &'a mut [u32], k: u32) -> &'a mut [u32]
+    ensures { λ r. ⌜ length (now r) ≡ roomAt (length (now (words .entry))) k ⌝ }
+{
     let from = least(ROOM * k as usize, words.len());
     let to = from + least(ROOM, words.len() - from);
     &mut words[from..to]
@@ -91,7 +99,9 @@ fn end_of(line: LineReader) -> u32 {
 }
 
 // The line ends, as if a blank came: how many words it has is kept, and after the sixth line the case is answered.
-fn end_line(place: Place, words: &mut [u32], ends: &mut [u32]) -> Place {
+fn end_line(place: Place, words: &mut [u32], ends: &mut [u32]) -> Place
+    ensures { λ r. ⌜ r ≡ placeEnded place ⌝ }
+{
     let at = place.at;
     let line = step_byte(place.line, b' ', room_of(words, at));
     store(ends, at as usize, end_of(line));
@@ -106,7 +116,9 @@ fn end_line(place: Place, words: &mut [u32], ends: &mut [u32]) -> Place {
     new_place()
 }
 
-fn read_byte(place: Place, b: u8, words: &mut [u32], ends: &mut [u32]) -> Place {
+fn read_byte(place: Place, b: u8, words: &mut [u32], ends: &mut [u32]) -> Place
+    ensures { λ r. ⌜ r ≡ placeByte (length (now (words .entry))) place b ⌝ }
+{
     if b == 10 {
         return end_line(place, words, ends);
     }
@@ -118,7 +130,10 @@ fn read_byte(place: Place, b: u8, words: &mut [u32], ends: &mut [u32]) -> Place 
     }
 }
 
-pub fn read_bytes(start: Place, chunk: &[u8], words: &mut [u32], ends: &mut [u32]) -> Place {
+// The bytes of a chunk, one after the other; each case is answered as its last line ends.
+pub fn read_bytes(start: Place, chunk: &[u8], words: &mut [u32], ends: &mut [u32]) -> Place
+    ensures { λ r. ⌜ r ≡ placeAfter (length (now (words .entry))) start (now (chunk .entry)) ⌝ }
+{
     let mut place = start;
     let mut i = 0;
     while i < chunk.len() {
