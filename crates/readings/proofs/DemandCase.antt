@@ -14,14 +14,14 @@ use Rattle.words.specs.Settings.{Settings, Lent, compositionOf}
 use Rattle.words.proofs.CheckedLaws.{good-is}
 use Rattle.calls.specs.Store.{Memory}
 use Rattle.calls.specs.Checks.{Session, sideFor}
-use Rattle.calls.specs.Calls.{openOf, recordsOf}
+use Rattle.calls.specs.Calls.{openOf}
 use Rattle.calls.specs.Sequences.{World, Call, opening, expand, finalWeight, records, run, Reply, refusal, accepted, weight, answered, handed, replies, after}
 use Rattle.calls.specs.Listing.{settingsOf}
 use Rattle.calls.proofs.Cases.{Holds}
 use Rattle.calls.proofs.StarCases.{plain, lend, session, listPart, example1, example2}
-use Rattle.readings.specs.Demands.{worldOf, OpeningsRefused, SameUntil, Sound, Demand3}
-use Rattle.readings.proofs.Openings.{open-keeps}
-use Rattle.readings.proofs.CallLists.{calls-sound, calls-again}
+use Rattle.readings.specs.Worlds.{worldOf, handedIn, OpeningsRefused, Sound}
+use Rattle.readings.specs.Larger.{SameUntil}
+use Rattle.readings.specs.Demands.{Demand3}
 use Rattle.readings.proofs.LargerMemory.{larger}
 use Rattle.readings.proofs.Demands.{demand-3}
 
@@ -113,14 +113,12 @@ claimed =
 
 -- its world at the end is sound
 pub sound-there : Sound both c (after both (from large) calls)
-sound-there = calls-sound both c (from large) calls (open-keeps set both got large opens-large (only outputs) rule) refused-large calls [] refl .0
+sound-there = claimed .sound calls [] refl
 
 -- state 1, expanded in the run, has its words again at the end
-pub again-there : recordsOf both (after both (from large) calls .session) (after both (from large) calls .memory) 1 ≡ 0 ∷ 7 ∷ 4 ∷ 2 ∷ 0 ∷ []
+pub again-there : handedIn both (after both (from large) calls) 1 ≡ 0 ∷ 7 ∷ 4 ∷ 2 ∷ 0 ∷ []
 unfolding Holds
-again-there =
-    calls-again both c (from large) calls (open-keeps set both got large opens-large (only outputs) rule) refused-large
-    (expand 0 ∷ opening (settingsOf (plain 2 0)) both ∷ run ∷ []) (records 1 ∷ expand 0 ∷ finalWeight 3 ∷ []) refl .words 1 (omega arith, refl)
+again-there = claimed .again (expand 0 ∷ opening (settingsOf (plain 2 0)) both ∷ run ∷ []) (records 1 ∷ expand 0 ∷ finalWeight 3 ∷ []) [] refl .words 1 (omega arith, refl)
 
 -- the smaller memory's answers, up to its 13, are the larger one's
 pub same-there : SameUntil saidSmall said

@@ -27,7 +27,7 @@ use Rattle.calls.proofs.StepsStay.{Stays, steps-stay}
 use Rattle.calls.proofs.FindLaws.{whole-distinct, marked-triple, whole-mark}
 use Rattle.calls.proofs.StepsMade.{IsTr, written-at, stay-state, stay-triple, stored-good, StepsMade, steps-made}
 use Rattle.calls.proofs.Parts.{part-alike, some-first, new-low, in-new, of-new, part-new}
-use Rattle.readings.specs.Demands.{Expanded, partIn, recordsIn, stateAt, targetOf, Found, at-start, as-target, IsRecord, IsList, Sound}
+use Rattle.readings.specs.Worlds.{Expanded, partIn, recordsIn, stateAt, targetOf, Found, at-start, as-target, IsRecord, IsList, Sound}
 use Rattle.readings.proofs.Grows.{Kept, Grows}
 
 -- a record of an earlier world in a later one, and a list

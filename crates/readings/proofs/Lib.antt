@@ -24,3 +24,8 @@ pub mod LargerMemory
 pub mod NeverEight
 pub mod Demands
 pub mod DemandCase
+pub mod Rooms
+pub mod Decided
+pub mod Answered
+pub mod GivenAgain
+pub mod Consequences

@@ -15,7 +15,7 @@ use Rattle.calls.specs.Sequences.{World}
 use Rattle.calls.proofs.FindLaws.{whole-distinct}
 use Rattle.calls.proofs.OpenKept.{open-kept}
 use Rattle.calls.proofs.OpenCases.{openedAs, Begins, by-open, begun-triple, begun-field, begun-whole}
-use Rattle.readings.specs.Demands.{worldOf, Expanded, Found, at-start, as-target}
+use Rattle.readings.specs.Worlds.{worldOf, Expanded, Found, at-start, as-target}
 use Rattle.readings.proofs.Grows.{Kept}
 
 module _ (s : Settings) (l : Lent) (side : Side) (rule : sideFor s l ≡ good side) (m : Memory) where

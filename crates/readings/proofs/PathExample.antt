@@ -25,7 +25,8 @@ use Rattle.calls.proofs.StarCases.{plain, lend, session, world}
 use Rattle.readings.specs.Places.{placeOf}
 use Rattle.readings.specs.Merge.{mergeUpTo}
 use Rattle.readings.specs.Listed.{goods, listedAt, pickOf}
-use Rattle.readings.specs.Demands.{recordsIn, targetOf, AcceptingFrom, AcceptingRecords, movesOfRecords, recordsOfMoves, pairOfRecords, recordsOfPair, recordsWeight, Finished}
+use Rattle.readings.specs.Worlds.{recordsIn, targetOf}
+use Rattle.readings.specs.StorePaths.{AcceptingFrom, AcceptingRecords, movesOfRecords, recordsOfMoves, pairOfRecords, recordsOfPair, recordsWeight, Finished}
 use Rattle.readings.proofs.Example.{words1, words2, pairs}
 
 abbrev pub settings : Settings
