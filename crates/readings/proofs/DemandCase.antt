@@ -18,10 +18,13 @@ use Rattle.calls.specs.Calls.{openOf}
 use Rattle.calls.specs.Sequences.{World, Call, opening, expand, finalWeight, records, run, Reply, refusal, accepted, weight, answered, handed, replies, after}
 use Rattle.calls.specs.Listing.{settingsOf}
 use Rattle.calls.proofs.Cases.{Holds}
-use Rattle.calls.proofs.StarCases.{plain, lend, session, listPart, example1, example2}
+use Rattle.calls.proofs.StarCases.{plain, lend, session, world, listPart, example1, example2}
 use Rattle.readings.specs.Worlds.{worldOf, handedIn, OpeningsRefused, Sound}
 use Rattle.readings.specs.Larger.{SameUntil}
+use Rattle.readings.specs.StorePaths.{Finished, Paths}
+use Rattle.readings.specs.Listed.{pickOf}
 use Rattle.readings.specs.Demands.{Demand3}
+use Rattle.readings.proofs.StoreWalks.{finishedTest, test-finished}
 use Rattle.readings.proofs.LargerMemory.{larger}
 use Rattle.readings.proofs.Demands.{demand-3}
 
@@ -119,6 +122,28 @@ sound-there = claimed .sound calls [] refl
 pub again-there : handedIn both (after both (from large) calls) 1 ≡ 0 ∷ 7 ∷ 4 ∷ 2 ∷ 0 ∷ []
 unfolding Holds
 again-there = claimed .again (expand 0 ∷ opening (settingsOf (plain 2 0)) both ∷ run ∷ []) (records 1 ∷ expand 0 ∷ finalWeight 3 ∷ []) [] refl .words 1 (omega arith, refl)
+
+-- what it leaves: states (0, 0, 0), (1, 0, 0), (1, 1, 0), (2, 2, 0), three of them with one transition
+abbrev left : World
+left =
+    world (with 4 3) (1 ∷ 4 ∷ 3 ∷ [])
+    (0 ∷ 0 ∷ 1 ∷ 1 ∷ 0 ∷ 65536 ∷ 0 ∷ 1 ∷ 2 ∷ 0 ∷ 65537 ∷ 0 ∷ 1 ∷ 3 ∷ 0 ∷ 131074 ∷ 0 ∷ 1 ∷ 0 ∷ 2 ∷ replicate 4 8)
+    (1 ∷ 0 ∷ 1 ∷ 1 ∷ 0 ∷ 0 ∷ 7 ∷ 4 ∷ 2 ∷ 0 ∷ 2 ∷ 8 ∷ 3 ∷ 3 ∷ 0 ∷ replicate 2 6)
+
+pub left-there : after both (from large) calls ≡ left
+unfolding Holds
+left-there = refl
+
+finished-left : Finished set both left
+unfolding Holds finishedTest
+finished-left = test-finished set both left refl
+
+-- every found state is expanded there, and has a final weight or none: 3c speaks of it
+pub finished-there : Finished set both (after both (from large) calls)
+finished-there = subst (Finished set both) (sym left-there) finished-left
+
+pub paths-there : Paths both c (pickOf 0) (after both (from large) calls)
+paths-there = claimed .paths finished-there
 
 -- the smaller memory's answers, up to its 13, are the larger one's
 pub same-there : SameUntil saidSmall said

@@ -13,7 +13,7 @@ pub mod PathEnds
 pub mod PathRecords
 pub mod PathFollows
 pub mod StorePaths
-pub mod PathExample
+pub mod StoreWalks
 pub mod Grows
 pub mod Expansions
 pub mod CallsKept
@@ -29,3 +29,4 @@ pub mod Decided
 pub mod Answered
 pub mod GivenAgain
 pub mod Consequences
+pub mod PathExample
