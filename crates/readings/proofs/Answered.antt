@@ -1,6 +1,6 @@
 -- What the next call answers in a world of a list, and which states are expanded there, by the calls made.
 use mathlib.Core.Path.{_≡_, refl, sym, _∙_, ap, subst}
-use mathlib.Core.List.{List, [], _∷_, _++_, append-nil}
+use mathlib.Core.List.{List, [], _∷_, append-nil}
 use mathlib.Core.Logic.{_≢_, _⊎_, inl, inr, ⊎-elim, _↔_}
 use Prim.Native.Nat.{ℕ, _+_, _≤_, _<_}
 use native.Mathlib.Omega.{arith}
@@ -13,7 +13,7 @@ use Rattle.calls.specs.Store.{Part}
 use Rattle.calls.specs.Calls.{Outcome}
 use Rattle.calls.specs.Sequences.{World, Call, opening, expand, finalWeight, records, run, callOf, after}
 use Rattle.calls.proofs.ExpandCases.{expand-late}
-use Rattle.readings.specs.Worlds.{worldOf, expandIn, finalIn, runIn, Accepted, OpeningsRefused, UsedState, Expanded}
+use Rattle.readings.specs.Worlds.{worldOf, expandIn, runIn, Accepted, OpeningsRefused, UsedState, Expanded}
 use Rattle.readings.specs.Answers.{PassesBefore, ExpandedBy, by-expand, by-run, Answers}
 use Rattle.readings.proofs.Grows.{Kept}
 use Rattle.readings.proofs.CallsKept.{expand-lists, expand-only, expand-numbers, final-numbers, final-late, final-stays, Ran, run-onto}

@@ -6,7 +6,7 @@ use Rattle.words.specs.Settings.{Settings, Lent}
 use Rattle.calls.specs.Calls.{Outcome, openOf}
 use Rattle.calls.specs.Sequences.{World, Call, opening, expand, finalWeight, records, run, callOf, after}
 use Rattle.calls.proofs.OpenCases.{by-open}
-use Rattle.readings.specs.Worlds.{worldOf, openIn, Refused, OpeningsRefused}
+use Rattle.readings.specs.Worlds.{worldOf, Refused, OpeningsRefused}
 use Rattle.readings.specs.Again.{Again}
 use Rattle.readings.proofs.Grows.{Kept}
 use Rattle.readings.proofs.CallsKept.{Onto, onto-none, onto-on, expand-onto, final-stays, run-onto, again-onto}

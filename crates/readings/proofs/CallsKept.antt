@@ -6,7 +6,6 @@ use mathlib.Core.Option.{Option}
 use mathlib.Core.List.{map}
 use Prim.Native.Nat.{ℕ, zero, suc, _+_, _≤_, _<_}
 use native.Mathlib.Omega.{arith}
-use native.Mathlib.Decide.{ℕ-discrete}
 use lib.Dec.{leb}
 use borrow.Author.Tests.{eq-eqb, leb-true, leb-false, le-leb, lt-leb}
 use Rattle.lists.specs.Lists.{interval}
@@ -16,7 +15,7 @@ use Rattle.words.specs.Settings.{Lent}
 use Rattle.words.proofs.CheckedLaws.{good≢refused, refused-is, good-is}
 use Rattle.calls.specs.Store.{Store, stateRoom, tripleAt, expandedAt, Part}
 use Rattle.calls.specs.Checks.{storeOf, entered, enteredAt}
-use Rattle.calls.specs.Calls.{Outcome, storeSteps, newPart, settle, unchanged, wordsOf, expandOf, finalWeightOf, onward, ended, runBy, runFrom, runOf, recordsBy, recordsOf}
+use Rattle.calls.specs.Calls.{Outcome, storeSteps, newPart, settle, unchanged, wordsOf, finalWeightOf, onward, ended, runBy, runFrom, runOf, recordsBy, recordsOf}
 use Rattle.calls.specs.Sequences.{World, expand, callOf, after}
 use Rattle.calls.proofs.ExpandKept.{expand-kept, entered-is}
 use Rattle.calls.proofs.Parts.{words-alike}

@@ -1,23 +1,23 @@
--- What the claim says of single calls, from the claim alone: an accepted expansion leaves the list that it answered and expands no other state; a run expands just the states that it
--- passes; an opening expands none.
+-- What the claim says of single calls, from the claim alone: an accepted expansion leaves the list that it answered and expands no other state; a run expands
+-- just the states that it passes; an opening expands none.
 use mathlib.Core.Path.{_≡_, refl, sym, _∙_, ap, ap₂, subst}
 use mathlib.Core.Bool.{Bool, true, false, true≢false}
-use mathlib.Core.List.{List, [], _∷_, _++_, append-nil, append-assoc, nil≢cons, head-eq-of-cons-eq, tail-eq-of-cons-eq}
+use mathlib.Core.List.{List, [], _∷_, _++_, List·Memᴰ as In, List·Memᴰ·head as here, List·Memᴰ·tail as there, append-nil, append-assoc, nil≢cons, head-eq-of-cons-eq, tail-eq-of-cons-eq}
 use mathlib.Core.Logic.{_⊎_, inl, inr, ⊎-elim}
-use Prim.Native.Nat.{ℕ, _+_, _≤_, _<_}
+use Prim.Native.Nat.{ℕ, _+_, _<_}
 use native.Mathlib.Omega.{arith}
 use native.Mathlib.Decide.{decLt}
 use Rattle.words.specs.Labels.{Checked, good, refused}
 use Rattle.words.specs.Steps.{Composition}
 use Rattle.words.specs.Settings.{Settings, Lent}
-use Rattle.words.proofs.CheckedLaws.{good≢refused, good-is}
+use Rattle.words.proofs.CheckedLaws.{good≢refused}
 use Rattle.calls.specs.Store.{Memory, Part}
-use Rattle.calls.specs.Checks.{Session}
-use Rattle.calls.specs.Calls.{Outcome, openOf}
-use Rattle.calls.specs.Sequences.{World, Call, opening, expand, finalWeight, records, run, part, refusal, accepted, weight, Reply, answered, handed, saidOf, turnOf, callOf, after}
+use Rattle.calls.specs.Calls.{Outcome}
+use Rattle.calls.specs.Sequences.{World, Call, opening, expand, finalWeight, records, run, part, refusal, accepted, weight, Reply, answered, handed, saidOf, turnOf, callOf, replies, after}
 use Rattle.readings.specs.Worlds.{worldOf, expandIn, runIn, Accepted, OpeningsRefused, UsedState, Expanded, partIn}
 use Rattle.readings.specs.Answers.{PassesBefore, ExpandedBy, by-expand, by-run, RunIs}
 use Rattle.readings.specs.Again.{Again, replyAfter, GivesAgain}
+use Rattle.readings.specs.Larger.{NoRoom, SameUntil}
 use Rattle.readings.specs.Demands.{Demand3}
 
 -- one more call, which is no opening
@@ -141,7 +141,10 @@ module _ (s : Settings) (l : Lent) (m : Memory) (c : Composition) (w : World) (D
         let first : replyAfter l w cs (expand n) ≡ answered (part p) (expandIn l v n .session) = ap (λ (q : Checked Part). answered (saidOf part q) (expandIn l v n .session)) e in
         let g = subst (λ q. GivesAgain q (replyAfter l w (cs ++ (expand n ∷ [])) (expand n))) first (D _ both .given cs [] [] (expand n) refl) in
         let u = worldOf (expandIn l v n) in
-        let a = subst (λ (y : World). Again l y y) (after-one l w cs (expand n)) (subst (λ (z : List Call). Again l (after l w (cs ++ (expand n ∷ []))) (after l w z)) (append-nil _) (D (cs ++ (expand n ∷ [])) (openings-on l w cs (expand n) r tt) .again (cs ++ (expand n ∷ [])) [] [] (append-nil _))) in
+        let once = cs ++ (expand n ∷ []) in
+        let stays : Again l (after l w once) (after l w once) =
+        subst (λ (z : List Call). Again l (after l w once) (after l w z)) (append-nil once) (D once (openings-on l w cs (expand n) r tt) .again once [] [] (append-nil once)) in
+        let a = subst (λ (y : World). Again l y y) (after-one l w cs (expand n)) stays in
         let second : answered (part (partIn u n)) (u .session) ≡ answered (part p) (g .0) =
         sym (ap (λ (y : World). turnOf part (expandIn l y n) .reply) (after-one l w cs (expand n)) ∙ ap (λ (o : Outcome Part). turnOf part o .reply) (a .list n x)) ∙ g .1 in
         ap partSaid second
@@ -192,3 +195,11 @@ module _ (s : Settings) (l : Lent) (m : Memory) (c : Composition) (w : World) (D
             go (no i) p =
                 let x = subst (λ (y : World). Accepted (expandIn l y (ran .stop))) (sym (ran .leaves)) (p (ran .stop) (omega arith)) in
                 absurd (good≢refused (sym (x .1) ∙ q))
+
+-- 3b at one point of a list: where none of the replies before it was a no-room refusal, a call is answered the same in the larger memory, or refused by 13 in the smaller
+pub same-reply : (l : Lent) (w v : World) (cs : List Call) (x : Call) → SameUntil (replies l w (cs ++ (x ∷ []))) (replies l v (cs ++ (x ∷ [])))
+    → ((r : Reply) → In r (replies l w cs) → NoRoom r → ⊥) → NoRoom (replyAfter l w cs x) ⊎ (replyAfter l w cs x ≡ replyAfter l v cs x)
+unfolding replies after
+same-reply l w v [] x same none = ⊎-elim inl (λ e. inr (e .0)) same
+same-reply l w v (y ∷ cs) x same none =
+    ⊎-elim (λ e. absurd (none (callOf l w y .reply) (here refl) e)) (λ e. same-reply l (callOf l w y .world) (callOf l v y .world) cs x (e .1) (λ r i. none r (there i))) same

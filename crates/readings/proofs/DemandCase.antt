@@ -28,32 +28,32 @@ use Rattle.readings.proofs.StoreWalks.{finishedTest, test-finished}
 use Rattle.readings.proofs.LargerMemory.{larger}
 use Rattle.readings.proofs.Demands.{demand-3}
 
-abbrev both : Lent
+abbrev pub both : Lent
 both = lend example1 example2
 
-abbrev set : Settings
+abbrev pub set : Settings
 set = settingsOf (plain 0 0)
 
 -- the session that the opening gets is unread
-abbrev got : Session
+abbrev pub got : Session
 got = session (1 ∷ 2 ∷ 3 ∷ 4 ∷ 5 ∷ 6 ∷ []) 7 8 9
 
 -- room for the four states and three transitions that are found; three heads
-abbrev large : Memory
+abbrev pub large : Memory
 large = record { heads = 9 ∷ 9 ∷ 9 ∷ []; states = replicate 24 8; trs = replicate 17 6 }
 
 -- room for three states; two heads
-abbrev small : Memory
+abbrev pub small : Memory
 small = record { heads = 7 ∷ 7 ∷ []; states = replicate 19 5; trs = replicate 15 4 }
 
-abbrev from : Memory → World
+abbrev pub from : Memory → World
 from m = worldOf (openOf set both got m)
 
 -- expand, an opening with the kind 2, which is refused by 1, run, handing back, expand again, final weight
 abbrev calls : List Call
 calls = expand 0 ∷ opening (settingsOf (plain 2 0)) both ∷ run ∷ records 1 ∷ expand 0 ∷ finalWeight 3 ∷ []
 
-abbrev with : ℕ → ℕ → Session
+abbrev pub with : ℕ → ℕ → Session
 with states trs = session (plain 0 0) 1 states trs
 
 -- what the list returns in the larger memory, and in the smaller
@@ -101,11 +101,11 @@ refused-small : OpeningsRefused both (from small) calls
 unfolding Holds
 refused-small = (tt, tt)
 
-rule : sideFor set both ≡ good (only outputs)
+pub rule : sideFor set both ≡ good (only outputs)
 unfolding Holds
 rule = refl
 
-abbrev c : Composition
+abbrev pub c : Composition
 c = compositionOf set both (only outputs)
 
 -- the claim holds of this list

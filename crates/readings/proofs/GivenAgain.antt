@@ -1,24 +1,25 @@
--- 3a on the answers of one list: a call that is made twice gives the second time what it gave the first. After an accepted run nothing is left to expand, and no call changes anything.
+-- 3a on the answers of one list: a call that is made twice gives the second time what it gave the first. After an accepted run nothing is left to expand, and no
+-- call changes anything.
 use mathlib.Core.Path.{_≡_, refl, sym, _∙_, ap, subst}
-use mathlib.Core.Bool.{Bool, true, false, cond}
+use mathlib.Core.Bool.{Bool, true, false}
 use mathlib.Core.List.{List, [], _∷_, _++_, nil≢cons}
 use mathlib.Core.Option.{Option}
 use Prim.Native.Nat.{ℕ, zero, suc}
 use lib.Dec.{eqb, leb}
-use borrow.Author.Tests.{eqb-true, leb-true, leb-false}
+use borrow.Author.Tests.{eqb-true, leb-false}
 use native.Mathlib.Omega.{arith}
 use Rattle.words.specs.Labels.{Checked, good, refused}
 use Rattle.words.specs.Steps.{Composition}
 use Rattle.words.specs.Settings.{Settings, Lent}
 use Rattle.calls.specs.Store.{expandedAt, Part}
-use Rattle.calls.specs.Checks.{Session, storeOf, enteredAt}
-use Rattle.calls.specs.Calls.{Outcome, settle, wordsOf, recordsBy, recordsOf, onward, runBy, runFrom, runOf}
+use Rattle.calls.specs.Checks.{enteredAt}
+use Rattle.calls.specs.Calls.{Outcome, recordsOf, onward, runBy, runFrom, runOf}
 use Rattle.calls.specs.Sequences.{World, Call, opening, expand, finalWeight, records, run, accepted, part, weight, Reply, answered, handed, saidOf, turnOf, callOf, after}
 use Rattle.calls.proofs.ExpandCases.{stayed, by-expand}
-use Rattle.readings.specs.Worlds.{worldOf, openIn, expandIn, finalIn, runIn, handedIn, Refused, OpeningsRefused, UsedState, Expanded, partIn, wordsIn}
+use Rattle.readings.specs.Worlds.{worldOf, openIn, expandIn, finalIn, runIn, handedIn, Refused, OpeningsRefused, UsedState, Expanded}
 use Rattle.readings.specs.Again.{Again, GivesAgain}
 use Rattle.readings.proofs.Grows.{Kept, grows-none}
-use Rattle.readings.proofs.CallsKept.{Onto, expand-again, expand-lists, final-stays, records-under, run-onto, again-onto}
+use Rattle.readings.proofs.CallsKept.{Onto, expand-again, expand-lists, final-stays, run-onto, again-onto}
 use Rattle.readings.proofs.CallLists.{open-stays, one-call, calls-onto}
 
 module _ (l : Lent) (c : Composition) where

@@ -30,3 +30,4 @@ pub mod Answered
 pub mod GivenAgain
 pub mod Consequences
 pub mod PathExample
+pub mod RoomCase

@@ -1,6 +1,6 @@
--- Closed instances of 3c over the calls: the stores that an opening and a run leave for the two machines of Example. Each is finished, four lists of records are accepting and no
--- others, and their pairs, labels and weights are computed: those of the four pairs of Example, each once. Costs with filter sequence; counts with alternate; costs with match
--- under "both", where a transition of machine 1 costs MAX.
+-- Closed instances of 3c over the calls: the stores that an opening and a run leave for the two machines of Example. Each is finished, four lists of records are
+-- accepting and no others, and their pairs, labels and weights are computed: those of the four pairs of Example, each once. Costs with filter sequence; counts
+-- with alternate; costs with match under "both", where a transition of machine 1 costs MAX.
 use mathlib.Core.Path.{_≡_, refl, sym, _∙_, subst}
 use mathlib.Core.List.{List, [], _∷_, map, List·Memᴰ as In}
 use mathlib.Core.Logic.{_↔_}

@@ -1,5 +1,5 @@
--- 13 only where memory is full: kept moves are stored just where there is a transition record for each of them and a state record for each triple among their targets that no used
--- state has. By induction along the moves: what the table finds is what is known, the triples of the used states and the targets so far.
+-- 13 only where memory is full: kept moves are stored just where there is a transition record for each of them and a state record for each triple among their
+-- targets that no used state has. By induction along the moves: what the table finds is what is known, the triples of the used states and the targets so far.
 use mathlib.Core.Path.{_≡_, refl, sym, _∙_, ap, subst}
 use mathlib.Core.Bool.{Bool, true, false, not, _||_, true≢false, false≢true}
 use mathlib.Core.List.{List, [], _∷_, _++_, map, List·Memᴰ as In, List·Memᴰ·head as here, List·Memᴰ·tail as there}
@@ -24,7 +24,7 @@ use Rattle.calls.proofs.ChainLaws.{same-triple, same-self, find-sound, find-add
 use Rattle.calls.proofs.StepsKept.{LinkOk, link-ok}
 use Rattle.calls.proofs.StepsStay.{Stays, step-stays}
 use Rattle.calls.proofs.FindLaws.{Whole}
-use Rattle.calls.proofs.StepsMade.{StepMade, led-new, led-old, step-made}
+use Rattle.calls.proofs.StepsMade.{led-new, led-old, step-made}
 use Rattle.readings.specs.Answers.{among, newOnes, targets}
 
 abbrev isFound : Option ℕ → Bool
@@ -44,7 +44,8 @@ abbrev pub Knows : List Triple → Store → Type 0
 Knows known d = (t : Triple) → among known t ≡ isFound (find d t)
 
 -- one of the triples of an interval of states
-among-triples : (states : List ℕ) (from count : ℕ) (t : Triple) → among (map (tripleAt states) (interval from count)) t ≡ true → (n : ℕ) × (from ≤ n) × (n < from + count) × (tripleAt states n ≡ t)
+among-triples : (states : List ℕ) (from count : ℕ) (t : Triple) → among (map (tripleAt states) (interval from count)) t ≡ true
+    → (n : ℕ) × (from ≤ n) × (n < from + count) × (tripleAt states n ≡ t)
 unfolding among interval
 among-triples states from zero t e = absurd (false≢true e)
 among-triples states from (suc count) t e =
@@ -60,24 +61,30 @@ triples-among states from (suc count) n h i = go (decLt from n) (λ a b. triples
     after : List Triple
     after = map (tripleAt states) (interval (suc from) count)
 
-    go : Dec (from < n) → (suc from ≤ n → n < suc from + count → among after (tripleAt states n) ≡ true) → (sameTriple (tripleAt states from) (tripleAt states n) || among after (tripleAt states n)) ≡ true
+    go : Dec (from < n) → (suc from ≤ n → n < suc from + count → among after (tripleAt states n) ≡ true)
+        → (sameTriple (tripleAt states from) (tripleAt states n) || among after (tripleAt states n)) ≡ true
     go (yes l) rec = or-right (sameTriple (tripleAt states from) (tripleAt states n)) _ (rec (omega arith) (omega arith))
     go (no l) rec =
         let z : from ≡ n = omega arith in
         or-left _ (among after (tripleAt states n)) (ap (λ k. sameTriple (tripleAt states k) (tripleAt states n)) z ∙ same-self (tripleAt states n))
 
--- what is known at first are the triples of the used states
-pub known-first : {S1 S2 last : ℕ} (d : Store) → Form S1 S2 d last → Whole d → Knows (map (tripleAt (d .memory .states)) (interval 0 (d .used .states))) d
-known-first d form whole t = go (find d t) (among (map (tripleAt (d .memory .states)) (interval 0 (d .used .states))) t) refl refl
+-- the triples of the used states
+abbrev triplesOf : Store → List Triple
+triplesOf d = map (tripleAt (d .memory .states)) (interval 0 (d .used .states))
+
+-- they are known at first
+pub known-first : {S1 S2 last : ℕ} (d : Store) → Form S1 S2 d last → Whole d → Knows (triplesOf d) d
+known-first d form whole t = go (find d t) (among (triplesOf d) t) refl refl
   where
-    go : (o : Option ℕ) (b : Bool) → find d t ≡ o → among (map (tripleAt (d .memory .states)) (interval 0 (d .used .states))) t ≡ b → among (map (tripleAt (d .memory .states)) (interval 0 (d .used .states))) t ≡ isFound (find d t)
+    go : (o : Option ℕ) (b : Bool) → find d t ≡ o → among (triplesOf d) t ≡ b → among (triplesOf d) t ≡ isFound (find d t)
     go none true f e =
         let r = among-triples (d .memory .states) 0 (d .used .states) t e in
         absurd (true≢false (ap isFound (sym (ap (find d) (sym (r .3)) ∙ whole (r .0) (omega (arith, r .2))) ∙ f)))
     go none false f e = e ∙ sym (ap isFound f)
     go (some n) b f e =
         let r = find-sound d form t n f in
-        subst (λ u. among (map (tripleAt (d .memory .states)) (interval 0 (d .used .states))) u ≡ true) (r .1) (triples-among (d .memory .states) 0 (d .used .states) n (omega arith) (omega (arith, r .0))) ∙ sym (ap isFound f)
+        subst (λ u. among (triplesOf d) u ≡ true) (r .1) (triples-among (d .memory .states) 0 (d .used .states) n (omega arith) (omega (arith, r .0)))
+        ∙ sym (ap isFound f)
 
 -- a table that is being written to, and what it knows
 pub record Ready (S1 S2 last : ℕ) (known : List Triple) (d : Store) : Type 0 where
@@ -169,8 +176,9 @@ module _ {S1 S2 : ℕ} (narrow : S2 ≤ 65535) (last : ℕ) where
             go few headed u false z = ap (λ x. x || among known u) z ∙ (w .knows u ∙ sym (ap isFound (find-other d (w .form) t few room headed u z)))
 
   -- kept moves for which there is room are stored, and the rest comes after them
-  pub stored-first : (steps : List Step) (rest : List (Checked Step)) (known : List Triple) (d : Store) → Ready S1 S2 last known d → ((st : Step) → In st steps → InRange S1 S2 (st .to))
-      → d .used .trs + length (map good steps ++ rest) ≤ last → d .used .trs + length steps ≤ trRoom (d .memory) → d .used .states + length (newOnes known (targets steps)) ≤ stateRoom (d .memory)
+  pub stored-first : (steps : List Step) (rest : List (Checked Step)) (known : List Triple) (d : Store) → Ready S1 S2 last known d
+      → ((st : Step) → In st steps → InRange S1 S2 (st .to)) → d .used .trs + length (map good steps ++ rest) ≤ last
+      → d .used .trs + length steps ≤ trRoom (d .memory) → d .used .states + length (newOnes known (targets steps)) ≤ stateRoom (d .memory)
       → (e : Store) × (storeSteps d (map good steps ++ rest) ≡ storeSteps e rest)
   unfolding storeSteps newOnes
   stored-first [] rest known d w ok h a b = (d, refl)
@@ -183,24 +191,25 @@ module _ {S1 S2 : ℕ} (narrow : S2 ≤ 65535) (last : ℕ) where
       next : ℕ
       next = nextFor d (nonEmpty others)
 
-      on : (new : ℕ) → Goes S1 S2 last (st .to ∷ known) d new (storeStep d next st) → d .used .states + new + length (newOnes (st .to ∷ known) (targets steps)) ≤ stateRoom (d .memory)
-          → ((e : Store) → Ready S1 S2 last (st .to ∷ known) e → e .used .trs + length others ≤ last → e .used .trs + length steps ≤ trRoom (e .memory)
-          → e .used .states + length (newOnes (st .to ∷ known) (targets steps)) ≤ stateRoom (e .memory) → (f : Store) × (storeSteps e others ≡ storeSteps f rest))
-          → (f : Store) × (storeSteps d (good st ∷ others) ≡ storeSteps f rest)
+      -- the rest of the steps, in the store that this one leaves
+      Rest : Type 0
+      Rest = (e : Store) → Ready S1 S2 last (st .to ∷ known) e → e .used .trs + length others ≤ last → e .used .trs + length steps ≤ trRoom (e .memory)
+          → e .used .states + length (newOnes (st .to ∷ known) (targets steps)) ≤ stateRoom (e .memory) → (f : Store) × (storeSteps e others ≡ storeSteps f rest)
+
+      on : (new : ℕ) → Goes S1 S2 last (st .to ∷ known) d new (storeStep d next st)
+          → d .used .states + new + length (newOnes (st .to ∷ known) (targets steps)) ≤ stateRoom (d .memory) → Rest → (f : Store) × (storeSteps d (good st ∷ others) ≡ storeSteps f rest)
       on new g c rec =
           let r = rec (g .store) (g .ready) (omega (arith, g .trs, h)) (omega (arith, g .trs, g .tr-room, a)) (omega (arith, g .states, g .state-room, c)) in
           (r .0, ap (λ (x : Checked Store). andThen x (λ e. storeSteps e others)) (g .is) ∙ r .1)
 
-      go : (b : Bool) → among known (st .to) ≡ b → d .used .states + length (putIf (not b) (st .to) (newOnes (st .to ∷ known) (targets steps))) ≤ stateRoom (d .memory)
-          → ((e : Store) → Ready S1 S2 last (st .to ∷ known) e → e .used .trs + length others ≤ last → e .used .trs + length steps ≤ trRoom (e .memory)
-          → e .used .states + length (newOnes (st .to ∷ known) (targets steps)) ≤ stateRoom (e .memory) → (f : Store) × (storeSteps e others ≡ storeSteps f rest))
-          → (f : Store) × (storeSteps d (good st ∷ others) ≡ storeSteps f rest)
+      go : (b : Bool) → among known (st .to) ≡ b
+          → d .used .states + length (putIf (not b) (st .to) (newOnes (st .to ∷ known) (targets steps))) ≤ stateRoom (d .memory) → Rest → (f : Store) × (storeSteps d (good st ∷ others) ≡ storeSteps f rest)
       go true e c rec = on 0 (goes-old known d w next st (ok st (here refl)) (link-ok d last others h) (omega arith) e) (omega arith) rec
       go false e c rec = on 1 (goes-new known d w next st (ok st (here refl)) (link-ok d last others h) (omega arith) e (omega arith)) (omega arith) rec
 
   -- kept moves for which a record is lacking are refused by 13, whatever comes after them
-  pub stored-none : (steps : List Step) (rest : List (Checked Step)) (known : List Triple) (d : Store) → Ready S1 S2 last known d → ((st : Step) → In st steps → InRange S1 S2 (st .to))
-      → d .used .trs + length (map good steps ++ rest) ≤ last
+  pub stored-none : (steps : List Step) (rest : List (Checked Step)) (known : List Triple) (d : Store) → Ready S1 S2 last known d
+      → ((st : Step) → In st steps → InRange S1 S2 (st .to)) → d .used .trs + length (map good steps ++ rest) ≤ last
       → (trRoom (d .memory) < d .used .trs + length steps) ⊎ (stateRoom (d .memory) < d .used .states + length (newOnes known (targets steps)))
       → storeSteps d (map good steps ++ rest) ≡ refused 13
   unfolding storeSteps newOnes

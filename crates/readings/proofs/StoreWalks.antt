@@ -1,6 +1,6 @@
 -- For closed instances of 3c: the accepting paths of a store without cycles, computed, and a test of "finished".
-use mathlib.Core.Path.{_≡_, refl, sym, _∙_, ap, subst}
-use mathlib.Core.Bool.{Bool, true, false, _&&_, true≢false, false≢true}
+use mathlib.Core.Path.{_≡_, refl, sym, subst}
+use mathlib.Core.Bool.{Bool, true, false, _&&_, false≢true}
 use mathlib.Core.List.{List, [], _∷_, _++_, map, flatMap, List·Memᴰ as In, List·Memᴰ·head as here, List·Memᴰ·not-nil, List·Memᴰ·cases-cons, List·Memᴰ·append-cases, Memᴰ·append-left, Memᴰ·append-right, Memᴰ·map, Memᴰ·of-map}
 use mathlib.Core.Logic.{_↔_, ⊎-elim}
 use mathlib.Core.Option.{Option, none, some}
@@ -57,7 +57,8 @@ unfolding finishedTest
 test-finished s l w e =
     let sigmas = and-left (eqb (s .sigma1) noLabel && eqb (s .sigma2) noLabel) _ e in
     let states = and-right (eqb (s .sigma1) noLabel && eqb (s .sigma2) noLabel) _ e in
-    let each : (n : ℕ) → UsedState w n → expandedTest w n && isGood (finalIn l w n .answer) ≡ true = λ n i. every-in (λ n. expandedTest w n && isGood (finalIn l w n .answer)) states (in-interval 0 (w .session .used .states) n (omega arith) (omega (arith, i))) in
+    let each : (n : ℕ) → UsedState w n → expandedTest w n && isGood (finalIn l w n .answer) ≡ true
+    = λ n i. every-in (λ n. expandedTest w n && isGood (finalIn l w n .answer)) states (in-interval 0 (w .session .used .states) n (omega arith) (omega (arith, i))) in
     record {
       sigma1 = eqb-true _ _ (and-left (eqb (s .sigma1) noLabel) _ sigmas);
       sigma2 = eqb-true _ _ (and-right (eqb (s .sigma1) noLabel) _ sigmas);

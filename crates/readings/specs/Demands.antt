@@ -1,5 +1,5 @@
--- Demand 3: one claim about whole lists of calls, on slices and sessions, over the definitions that the calls' contracts cite. Its parts stand in Worlds and Answers (scope),
--- Again (3a), Larger (3b) and StorePaths (3c); each quotes the demand or document 01.
+-- Demand 3: one claim about whole lists of calls, on slices and sessions, over the definitions that the calls' contracts cite. Its parts stand in Worlds and
+-- Answers (scope), Again (3a), Larger (3b) and StorePaths (3c); each quotes the demand or document 01.
 use mathlib.Core.Path.{_≡_}
 use mathlib.Core.List.{List, _∷_, _++_, List·Memᴰ}
 use mathlib.Core.Logic.{_≢_, _↔_}

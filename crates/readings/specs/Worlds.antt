@@ -93,13 +93,13 @@ weightOf w r = fieldOf w r 2
 abbrev pub targetOf : World → ℕ → ℕ
 targetOf w r = targetAt (w .memory .trs) (r - 1)
 
--- "Found are state 0, if both machines have a start, and every target of an expanded state": the least such set, so that no states are found by one another alone
+-- "Found are state 0, if both machines have a start, and every target of an expanded state": the least such set, so that no states find one another alone
 pub data Found (c : Composition) (w : World) : ℕ → Type 0 where
   at-start : (n : ℕ) (t : Triple) → startAt c ≡ some t → n ≡ 0 → Found c w n
   as-target : (n k r : ℕ) → Found c w k → Expanded w k → List·Memᴰ r (recordsIn w k) → targetOf w r ≡ n → Found c w n
 
--- "An expanded state's k-th transition record is its k-th kept move: machine 1's input, machine 2's output (both after any rewriting), the product of their weights and the
--- state reached"; `step` has these of a kept move
+-- "An expanded state's k-th transition record is its k-th kept move: machine 1's input, machine 2's output (both after any rewriting), the product of their
+-- weights and the state reached"; `step` has these of a kept move
 pub record IsRecord (w : World) (r : ℕ) (step : Step) : Type 0 where
   pub input : inputOf w r ≡ step .input
   pub output : outputOf w r ≡ step .output
