@@ -2,6 +2,7 @@
 -- and a final weight. In a memory of one state record less the run is refused by 13, and there the answers part.
 use mathlib.Core.Path.{_≡_, refl, sym, _∙_, subst}
 use mathlib.Core.List.{List, [], _∷_}
+use mathlib.Core.Logic.{inl}
 use mathlib.Core.Option.{some}
 use Prim.Native.Nat.{ℕ}
 use native.Mathlib.Omega.{arith}
@@ -20,10 +21,13 @@ use Rattle.calls.specs.Listing.{settingsOf}
 use Rattle.calls.proofs.Cases.{Holds}
 use Rattle.calls.proofs.StarCases.{plain, lend, session, world, listPart, example1, example2}
 use Rattle.readings.specs.Worlds.{worldOf, handedIn, OpeningsRefused, Sound}
+use Rattle.readings.specs.Answers.{ExpandedBy}
+use Rattle.readings.specs.Again.{replyAfter}
 use Rattle.readings.specs.Larger.{SameUntil}
 use Rattle.readings.specs.StorePaths.{Finished, Paths}
 use Rattle.readings.specs.Listed.{pickOf}
 use Rattle.readings.specs.Demands.{Demand3}
+use Rattle.readings.proofs.Openings.{opens}
 use Rattle.readings.proofs.StoreWalks.{finishedTest, test-finished}
 use Rattle.readings.proofs.LargerMemory.{larger}
 use Rattle.readings.proofs.Demands.{demand-3}
@@ -123,6 +127,15 @@ pub again-there : handedIn both (after both (from large) calls) 1 ≡ 0 ∷ 7 �
 unfolding Holds
 again-there = claimed .again (expand 0 ∷ opening (settingsOf (plain 2 0)) both ∷ run ∷ []) (records 1 ∷ expand 0 ∷ finalWeight 3 ∷ []) [] refl .words 1 (omega arith, refl)
 
+-- state 3 is expanded by the calls made, and expand 0, asked again after the run, gives the part that it gave
+pub expanded-there : ExpandedBy both (from large) calls 3
+unfolding Holds
+expanded-there = claimed .expanded calls [] refl 3 .0 (omega arith, refl)
+
+pub given-there : (t : Session) × (replyAfter both (from large) (expand 0 ∷ opening (settingsOf (plain 2 0)) both ∷ run ∷ records 1 ∷ []) (expand 0) ≡ answered (listPart 1 1) t)
+unfolding Holds
+given-there = claimed .given [] (opening (settingsOf (plain 2 0)) both ∷ run ∷ records 1 ∷ []) (finalWeight 3 ∷ []) (expand 0) refl
+
 -- what it leaves: states (0, 0, 0), (1, 0, 0), (1, 1, 0), (2, 2, 0), three of them with one transition
 abbrev left : World
 left =
@@ -153,6 +166,9 @@ same-there =
     (larger set both got got small large (record { heads = omega arith; states = omega arith; trs = omega arith }) opens-small (only outputs) rule calls refused-small .same))
 
 -- a memory without heads is shorter: its opening is refused
-pub no-heads : openOf set both got (record { heads = []; states = replicate 24 8; trs = replicate 17 6 }) .answer ≡ refused 13
+abbrev headless : Memory
+headless = record { heads = []; states = replicate 24 8; trs = replicate 17 6 }
+
+pub no-heads : openOf set both got headless .answer ≡ refused 13
 unfolding Holds
-no-heads = refl
+no-heads = opens set both got headless .full .1 (only outputs, rule, (record { s1 = 0; s2 = 0; f = 0 }, refl), inl refl)

@@ -13,11 +13,11 @@ use Rattle.words.specs.Settings.{compositionOf}
 use Rattle.words.proofs.CheckedLaws.{good-is}
 use Rattle.calls.specs.Store.{Memory, stateRoom, trRoom}
 use Rattle.calls.specs.Calls.{openOf}
-use Rattle.calls.specs.Sequences.{World, Call, expand, after}
+use Rattle.calls.specs.Sequences.{World, Call, expand, run, after}
 use Rattle.calls.proofs.Cases.{Holds}
 use Rattle.calls.proofs.StarCases.{triple, world}
 use Rattle.readings.specs.Worlds.{expandIn, Accepted, Expanded, stateAt}
-use Rattle.readings.specs.Answers.{among, newOnes, newStates, Answers}
+use Rattle.readings.specs.Answers.{ExpandedBy, among, newOnes, newStates, Answers}
 use Rattle.readings.proofs.Demands.{demand-3}
 use Rattle.readings.proofs.DemandCase.{both, set, got, large, small, from, with, c, rule, opens-large, opens-small}
 
@@ -101,3 +101,10 @@ pub one-lacks : expandIn both leftSmall 2 .answer ≡ refused 13
 one-lacks =
     let n = ap length new-small in
     answers-small .expands 2 (omega arith) not-yet-small .full .1 (only ∷ [], [], moves-small, inr (omega (arith, rooms .3, n)))
+
+-- a run in the smaller memory stops at state 2, and does not expand it
+pub stopped-there : ExpandedBy both (from small) (expand 0 ∷ run ∷ []) 2 → ⊥
+unfolding Holds
+stopped-there x =
+    let r = demand-3 set both got small opens-small in
+    not-yet-small (r .2 (expand 0 ∷ run ∷ []) tt .expanded (expand 0 ∷ run ∷ []) [] refl 2 .1 x)

@@ -3,16 +3,32 @@ use mathlib.Core.Path.{_≡_}
 use mathlib.Core.Bool.{Bool, false, not, _||_}
 use mathlib.Core.List.{List, [], _∷_, _++_, map}
 use mathlib.Core.Logic.{_≢_, _⊎_, _↔_}
+use mathlib.Core.Option.{some}
 use Prim.Native.Nat.{ℕ, _+_, _≤_, _<_}
 use lib.ListN.{length}
 use Rattle.lists.specs.Lists.{interval, putIf}
 use Rattle.papers.specs.Composition.{Triple}
 use Rattle.words.specs.Labels.{Checked, good, refused}
-use Rattle.words.specs.Steps.{Composition, Step, stepsAt}
-use Rattle.words.specs.Settings.{Lent}
-use Rattle.calls.specs.Store.{stateRoom, trRoom, sameTriple}
+use Rattle.words.specs.Sides.{Side}
+use Rattle.words.specs.Steps.{Composition, Step, stepsAt, startAt}
+use Rattle.words.specs.Settings.{Settings, Lent, compositionOf}
+use Rattle.calls.specs.Store.{Memory, stateRoom, trRoom, sameTriple}
+use Rattle.calls.specs.Checks.{Session, sideFor}
+use Rattle.calls.specs.Calls.{openOf}
 use Rattle.calls.specs.Sequences.{World, Call, expand, run, after}
 use Rattle.readings.specs.Worlds.{worldOf, expandIn, finalIn, runIn, Accepted, UsedState, Expanded, stateAt}
+
+-- "Opening checks 1 to 7, then 13 (not if a machine lacks a start: then no state is found)", where 13 is "a record or, at opening, a head is lacking"
+abbrev pub HasStart : Settings → Lent → Side → Type 0
+HasStart s l side = (t : Triple) × (startAt (compositionOf s l side) ≡ some t)
+
+pub record Opens (s : Settings) (l : Lent) (got : Session) (m : Memory) : Type 0 where
+  -- accepted just where the checks 1 to 7 give a side, and a composition with a start finds a head and a state record
+  pub accepts : (openOf s l got m .answer ≡ good tt)
+      ↔ ((side : Side) × (sideFor s l ≡ good side) × (HasStart s l side → (0 < length (m .heads)) × (0 < stateRoom m)))
+  -- refused by 13 just where one of them is lacking
+  pub full : (openOf s l got m .answer ≡ refused 13)
+      ↔ ((side : Side) × (sideFor s l ≡ good side) × HasStart s l side × ((length (m .heads) ≡ 0) ⊎ (stateRoom m ≡ 0)))
 
 -- "run (expand in number order until none is left or one is refused ..)": the world in which a run expands k, those before it accepted
 abbrev pub inRun : Lent → World → ℕ → World
