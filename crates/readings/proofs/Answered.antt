@@ -16,7 +16,7 @@ use Rattle.calls.proofs.ExpandCases.{expand-late}
 use Rattle.readings.specs.Worlds.{worldOf, expandIn, runIn, Accepted, OpeningsRefused, UsedState, Expanded}
 use Rattle.readings.specs.Answers.{PassesBefore, ExpandedBy, by-expand, by-run, Answers}
 use Rattle.readings.proofs.Grows.{Kept}
-use Rattle.readings.proofs.CallsKept.{expand-lists, expand-only, expand-numbers, final-numbers, final-late, final-stays, Ran, run-onto}
+use Rattle.readings.proofs.CallsKept.{expand-lists, expand-only, expand-numbers, final-numbers, final-late, final-stays, final-is, handed-or-none, Ran, run-onto}
 use Rattle.readings.proofs.CallLists.{open-stays, one-call, calls-onto, after-append}
 use Rattle.readings.proofs.Decided.{decides}
 
@@ -30,6 +30,8 @@ module _ (l : Lent) (c : Composition) where
     expand-nine = λ n. (λ e i. let r = expand-numbers l c w h n i 9 e in omega (arith, r .0), late w h n);
     final-nine = λ n. (λ e i. let r = final-numbers l c w h n i 9 e in omega (arith, r), λ unused. final-late l c w h n (omega arith));
     expands = λ n i x. decides l c w h n i x;
+    finals = final-is l c w h;
+    hands-none = λ n x. ⊎-elim (λ y. absurd (x y)) (λ y. y) (handed-or-none l c w h n);
     runs = run-onto l c w h .is;
   }
 

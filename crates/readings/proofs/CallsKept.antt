@@ -3,11 +3,11 @@ use mathlib.Core.Path.{_≡_, refl, sym, _∙_, ap, subst}
 use mathlib.Core.Bool.{Bool, true, false}
 use mathlib.Core.Logic.{_≢_, _⊎_, inl, inr, ⊎-elim}
 use mathlib.Core.Option.{Option}
-use mathlib.Core.List.{map}
+use mathlib.Core.List.{[], map}
 use Prim.Native.Nat.{ℕ, zero, suc, _+_, _≤_, _<_}
 use native.Mathlib.Omega.{arith}
-use lib.Dec.{leb}
-use borrow.Author.Tests.{eq-eqb, leb-true, leb-false, le-leb, lt-leb}
+use lib.Dec.{eqb, leb}
+use borrow.Author.Tests.{eqb-true, eq-eqb, leb-true, leb-false, le-leb, lt-leb}
 use Rattle.lists.specs.Lists.{interval}
 use Rattle.words.specs.Labels.{Checked, good, refused, andThen}
 use Rattle.words.specs.Steps.{Composition, stepsAt, finalAt}
@@ -133,6 +133,24 @@ module _ (l : Lent) (c : Composition) where
   pub final-late : (w : World) → Kept l c w → (n : ℕ) → w .session .used .states ≤ n → finalIn l w n .answer ≡ refused 9
   unfolding finalWeightOf enteredAt
   final-late w k n h = rw (k .sound .enters, le-leb _ _ h)
+
+  -- where it is found its final weight is answered
+  pub final-is : (w : World) → Kept l c w → (n : ℕ) → UsedState w n → finalIn l w n .answer ≡ finalAt c (stateAt w n)
+  final-is w k n h = ap (λ (o : Outcome (Option ℕ)). o .answer) (final-under w k n h) ∙ go (finalAt c (stateAt w n))
+    where
+      go : (o : Checked (Option ℕ)) → settle (w .session) (w .memory) (andThen o (λ x. good (unchanged (w .session) (w .memory) x))) .answer ≡ o
+      go (good x) = refl
+      go (refused j) = refl
+
+  -- words are handed back for expanded states alone
+  pub handed-or-none : (w : World) → Kept l c w → (n : ℕ) → Expanded w n ⊎ (handedIn l w n ≡ [])
+  unfolding recordsOf enteredAt
+  handed-or-none w k n = go (leb (w .session .used .states) n) refl (eqb (expandedAt (w .memory .states) n) 1) refl
+    where
+      go : (b : Bool) → leb (w .session .used .states) n ≡ b → (t : Bool) → eqb (expandedAt (w .memory .states) n) 1 ≡ t → Expanded w n ⊎ (handedIn l w n ≡ [])
+      go true p t q = inr (rw (k .sound .enters, p))
+      go false p true q = inl (leb-false _ _ p, eqb-true _ _ q)
+      go false p false q = inr (rw (k .sound .enters, p, q))
 
   -- the world after the expansions of k states from n on
   abbrev afterThese : World → ℕ → ℕ → World

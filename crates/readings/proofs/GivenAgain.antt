@@ -3,23 +3,23 @@
 use mathlib.Core.Path.{_≡_, refl, sym, _∙_, ap, subst}
 use mathlib.Core.Bool.{Bool, true, false}
 use mathlib.Core.List.{List, [], _∷_, _++_, nil≢cons}
+use mathlib.Core.Logic.{⊎-elim}
 use mathlib.Core.Option.{Option}
 use Prim.Native.Nat.{ℕ, zero, suc}
-use lib.Dec.{eqb, leb}
-use borrow.Author.Tests.{eqb-true, leb-false}
+use lib.Dec.{leb}
+use borrow.Author.Tests.{leb-false}
 use native.Mathlib.Omega.{arith}
 use Rattle.words.specs.Labels.{Checked, good, refused}
 use Rattle.words.specs.Steps.{Composition}
 use Rattle.words.specs.Settings.{Settings, Lent}
-use Rattle.calls.specs.Store.{expandedAt, Part}
-use Rattle.calls.specs.Checks.{enteredAt}
-use Rattle.calls.specs.Calls.{Outcome, recordsOf, onward, runBy, runFrom, runOf}
+use Rattle.calls.specs.Store.{Part}
+use Rattle.calls.specs.Calls.{Outcome, onward, runBy, runFrom, runOf}
 use Rattle.calls.specs.Sequences.{World, Call, opening, expand, finalWeight, records, run, accepted, part, weight, Reply, answered, handed, saidOf, turnOf, callOf, after}
 use Rattle.calls.proofs.ExpandCases.{stayed, by-expand}
 use Rattle.readings.specs.Worlds.{worldOf, openIn, expandIn, finalIn, runIn, handedIn, Refused, OpeningsRefused, UsedState, Expanded}
 use Rattle.readings.specs.Again.{Again, GivesAgain}
 use Rattle.readings.proofs.Grows.{Kept, grows-none}
-use Rattle.readings.proofs.CallsKept.{Onto, expand-again, expand-lists, final-stays, run-onto, again-onto}
+use Rattle.readings.proofs.CallsKept.{Onto, expand-again, expand-lists, final-stays, handed-or-none, run-onto, again-onto}
 use Rattle.readings.proofs.CallLists.{open-stays, one-call, calls-onto}
 
 module _ (l : Lent) (c : Composition) where
@@ -65,13 +65,7 @@ module _ (l : Lent) (c : Composition) where
 
   -- words are handed back for expanded states alone
   handed-expanded : (w : World) → Kept l c w → (n : ℕ) (x : ℕ) (xs : List ℕ) → handedIn l w n ≡ x ∷ xs → Expanded w n
-  unfolding recordsOf enteredAt
-  handed-expanded w k n x xs e = found (leb (w .session .used .states) n) refl (eqb (expandedAt (w .memory .states) n) 1) refl
-    where
-      found : (b : Bool) → leb (w .session .used .states) n ≡ b → (t : Bool) → eqb (expandedAt (w .memory .states) n) 1 ≡ t → Expanded w n
-      found true p t q = absurd (nil≢cons (rw (k .sound .enters, p) at e))
-      found false p true q = (leb-false _ _ p, eqb-true _ _ q)
-      found false p false q = absurd (nil≢cons (rw (k .sound .enters, p, q) at e))
+  handed-expanded w k n x xs e = ⊎-elim (λ y. y) (λ y. absurd (nil≢cons (sym y ∙ e))) (handed-or-none l c w k n)
 
   -- the second of two replies to one call
   module _ (w : World) (k : Kept l c w) (middle later : List Call) where

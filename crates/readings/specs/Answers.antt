@@ -10,13 +10,13 @@ use Rattle.lists.specs.Lists.{interval, putIf}
 use Rattle.papers.specs.Composition.{Triple}
 use Rattle.words.specs.Labels.{Checked, good, refused}
 use Rattle.words.specs.Sides.{Side}
-use Rattle.words.specs.Steps.{Composition, Step, stepsAt, startAt}
+use Rattle.words.specs.Steps.{Composition, Step, stepsAt, startAt, finalAt}
 use Rattle.words.specs.Settings.{Settings, Lent, compositionOf}
 use Rattle.calls.specs.Store.{Memory, stateRoom, trRoom, sameTriple}
 use Rattle.calls.specs.Checks.{Session, sideFor}
 use Rattle.calls.specs.Calls.{openOf}
 use Rattle.calls.specs.Sequences.{World, Call, expand, run, after}
-use Rattle.readings.specs.Worlds.{worldOf, expandIn, finalIn, runIn, Accepted, UsedState, Expanded, stateAt}
+use Rattle.readings.specs.Worlds.{worldOf, expandIn, finalIn, runIn, handedIn, Accepted, UsedState, Expanded, stateAt}
 
 -- "Opening checks 1 to 7, then 13 (not if a machine lacks a start: then no state is found)", where 13 is "a record or, at opening, a head is lacking"
 abbrev pub HasStart : Settings → Lent → Side → Type 0
@@ -90,12 +90,16 @@ pub record Decides (l : Lent) (c : Composition) (w : World) (n : ℕ) : Type 0 w
   pub stops : (k : ℕ) → k ≢ 13 → (expandIn l w n .answer ≡ refused k)
       ↔ ((steps : List Step) × (others : List (Checked Step)) × (stepsAt c (stateAt w n) ≡ map good steps ++ (refused k ∷ others)) × RoomFor w steps)
 
--- What the next call answers in every world that a list of calls leads to; an expanded state's list and a final weight are in 3a.
+-- What the next call answers in every world that a list of calls leads to; for an expanded state's list see 3a.
 pub record Answers (l : Lent) (c : Composition) (w : World) : Type 0 where
   -- 9 is "state not found yet"
   pub expand-nine : (n : ℕ) → (expandIn l w n .answer ≡ refused 9) ↔ (UsedState w n → ⊥)
   pub final-nine : (n : ℕ) → (finalIn l w n .answer ≡ refused 9) ↔ (UsedState w n → ⊥)
   -- the expansion of a found state that is not expanded
   pub expands : (n : ℕ) → UsedState w n → (Expanded w n → ⊥) → Decides l c w n
+  -- the final weight of a found state is document 01's
+  pub finals : (n : ℕ) → UsedState w n → finalIn l w n .answer ≡ finalAt c (stateAt w n)
+  -- "an empty part where n is not expanded"
+  pub hands-none : (n : ℕ) → (Expanded w n → ⊥) → handedIn l w n ≡ []
   -- a run
   pub runs : RunIs l w
