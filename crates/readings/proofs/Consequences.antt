@@ -1,7 +1,7 @@
 -- What the claim says of single calls, from the claim alone: an accepted expansion leaves the list that it answered and expands no other state; a run expands
 -- just the states that it passes; an opening expands none.
 use mathlib.Core.Path.{_≡_, refl, sym, _∙_, ap, ap₂, subst}
-use mathlib.Core.Bool.{Bool, true, false, true≢false}
+use mathlib.Core.Bool.{true≢false}
 use mathlib.Core.List.{List, [], _∷_, _++_, List·Memᴰ as In, List·Memᴰ·head as here, List·Memᴰ·tail as there, append-nil, append-assoc, nil≢cons, head-eq-of-cons-eq, tail-eq-of-cons-eq}
 use mathlib.Core.Logic.{_⊎_, inl, inr, ⊎-elim}
 use Prim.Native.Nat.{ℕ, _+_, _<_}
@@ -12,6 +12,7 @@ use Rattle.words.specs.Steps.{Composition}
 use Rattle.words.specs.Settings.{Settings, Lent}
 use Rattle.words.proofs.CheckedLaws.{good≢refused}
 use Rattle.calls.specs.Store.{Memory, Part}
+use Rattle.calls.specs.Checks.{Session}
 use Rattle.calls.specs.Calls.{Outcome}
 use Rattle.calls.specs.Sequences.{World, Call, opening, expand, finalWeight, records, run, part, refusal, accepted, weight, Reply, answered, handed, saidOf, turnOf, callOf, replies, after}
 use Rattle.readings.specs.Worlds.{worldOf, expandIn, runIn, Accepted, OpeningsRefused, UsedState, Expanded, partIn}
@@ -49,20 +50,15 @@ unfolding after
 after-one l w [] x = refl
 after-one l w (y ∷ cs) x = after-one l (callOf l w y .world) cs x
 
--- the part of a reply that says one
-abbrev partSaid : Reply → Part
-partSaid (answered (part p) s) = p
-partSaid (answered (refusal k) s) = record { first = 0; count = 0 }
-partSaid (answered accepted s) = record { first = 0; count = 0 }
-partSaid (answered (weight x) s) = record { first = 0; count = 0 }
-partSaid (handed ws) = record { first = 0; count = 0 }
+-- replies that say parts, and expansions, that are equal
+part-said : {p q : Part} {s t : Session} → answered (part p) s ≡ answered (part q) t → p ≡ q
+part-said e = cc
 
-abbrev is-run : Call → Bool
-is-run run = true
-is-run (opening s k) = false
-is-run (expand n) = false
-is-run (finalWeight n) = false
-is-run (records n) = false
+number-of : {j n : ℕ} → expand j ≡ expand n → j ≡ n
+number-of e = cc
+
+run-is-none : {n : ℕ} → run ≡ expand n → ⊥
+run-is-none e = true≢false cc
 
 -- a call of a longer list is one of the first, or the last
 last-or-not : (before later cs : List Call) (y x : Call) → before ++ (y ∷ later) ≡ cs ++ (x ∷ [])
@@ -147,7 +143,7 @@ module _ (s : Settings) (l : Lent) (m : Memory) (c : Composition) (w : World) (D
         let a = subst (λ (y : World). Again l y y) (after-one l w cs (expand n)) stays in
         let second : answered (part (partIn u n)) (u .session) ≡ answered (part p) (g .0) =
         sym (ap (λ (y : World). turnOf part (expandIn l y n) .reply) (after-one l w cs (expand n)) ∙ ap (λ (o : Outcome Part). turnOf part o .reply) (a .list n x)) ∙ g .1 in
-        ap partSaid second
+        part-said second
 
     pub leaves : Leaves l v
     unfolding callOf
@@ -167,25 +163,15 @@ module _ (s : Settings) (l : Lent) (m : Memory) (c : Composition) (w : World) (D
         by-last n j (by-expand before later e a) =
             ⊎-elim (λ z. inl (earlier j (by-expand before (z .0) (z .1) a)))
             (λ z.
-            let same : j ≡ n = number (z .1) in
+            let same : j ≡ n = number-of (z .1) in
             inr (same, subst (λ i. Accepted (expandIn l v i)) same (subst (λ (y : List Call). Accepted (expandIn l (after l w y) j)) (z .0) a)))
             (last-or-not before later cs (expand j) (expand n) e)
-          where
-            of-expand : Call → ℕ
-            of-expand (expand i) = i
-            of-expand (opening s k) = 0
-            of-expand (finalWeight i) = 0
-            of-expand (records i) = 0
-            of-expand run = 0
-
-            number : expand j ≡ expand n → j ≡ n
-            number z = ap of-expand z
         by-last n j (by-run before later e a) =
-            ⊎-elim (λ z. inl (earlier j (by-run before (z .0) (z .1) a))) (λ z. absurd (true≢false (ap is-run (z .1)))) (last-or-not before later cs run (expand n) e)
+            ⊎-elim (λ z. inl (earlier j (by-run before (z .0) (z .1) a))) (λ z. absurd (run-is-none (z .1))) (last-or-not before later cs run (expand n) e)
 
         in-run : (k : ℕ) → expandIn l (worldOf (runIn l v)) (ran .stop) .answer ≡ refused k → (j : ℕ) → ExpandedBy l w (cs ++ (run ∷ [])) j → (j < ran .stop) ⊎ Expanded v j
         in-run k q j (by-expand before later e a) =
-            ⊎-elim (λ z. inr (earlier j (by-expand before (z .0) (z .1) a))) (λ z. absurd (true≢false (ap is-run (sym (z .1))))) (last-or-not before later cs (expand j) run e)
+            ⊎-elim (λ z. inr (earlier j (by-expand before (z .0) (z .1) a))) (λ z. absurd (run-is-none (sym (z .1)))) (last-or-not before later cs (expand j) run e)
         in-run k q j (by-run before later e a) =
             ⊎-elim (λ z. inr (earlier j (by-run before (z .0) (z .1) a))) (λ z. inl (go (decLt j (ran .stop)) (subst (λ (y : List Call). PassesBefore l (after l w y) (j + 1)) (z .0) a)))
             (last-or-not before later cs run run e)

@@ -15,7 +15,7 @@ use Rattle.words.specs.Steps.{Composition}
 use Rattle.calls.specs.Store.{Memory, Part, roomOf, trRoom, expandedAt, firstAt, partAt}
 use Rattle.calls.specs.Checks.{Session, storeOf, enteredAt}
 use Rattle.calls.specs.Calls.{Outcome, wordsOf, expandOf, recordsOf}
-use Rattle.calls.specs.Sequences.{World, expand, records, refusal, accepted, part, weight, Reply, answered, handed, turnOf, callOf}
+use Rattle.calls.specs.Sequences.{World, expand, records, part, answered, handed, turnOf, callOf}
 use Rattle.calls.proofs.RecordLaws.{room-words}
 use Rattle.calls.proofs.ExpandKept.{entered-is}
 use Rattle.calls.proofs.Parts.{part-within}
@@ -54,17 +54,12 @@ names-part l s m n = by-checks (enteredAt l s m n) refl (eqb (expandedAt (m .sta
     by-checks (good c) e true f h =
         rw (e, f) (ap (λ (p : Part). record { answer = good p; session = s; memory = m }) (sym (part-is l s m n c e (rw (e, f) at h))))
 
--- the words, and the part, of a reply
-abbrev wordsSaid : Reply → List ℕ
-wordsSaid (answered said s) = []
-wordsSaid (handed ws) = ws
+-- replies that hand back words, or say parts, that are equal
+words-said : {ws vs : List ℕ} → handed ws ≡ handed vs → ws ≡ vs
+words-said e = cc
 
-abbrev partSaid : Reply → Part
-partSaid (answered (part p) s) = p
-partSaid (answered (refusal k) s) = record { first = 0; count = 0 }
-partSaid (answered accepted s) = record { first = 0; count = 0 }
-partSaid (answered (weight x) s) = record { first = 0; count = 0 }
-partSaid (handed ws) = record { first = 0; count = 0 }
+part-said : {p q : Part} {s t : Session} → answered (part p) s ≡ answered (part q) t → p ≡ q
+part-said e = cc
 
 -- Two worlds that reply alike to handing back n, and to expand n where the first answers it by a list: the two words are the same, whatever the answers' slices held.
 pub records-alike : (l : Lent) (w v : World) (n a b c d : ℕ) → callOf l v (records n) .reply ≡ callOf l w (records n) .reply
@@ -74,7 +69,7 @@ unfolding callOf recordsWords
 records-alike l w v n a b c d same again = ap partWords (go (ℕ-discrete (roomOf 5 (recordsOf l (w .session) (w .memory) n)) 0))
   where
     words : recordsOf l (v .session) (v .memory) n ≡ recordsOf l (w .session) (w .memory) n
-    words = ap wordsSaid same
+    words = words-said same
 
     first : Part
     first = handedPart (w .memory .states) n (recordsOf l (w .session) (w .memory) n)
@@ -84,4 +79,4 @@ records-alike l w v n a b c d same again = ap partWords (go (ℕ-discrete (roomO
     go (no z) =
         let p = ap (λ (o : Outcome Part). turnOf part o .reply) (names-part l (w .session) (w .memory) n z) in
         let q = ap (λ (o : Outcome Part). turnOf part o .reply) (names-part l (v .session) (v .memory) n (λ y. z (sym (ap (roomOf 5) words) ∙ y))) in
-        ap partSaid (sym q ∙ again first p ∙ p)
+        part-said (sym q ∙ again first p ∙ p)
