@@ -14,7 +14,7 @@ use Rattle.words.proofs.CheckedLaws.{good≢refused}
 use Rattle.calls.specs.Store.{Memory, Part}
 use Rattle.calls.specs.Checks.{Session}
 use Rattle.calls.specs.Calls.{Outcome}
-use Rattle.calls.specs.Sequences.{World, Call, opening, expand, finalWeight, records, run, part, refusal, accepted, weight, Reply, answered, handed, saidOf, turnOf, callOf, replies, after}
+use Rattle.calls.specs.Sequences.{World, Call, opening, expand, finalWeight, records, run, part, Reply, answered, saidOf, turnOf, callOf, replies, after}
 use Rattle.readings.specs.Worlds.{worldOf, expandIn, runIn, Accepted, OpeningsRefused, UsedState, Expanded, partIn}
 use Rattle.readings.specs.Answers.{PassesBefore, ExpandedBy, by-expand, by-run, RunIs}
 use Rattle.readings.specs.Again.{Again, replyAfter, GivesAgain}
