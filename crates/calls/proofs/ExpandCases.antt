@@ -97,7 +97,7 @@ stored-refused d (good st ∷ others) k e =
     (stop-then (storeStep d next st) _ k e)
 
 -- a refusal among the steps of a composed state is 10, 11 or 12
-listed-refused : (s : Settings) (l : Lent) (side : Side) → wellFormed (l .m1) ≡ true → wellFormed (l .m2) ≡ true → sideOf (operand1 s l) (operand2 s l) ≡ good side
+pub listed-refused : (s : Settings) (l : Lent) (side : Side) → wellFormed (l .m1) ≡ true → wellFormed (l .m2) ≡ true → sideOf (operand1 s l) (operand2 s l) ≡ good side
     → (t : Triple) (k : ℕ) → In (refused k) (stepsAt (compositionOf s l side) t) → (10 ≤ k) × (k ≤ 12)
 unfolding stepsAt
 listed-refused s l side w1 w2 e t k i = go (directionOf (compositionOf s l side) t) refl

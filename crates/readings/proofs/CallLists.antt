@@ -1,14 +1,15 @@
--- Lists of calls: what each call keeps, every list keeps; so every world of a list is sound, and what it gave is given again at the end.
+-- Lists of calls: what each call keeps, every list keeps; so every world of a list is sound, and what it gave is given again in every later one.
 use mathlib.Core.Path.{_≡_, refl, sym, subst}
-use mathlib.Core.List.{List, [], _∷_, _++_, append-nil}
+use mathlib.Core.List.{List, [], _∷_, _++_}
 use Rattle.words.specs.Steps.{Composition}
 use Rattle.words.specs.Settings.{Settings, Lent}
 use Rattle.calls.specs.Calls.{Outcome, openOf}
 use Rattle.calls.specs.Sequences.{World, Call, opening, expand, finalWeight, records, run, callOf, after}
 use Rattle.calls.proofs.OpenCases.{by-open}
-use Rattle.readings.specs.Demands.{worldOf, Refused, OpeningsRefused, Sound, Leaves, Again}
+use Rattle.readings.specs.Worlds.{worldOf, Refused, OpeningsRefused}
+use Rattle.readings.specs.Again.{Again}
 use Rattle.readings.proofs.Grows.{Kept}
-use Rattle.readings.proofs.CallsKept.{Onto, onto-none, onto-on, expand-onto, final-stays, run-onto, leaves, again-onto}
+use Rattle.readings.proofs.CallsKept.{Onto, onto-none, onto-on, expand-onto, final-stays, run-onto, again-onto}
 
 -- a refused opening leaves all as it was
 pub open-stays : (s : Settings) (k : Lent) (w : World) → Refused (openOf s k (w .session) (w .memory) .answer) → worldOf (openOf s k (w .session) (w .memory)) ≡ w
@@ -35,19 +36,28 @@ module _ (l : Lent) (c : Composition) where
       let b = calls-onto (callOf l w x .world) before later (a .0 .kept) (a .1) in
       (onto-on l c w (callOf l w x .world) (after l (callOf l w x .world) before) (a .0) (b .0), b .1)
 
-  after-append : (w : World) (before later : List Call) → after l (after l w before) later ≡ after l w (before ++ later)
+  -- the openings among the first calls are refused too
+  pub openings-before : (w : World) (before later : List Call) → OpeningsRefused l w (before ++ later) → OpeningsRefused l w before
+  openings-before w [] later r = tt
+  openings-before w (opening s k ∷ before) later r = (r .0, openings-before (callOf l w (opening s k) .world) before later (r .1))
+  openings-before w (expand n ∷ before) later r = openings-before (callOf l w (expand n) .world) before later r
+  openings-before w (finalWeight n ∷ before) later r = openings-before (callOf l w (finalWeight n) .world) before later r
+  openings-before w (records n ∷ before) later r = openings-before (callOf l w (records n) .world) before later r
+  openings-before w (run ∷ before) later r = openings-before (callOf l w run .world) before later r
+
+  pub after-append : (w : World) (before later : List Call) → after l (after l w before) later ≡ after l w (before ++ later)
   unfolding after
   after-append w [] later = refl
   after-append w (x ∷ before) later = after-append (callOf l w x .world) before later
 
-  pub calls-sound : (w : World) (cs : List Call) → Kept l c w → OpeningsRefused l w cs → (before later : List Call) → before ++ later ≡ cs → Sound l c (after l w before) × Leaves l (after l w before)
-  calls-sound w cs h r before later e =
-      let a = calls-onto w before later h (subst (OpeningsRefused l w) (sym e) r) in
-      (a .0 .kept .sound, leaves l c (after l w before) (a .0 .kept))
+  -- the world at a point of the list
+  pub calls-kept : (w : World) (cs : List Call) → Kept l c w → OpeningsRefused l w cs → (before later : List Call) → before ++ later ≡ cs → Kept l c (after l w before)
+  calls-kept w cs h r before later e = calls-onto w before later h (subst (OpeningsRefused l w) (sym e) r) .0 .kept
 
-  pub calls-again : (w : World) (cs : List Call) → Kept l c w → OpeningsRefused l w cs → (before later : List Call) → before ++ later ≡ cs → Again l (after l w before) (after l w cs)
-  calls-again w cs h r before later e =
-      let a = calls-onto w before later h (subst (OpeningsRefused l w) (sym e) r) in
+  pub calls-again : (w : World) (cs : List Call) → Kept l c w → OpeningsRefused l w cs → (before middle later : List Call) → before ++ (middle ++ later) ≡ cs
+      → Again l (after l w before) (after l w (before ++ middle))
+  calls-again w cs h r before middle later e =
+      let a = calls-onto w before (middle ++ later) h (subst (OpeningsRefused l w) (sym e) r) in
       let v = after l w before in
-      let b = calls-onto v later [] (a .0 .kept) (subst (OpeningsRefused l v) (sym (append-nil later)) (a .1)) in
-      subst (Again l v) (subst (λ (q : List Call). after l v later ≡ after l w q) e (after-append w before later)) (again-onto l c v (after l v later) (a .0 .kept) (b .0))
+      let b = calls-onto v middle later (a .0 .kept) (a .1) in
+      subst (Again l v) (after-append w before middle) (again-onto l c v (after l v middle) (a .0 .kept) (b .0))

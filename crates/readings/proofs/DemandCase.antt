@@ -2,6 +2,7 @@
 -- and a final weight. In a memory of one state record less the run is refused by 13, and there the answers part.
 use mathlib.Core.Path.{_≡_, refl, sym, _∙_, subst}
 use mathlib.Core.List.{List, [], _∷_}
+use mathlib.Core.Logic.{inl}
 use mathlib.Core.Option.{some}
 use Prim.Native.Nat.{ℕ}
 use native.Mathlib.Omega.{arith}
@@ -14,43 +15,49 @@ use Rattle.words.specs.Settings.{Settings, Lent, compositionOf}
 use Rattle.words.proofs.CheckedLaws.{good-is}
 use Rattle.calls.specs.Store.{Memory}
 use Rattle.calls.specs.Checks.{Session, sideFor}
-use Rattle.calls.specs.Calls.{openOf, recordsOf}
+use Rattle.calls.specs.Calls.{openOf}
 use Rattle.calls.specs.Sequences.{World, Call, opening, expand, finalWeight, records, run, Reply, refusal, accepted, weight, answered, handed, replies, after}
 use Rattle.calls.specs.Listing.{settingsOf}
 use Rattle.calls.proofs.Cases.{Holds}
-use Rattle.calls.proofs.StarCases.{plain, lend, session, listPart, example1, example2}
-use Rattle.readings.specs.Demands.{worldOf, OpeningsRefused, SameUntil, Sound, Demand3}
-use Rattle.readings.proofs.Openings.{open-keeps}
-use Rattle.readings.proofs.CallLists.{calls-sound, calls-again}
+use Rattle.calls.proofs.StarCases.{plain, lend, session, world, listPart, example1, example2}
+use Rattle.readings.specs.Worlds.{worldOf, handedIn, OpeningsRefused, Sound}
+use Rattle.readings.specs.Answers.{ExpandedBy}
+use Rattle.readings.specs.Again.{replyAfter}
+use Rattle.readings.specs.Larger.{SameUntil}
+use Rattle.readings.specs.StorePaths.{Finished, Paths}
+use Rattle.readings.specs.Listed.{pickOf}
+use Rattle.readings.specs.Demands.{Demand3}
+use Rattle.readings.proofs.Openings.{opens}
+use Rattle.readings.proofs.StoreWalks.{finishedTest, test-finished}
 use Rattle.readings.proofs.LargerMemory.{larger}
 use Rattle.readings.proofs.Demands.{demand-3}
 
-abbrev both : Lent
+abbrev pub both : Lent
 both = lend example1 example2
 
-abbrev set : Settings
+abbrev pub set : Settings
 set = settingsOf (plain 0 0)
 
 -- the session that the opening gets is unread
-abbrev got : Session
+abbrev pub got : Session
 got = session (1 ∷ 2 ∷ 3 ∷ 4 ∷ 5 ∷ 6 ∷ []) 7 8 9
 
 -- room for the four states and three transitions that are found; three heads
-abbrev large : Memory
+abbrev pub large : Memory
 large = record { heads = 9 ∷ 9 ∷ 9 ∷ []; states = replicate 24 8; trs = replicate 17 6 }
 
 -- room for three states; two heads
-abbrev small : Memory
+abbrev pub small : Memory
 small = record { heads = 7 ∷ 7 ∷ []; states = replicate 19 5; trs = replicate 15 4 }
 
-abbrev from : Memory → World
+abbrev pub from : Memory → World
 from m = worldOf (openOf set both got m)
 
 -- expand, an opening with the kind 2, which is refused by 1, run, handing back, expand again, final weight
 abbrev calls : List Call
 calls = expand 0 ∷ opening (settingsOf (plain 2 0)) both ∷ run ∷ records 1 ∷ expand 0 ∷ finalWeight 3 ∷ []
 
-abbrev with : ℕ → ℕ → Session
+abbrev pub with : ℕ → ℕ → Session
 with states trs = session (plain 0 0) 1 states trs
 
 -- what the list returns in the larger memory, and in the smaller
@@ -98,11 +105,11 @@ refused-small : OpeningsRefused both (from small) calls
 unfolding Holds
 refused-small = (tt, tt)
 
-rule : sideFor set both ≡ good (only outputs)
+pub rule : sideFor set both ≡ good (only outputs)
 unfolding Holds
 rule = refl
 
-abbrev c : Composition
+abbrev pub c : Composition
 c = compositionOf set both (only outputs)
 
 -- the claim holds of this list
@@ -113,14 +120,43 @@ claimed =
 
 -- its world at the end is sound
 pub sound-there : Sound both c (after both (from large) calls)
-sound-there = calls-sound both c (from large) calls (open-keeps set both got large opens-large (only outputs) rule) refused-large calls [] refl .0
+sound-there = claimed .sound calls [] refl
 
 -- state 1, expanded in the run, has its words again at the end
-pub again-there : recordsOf both (after both (from large) calls .session) (after both (from large) calls .memory) 1 ≡ 0 ∷ 7 ∷ 4 ∷ 2 ∷ 0 ∷ []
+pub again-there : handedIn both (after both (from large) calls) 1 ≡ 0 ∷ 7 ∷ 4 ∷ 2 ∷ 0 ∷ []
 unfolding Holds
-again-there =
-    calls-again both c (from large) calls (open-keeps set both got large opens-large (only outputs) rule) refused-large
-    (expand 0 ∷ opening (settingsOf (plain 2 0)) both ∷ run ∷ []) (records 1 ∷ expand 0 ∷ finalWeight 3 ∷ []) refl .words 1 (omega arith, refl)
+again-there = claimed .again (expand 0 ∷ opening (settingsOf (plain 2 0)) both ∷ run ∷ []) (records 1 ∷ expand 0 ∷ finalWeight 3 ∷ []) [] refl .words 1 (omega arith, refl)
+
+-- state 3 is expanded by the calls made, and expand 0, asked again after the run, gives the part that it gave
+pub expanded-there : ExpandedBy both (from large) calls 3
+unfolding Holds
+expanded-there = claimed .expanded calls [] refl 3 .0 (omega arith, refl)
+
+pub given-there : (t : Session) × (replyAfter both (from large) (expand 0 ∷ opening (settingsOf (plain 2 0)) both ∷ run ∷ records 1 ∷ []) (expand 0) ≡ answered (listPart 1 1) t)
+unfolding Holds
+given-there = claimed .given [] (opening (settingsOf (plain 2 0)) both ∷ run ∷ records 1 ∷ []) (finalWeight 3 ∷ []) (expand 0) refl
+
+-- what it leaves: states (0, 0, 0), (1, 0, 0), (1, 1, 0), (2, 2, 0), three of them with one transition
+abbrev left : World
+left =
+    world (with 4 3) (1 ∷ 4 ∷ 3 ∷ [])
+    (0 ∷ 0 ∷ 1 ∷ 1 ∷ 0 ∷ 65536 ∷ 0 ∷ 1 ∷ 2 ∷ 0 ∷ 65537 ∷ 0 ∷ 1 ∷ 3 ∷ 0 ∷ 131074 ∷ 0 ∷ 1 ∷ 0 ∷ 2 ∷ replicate 4 8)
+    (1 ∷ 0 ∷ 1 ∷ 1 ∷ 0 ∷ 0 ∷ 7 ∷ 4 ∷ 2 ∷ 0 ∷ 2 ∷ 8 ∷ 3 ∷ 3 ∷ 0 ∷ replicate 2 6)
+
+pub left-there : after both (from large) calls ≡ left
+unfolding Holds
+left-there = refl
+
+finished-left : Finished set both left
+unfolding Holds finishedTest
+finished-left = test-finished set both left refl
+
+-- every found state is expanded there, and has a final weight or none: 3c speaks of it
+pub finished-there : Finished set both (after both (from large) calls)
+finished-there = subst (Finished set both) (sym left-there) finished-left
+
+pub paths-there : Paths both c (pickOf 0) (after both (from large) calls)
+paths-there = claimed .paths finished-there
 
 -- the smaller memory's answers, up to its 13, are the larger one's
 pub same-there : SameUntil saidSmall said
@@ -130,6 +166,9 @@ same-there =
     (larger set both got got small large (record { heads = omega arith; states = omega arith; trs = omega arith }) opens-small (only outputs) rule calls refused-small .same))
 
 -- a memory without heads is shorter: its opening is refused
-pub no-heads : openOf set both got (record { heads = []; states = replicate 24 8; trs = replicate 17 6 }) .answer ≡ refused 13
+abbrev headless : Memory
+headless = record { heads = []; states = replicate 24 8; trs = replicate 17 6 }
+
+pub no-heads : openOf set both got headless .answer ≡ refused 13
 unfolding Holds
-no-heads = refl
+no-heads = opens set both got headless .full .1 (only outputs, rule, (record { s1 = 0; s2 = 0; f = 0 }, refl), inl refl)

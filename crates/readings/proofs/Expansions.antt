@@ -21,7 +21,7 @@ use Rattle.calls.proofs.FindLaws.{whole-distinct}
 use Rattle.calls.proofs.StepsMade.{IsTr, written-at, stay-triple}
 use Rattle.calls.proofs.Parts.{some-first, in-new, of-new}
 use Rattle.calls.proofs.ExpandMade.{markedBy, ExpandMade, expand-made}
-use Rattle.readings.specs.Demands.{Expanded, partIn, recordsIn, stateAt, targetOf, Found, at-start, as-target, IsRecord, IsList, Sound}
+use Rattle.readings.specs.Worlds.{Expanded, partIn, recordsIn, stateAt, targetOf, Found, at-start, as-target, IsRecord, IsList, Sound}
 use Rattle.readings.proofs.Grows.{Kept, Grows}
 
 -- a record of an earlier world in a later one, and a list

@@ -10,7 +10,7 @@ use Rattle.calls.specs.Checks.{storeOf}
 use Rattle.calls.specs.Sequences.{World}
 use Rattle.calls.proofs.RecordLaws.{room-same}
 use Rattle.calls.proofs.FindLaws.{Whole}
-use Rattle.readings.specs.Demands.{Expanded, partIn, stateAt, Sound}
+use Rattle.readings.specs.Worlds.{Expanded, partIn, stateAt, Sound}
 
 pub record Kept (l : Lent) (c : Composition) (w : World) : Type 0 where
   pub sound : Sound l c w

@@ -22,7 +22,8 @@ use Rattle.calls.proofs.StepsStay.{add-stays}
 use Rattle.calls.proofs.ExpandKept.{entered-is}
 use Rattle.calls.proofs.OpenCases.{openedAs, Begins, by-open, open-empty, open-begun, begun-field}
 use Rattle.calls.proofs.TwoStores.{Alike, Roomier, roomier-stays}
-use Rattle.readings.specs.Demands.{worldOf, OpeningsRefused, NoShorter, NoRoom, SameUntil, Larger}
+use Rattle.readings.specs.Worlds.{worldOf, OpeningsRefused}
+use Rattle.readings.specs.Larger.{NoShorter, NoRoom, SameUntil, Larger}
 use Rattle.readings.proofs.Grows.{room-grows}
 use Rattle.readings.proofs.CallsKept.{expand-onto}
 use Rattle.readings.proofs.CallLists.{one-call}

@@ -13,7 +13,7 @@ pub mod PathEnds
 pub mod PathRecords
 pub mod PathFollows
 pub mod StorePaths
-pub mod PathExample
+pub mod StoreWalks
 pub mod Grows
 pub mod Expansions
 pub mod CallsKept
@@ -24,3 +24,10 @@ pub mod LargerMemory
 pub mod NeverEight
 pub mod Demands
 pub mod DemandCase
+pub mod Rooms
+pub mod Decided
+pub mod Answered
+pub mod GivenAgain
+pub mod Consequences
+pub mod PathExample
+pub mod RoomCase

@@ -1,21 +1,25 @@
 -- Whatever memory held, an accepted opening establishes what every call keeps: state 0 is the start, nothing is expanded, no transition is used.
-use mathlib.Core.Path.{_≡_, sym, _∙_, ap, subst}
-use mathlib.Core.Option.{none, some, Option·none-ne-some, Option·some-injective}
+use mathlib.Core.Path.{_≡_, refl, sym, _∙_, ap, subst}
+use mathlib.Core.Logic.{_⊎_, inl, inr, ⊎-elim}
+use mathlib.Core.Option.{Option, none, some, Option·none-ne-some, Option·some-injective}
 use Prim.Native.Nat.{ℕ, _<_}
 use native.Mathlib.Omega.{arith}
-use Rattle.words.specs.Labels.{good}
+use native.Mathlib.Decide.{ℕ-discrete}
+use lib.ListN.{length}
+use Rattle.words.specs.Labels.{good, refused}
 use Rattle.words.specs.Sides.{Side}
 use Rattle.words.specs.Steps.{Composition, Triple, startAt}
 use Rattle.words.specs.Settings.{Settings, Lent, compositionOf}
-use Rattle.words.proofs.CheckedLaws.{good≢refused, good-is}
-use Rattle.calls.specs.Store.{Memory, expandedAt, add}
+use Rattle.words.proofs.CheckedLaws.{good≢refused, good-is, refused-is}
+use Rattle.calls.specs.Store.{Memory, stateRoom, expandedAt, add}
 use Rattle.calls.specs.Checks.{Session, sideFor, entered}
 use Rattle.calls.specs.Calls.{Outcome, cleared, openOf}
 use Rattle.calls.specs.Sequences.{World}
 use Rattle.calls.proofs.FindLaws.{whole-distinct}
 use Rattle.calls.proofs.OpenKept.{open-kept}
-use Rattle.calls.proofs.OpenCases.{openedAs, Begins, by-open, begun-triple, begun-field, begun-whole}
-use Rattle.readings.specs.Demands.{worldOf, Expanded, Found, at-start, as-target}
+use Rattle.calls.proofs.OpenCases.{openedAs, Begins, by-open, open-empty, open-begun, side-refusals, begun-triple, begun-field, begun-whole}
+use Rattle.readings.specs.Worlds.{worldOf, Expanded, Found, at-start, as-target}
+use Rattle.readings.specs.Answers.{HasStart, Opens}
 use Rattle.readings.proofs.Grows.{Kept}
 
 module _ (s : Settings) (l : Lent) (side : Side) (rule : sideFor s l ≡ good side) (m : Memory) where
@@ -101,3 +105,50 @@ open-unexpanded s l got m =
     (λ x r h z n y. omega (arith, y .0))
     (λ x t r h z. absurd (good≢refused (sym z)))
     (λ x t r h b z. bare s l x r m t h b)
+
+-- an opening is accepted, or refused by 13, just where 01 says so
+module _ (s : Settings) (l : Lent) (got : Session) (m : Memory) where
+  abbrev Finds : Type 0
+  Finds = (0 < length (m .heads)) × (0 < stateRoom m)
+
+  finds-or-not : Finds ⊎ ((length (m .heads) ≡ 0) ⊎ (stateRoom m ≡ 0))
+  finds-or-not = go (ℕ-discrete (length (m .heads)) 0) (ℕ-discrete (stateRoom m) 0)
+    where
+      go : Dec (length (m .heads) ≡ 0) → Dec (stateRoom m ≡ 0) → Finds ⊎ ((length (m .heads) ≡ 0) ⊎ (stateRoom m ≡ 0))
+      go (yes a) b = inr (inl a)
+      go (no a) (yes b) = inr (inr b)
+      go (no a) (no b) = inl (omega (arith, a), omega (arith, b))
+
+  begins : (side : Side) → sideFor s l ≡ good side → HasStart s l side → Finds → openOf s l got m .answer ≡ good tt
+  begins side e h f = ap (λ (o : Outcome (Unit {0})). o .answer) (open-begun s l got m side (h .0) e (h .1) (record { room = f .1; headed = f .0 }))
+
+  pub opens : Opens s l got m
+  opens = record {
+    accepts = (
+      by-open s l got m (λ (o : Outcome (Unit {0})). o .answer ≡ good tt → (side : Side) × (sideFor s l ≡ good side) × (HasStart s l side → Finds))
+          (λ k e z. absurd (good≢refused (sym z)))
+          (λ side e h z. (side, e, λ t. absurd (Option·none-ne-some _ (sym h ∙ t .1))))
+          (λ side t e h z. absurd (good≢refused (sym z)))
+          (λ side t e h b z. (side, e, λ u. (b .headed, b .room))),
+      λ x. by-start (x .0) (x .1) (x .2) (startAt (compositionOf s l (x .0))) refl,
+    );
+    full = (
+      by-open s l got m
+          (λ (o : Outcome (Unit {0})). openOf s l got m ≡ o → o .answer ≡ refused 13 → (side : Side) × (sideFor s l ≡ good side) × HasStart s l side × ((length (m .heads) ≡ 0) ⊎ (stateRoom m ≡ 0)))
+          (λ k e q z. let r = side-refusals s l k e in absurd (omega (arith, r, refused-is z)))
+          (λ side e h q z. absurd (good≢refused z))
+          (λ side t e h q z. (side, e, (t, h), ⊎-elim (λ f. absurd (good≢refused (sym (begins side e (t, h) f) ∙ ap (λ (o : Outcome (Unit {0})). o .answer) q))) (λ f. f) finds-or-not))
+          (λ side t e h b q z. absurd (good≢refused z))
+          refl,
+      λ x.
+          by-open s l got m (λ (o : Outcome (Unit {0})). o .answer ≡ refused 13)
+          (λ k e. absurd (good≢refused (sym (x .1) ∙ e)))
+          (λ side e h. absurd (Option·none-ne-some _ (sym h ∙ subst (λ (y : Side). startAt (compositionOf s l y) ≡ some (x .2 .0)) (good-is (sym (x .1) ∙ e)) (x .2 .1))))
+          (λ side t e h. refl)
+          (λ side t e h b. absurd (⊎-elim (λ z. omega (arith, z, b .headed)) (λ z. omega (arith, z, b .room)) (x .3))),
+    );
+  }
+    where
+      by-start : (side : Side) → sideFor s l ≡ good side → (HasStart s l side → Finds) → (o : Option Triple) → startAt (compositionOf s l side) ≡ o → openOf s l got m .answer ≡ good tt
+      by-start side e f none h = ap (λ (o : Outcome (Unit {0})). o .answer) (open-empty s l got m side e h)
+      by-start side e f (some t) h = begins side e (t, h) (f (t, h))

@@ -19,7 +19,7 @@ use Rattle.words.proofs.PapersFinal.{NoEnd, final-as-papers}
 use Rattle.calls.specs.Checks.{entered, enteredAt}
 use Rattle.calls.specs.Calls.{settle, unchanged, finalWeightOf}
 use Rattle.calls.specs.Sequences.{World}
-use Rattle.readings.specs.Demands.{stateAt}
+use Rattle.readings.specs.Worlds.{stateAt}
 
 -- past the checks 1 to 9, the answer is the final weight of the triple
 pub final-answer : (l : Lent) (c : Composition) (w : World) → entered l (w .session) (w .memory) ≡ good c → (n : ℕ) → n < w .session .used .states

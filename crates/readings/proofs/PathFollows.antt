@@ -13,7 +13,8 @@ use Rattle.words.specs.Settings.{Lent}
 use Rattle.calls.specs.Store.{trField}
 use Rattle.calls.specs.Sequences.{World}
 use Rattle.readings.specs.Correspondence.{OneToOne}
-use Rattle.readings.specs.Demands.{stateAt, targetOf, AcceptingFrom, movesOfRecords, recordsOfMoves, answeredWeight, recordsWeight}
+use Rattle.readings.specs.Worlds.{stateAt, targetOf}
+use Rattle.readings.specs.StorePaths.{AcceptingFrom, movesOfRecords, recordsOfMoves, answeredWeight, recordsWeight}
 use Rattle.readings.proofs.PathEnds.{IsEnd, answered-end, end-answered}
 use Rattle.readings.proofs.PathRecords.{Link, Whole, move-link, record-link, moves-turn, records-turn}
 

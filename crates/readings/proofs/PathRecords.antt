@@ -21,7 +21,8 @@ use Rattle.calls.specs.Calls.{finalWeightOf}
 use Rattle.calls.specs.Sequences.{World}
 use Rattle.readings.specs.Listed.{entryOf, listedAt}
 use Rattle.readings.specs.Places.{thenMoves}
-use Rattle.readings.specs.Demands.{Expanded, partIn, recordsIn, stateAt, targetOf, IsRecord, IsList, Sound, movesIn, movesOfRecords, thenRecord, recordsOfMoves}
+use Rattle.readings.specs.Worlds.{Expanded, partIn, recordsIn, stateAt, targetOf, IsRecord, IsList, Sound}
+use Rattle.readings.specs.StorePaths.{movesIn, movesOfRecords, thenRecord, recordsOfMoves}
 use Rattle.readings.proofs.Placed.{place-is}
 use Rattle.readings.proofs.Listed.{listed-places, exactly-listed, words-lists}
 use Rattle.readings.proofs.PathMoves.{unwritten, listed-step, listed-length}

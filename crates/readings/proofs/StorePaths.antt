@@ -24,10 +24,12 @@ use Rattle.calls.specs.Checks.{sideFor}
 use Rattle.calls.specs.Sequences.{World}
 use Rattle.calls.proofs.ExpandKept.{sided}
 use Rattle.readings.specs.Correspondence.{OneToOne}
-use Rattle.readings.specs.Readings.{Pair}
+use Rattle.readings.specs.Readings.{pairOf, Pair}
 use Rattle.readings.specs.Listed.{pickOf}
-use Rattle.readings.specs.Demands.{stateAt, Found, at-start, as-target, Sound, AcceptingRecords, movesOfRecords, recordsOfMoves, recordsOfPair, Paths, Finished}
+use Rattle.readings.specs.Worlds.{stateAt, Found, at-start, as-target, Sound}
+use Rattle.readings.specs.StorePaths.{AgreeingPair, AcceptingRecords, movesOfRecords, recordsOfMoves, recordsOfPair, Paths, Finished}
 use Rattle.readings.proofs.Correspondences.{chained}
+use Rattle.readings.proofs.Labels.{agree-same, same-agree}
 use Rattle.readings.proofs.Listed.{readings-of}
 use Rattle.readings.proofs.PathRecords.{Whole}
 use Rattle.readings.proofs.PathFollows.{AcceptingAt, records-alike, records-moves}
@@ -80,6 +82,19 @@ module _ (l : Lent) (c : Composition) (w : World) (W : Whole l c w) where
           let f = from-start (h .0) (start-as-papers c (h .0) .1 (h .1)) in
           (f .0, subst (λ q. AcceptingAt c q ms) (sym (f .1)) (h .2))
 
+-- the pairs that match, in the demand's words
+in-words : (c : Composition) {join : List ℕ × List ℕ → List Edges} → OneToOne (AcceptingRun (semiring (c .kind)) (exact (c .kind)) (plain c)) (Pair (semiring (c .kind)) (exact (c .kind)) _≡_ (plain c)) pairOf join
+    → OneToOne (AcceptingRun (semiring (c .kind)) (exact (c .kind)) (plain c)) (AgreeingPair c) pairOf join
+in-words c r = record {
+  goes = λ ms h. let p = r .goes ms h in record { first = p .0; second = p .1; inner = agree-same _ _ (p .2) };
+  comes = λ p h. r .comes p (matching p h);
+  from-to = r .from-to;
+  to-from = λ p h. r .to-from p (matching p h);
+}
+  where
+    matching : (p : List ℕ × List ℕ) → AgreeingPair c p → Pair (semiring (c .kind)) (exact (c .kind)) _≡_ (plain c) p
+    matching p h = (h .first, h .second, same-agree _ _ (h .inner))
+
 -- 3c, of every sound and finished store: whichever the filter, the side and the order of the lists
 pub store-paths : (s : Settings) (l : Lent) (side : Side) → sideFor s l ≡ good side → (w : World) → Sound l (compositionOf s l side) w → Finished s l w
     → Paths l (compositionOf s l side) (pickOf (s .filter)) w
@@ -88,7 +103,7 @@ store-paths s l side rule w S F =
     let W = whole s l side rule w S F in
     let r = readings-of c (s .filter) refl in
     record {
-      paths = chained (start-records l c w W) (r .paths);
+      paths = chained (start-records l c w W) (in-words c (r .paths));
       weights = λ t e rs h.
           records-alike l c w W 0 (h .0) rs (h .1) .weight
           ∙ ap (λ (q : Triple). movesWeight (semiring (c .kind)) (exact (c .kind)) (plain c) (q .s1) (q .s2) (movesOfRecords c w 0 rs)) (S .start t e)
@@ -99,7 +114,7 @@ store-paths s l side rule w S F =
 
 -- a machine without a start: the store has no accepting path, and there is no pair
 pub none-without-start : (l : Lent) (c : Composition) (pick : Bool → Bool → MoveKind) (w : World) → Sound l c w → Paths l c pick w → startAt c ≡ none
-    → ((rs : List ℕ) → AcceptingRecords l w rs → ⊥) × ((p : List ℕ × List ℕ) → Pair (semiring (c .kind)) (exact (c .kind)) _≡_ (plain c) p → ⊥)
+    → ((rs : List ℕ) → AcceptingRecords l w rs → ⊥) × ((p : List ℕ × List ℕ) → AgreeingPair c p → ⊥)
 none-without-start l c pick w S P e = (no-records, λ p h. no-records (recordsOfPair c pick w p) (P .paths .comes p h))
   where
     no-records : (rs : List ℕ) → AcceptingRecords l w rs → ⊥

@@ -26,7 +26,7 @@ use Rattle.calls.proofs.Parts.{part-alike, words-alike, new-low}
 use Rattle.calls.proofs.ExpandCases.{stored, expand-late, expand-stopped, expand-stored}
 use Rattle.calls.proofs.OpenCases.{by-open}
 use Rattle.calls.proofs.TwoStores.{Alike, Roomier, Twin, alike-triple, Steps2, steps-alike, mark-alike}
-use Rattle.readings.specs.Demands.{worldOf, Refused, Expanded, partIn, stateAt}
+use Rattle.readings.specs.Worlds.{worldOf, Refused, Expanded, partIn, stateAt}
 use Rattle.readings.proofs.Grows.{Kept, Grows, room-grows, tr-room-grows}
 use Rattle.readings.proofs.CallsKept.{expand-onto, expand-again, final-under, final-stays, records-under}
 

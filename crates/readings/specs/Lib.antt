@@ -9,5 +9,10 @@ pub mod Readings
 pub mod Places
 -- 01's lists as such lists.
 pub mod Listed
--- Demand 3 whole, over lists of calls.
+-- Demand 3 over lists of calls: the worlds of a list, what is answered there, then 3a, 3b and 3c, and the whole.
+pub mod Worlds
+pub mod Answers
+pub mod Again
+pub mod Larger
+pub mod StorePaths
 pub mod Demands

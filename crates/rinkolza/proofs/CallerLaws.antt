@@ -29,7 +29,7 @@ none-handed : (trs states : List ℕ) (n : ℕ) → wordsOf trs (handedPart stat
 unfolding roomOf
 none-handed trs states n = refl
 
-room-of : (trs : List ℕ) (a k : ℕ) → a + 5 * k ≤ length trs → k ≤ 65535 → roomOf 5 (take (5 * k) (drop a trs)) ≡ k
+pub room-of : (trs : List ℕ) (a k : ℕ) → a + 5 * k ≤ length trs → k ≤ 65535 → roomOf 5 (take (5 * k) (drop a trs)) ≡ k
 unfolding roomOf
 room-of trs a k h f = omega (arith, length-take (5 * k) (drop a trs), length-drop a trs, h, f)
 

@@ -1,5 +1,6 @@
 pub mod WordLaws
 pub mod Numbers
 pub mod CallerLaws
+pub mod HandedLaws
 pub mod RefusedStays
 pub mod WordCases

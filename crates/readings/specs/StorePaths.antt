@@ -1,0 +1,109 @@
+-- Demand 3c: "After the list, with no sigma label set, once all found states are expanded and no found state's final weight would be refused: accepting paths
+-- (final weight not zero) correspond one to one, paired as in document 01, with all pairs of accepting paths whose inner labels (outputs of the first, inputs of
+-- the second) agree, epsilons left out, and weigh the product of both."
+use mathlib.Core.Path.{_≡_}
+use mathlib.Core.Bool.{Bool}
+use mathlib.Core.List.{List, [], _∷_, map, List·Memᴰ}
+use mathlib.Core.Option.{Option, none, some}
+use Prim.Native.Nat.{ℕ, _+_, _-_}
+use lib.ListN.{getElem?}
+use Rattle.papers.specs.Weight.{Kind, semiring}
+use Rattle.papers.specs.Filter.{MoveKind}
+use Rattle.papers.specs.Machine.{Machine}
+use Rattle.papers.specs.Composition.{Triple, Move as Edges}
+use Rattle.papers.specs.Paths.{word, AcceptingPath, pathWeight}
+use Rattle.words.specs.Labels.{noLabel, Checked, good, refused}
+use Rattle.words.specs.Weights.{zeroOf}
+use Rattle.words.specs.Steps.{Composition, startAt}
+use Rattle.words.specs.Settings.{Settings, Lent}
+use Rattle.words.specs.AsPapers.{exact}
+use Rattle.calls.specs.Sequences.{World}
+use Rattle.readings.specs.Correspondence.{OneToOne}
+use Rattle.readings.specs.Merge.{merge}
+use Rattle.readings.specs.Readings.{pairOf}
+use Rattle.readings.specs.Listed.{listedAt}
+use Rattle.readings.specs.Places.{thenMoves, placeOf}
+use Rattle.readings.specs.Worlds.{finalIn, UsedState, Expanded, stateAt, partIn, recordsIn, inputOf, outputOf, weightOf, targetOf}
+
+-- "with no sigma label set, once all found states are expanded and no found state's final weight would be refused"
+pub record Finished (s : Settings) (l : Lent) (w : World) : Type 0 where
+  pub sigma1 : s .sigma1 ≡ noLabel
+  pub sigma2 : s .sigma2 ≡ noLabel
+  pub expanded : (n : ℕ) → UsedState w n → Expanded w n
+  pub weighed : (n : ℕ) → UsedState w n → (x : Option ℕ) × (finalIn l w n .answer ≡ good x)
+
+-- "accepting paths (final weight not zero)" of the store, as lists of record numbers from state n on
+abbrev pub AcceptingFrom : Lent → World → ℕ → List ℕ → Type 0
+AcceptingFrom l w n [] = (x : ℕ) × (finalIn l w n .answer ≡ good (some x))
+AcceptingFrom l w n (r ∷ rs) = Expanded w n × List·Memᴰ r (recordsIn w n) × AcceptingFrom l w (targetOf w r) rs
+
+-- from state 0, if it is found
+abbrev pub AcceptingRecords : Lent → World → List ℕ → Type 0
+AcceptingRecords l w rs = UsedState w 0 × AcceptingFrom l w 0 rs
+
+-- machine 1 and machine 2 of a composition; an accepting path of one of them, and its exact weight from state q on, by the kind of weight
+abbrev pub machine1 : Composition → Machine
+machine1 c = c .operand1 .machine
+
+abbrev pub machine2 : Composition → Machine
+machine2 c = c .operand2 .machine
+
+abbrev pub Accepting : Composition → Machine → List ℕ → Type 0
+Accepting c M p = AcceptingPath (semiring (c .kind)) (exact (c .kind)) M p
+
+abbrev pub weightFrom : (c : Composition) → Machine → ℕ → List ℕ → semiring (c .kind) .Element
+weightFrom c M q p = pathWeight (semiring (c .kind)) (exact (c .kind)) M q p
+
+-- "all pairs of accepting paths whose inner labels (outputs of the first, inputs of the second) agree, epsilons left out"
+pub record AgreeingPair (c : Composition) (p : List ℕ × List ℕ) : Type 0 where
+  pub first : Accepting c (machine1 c) (p .0)
+  pub second : Accepting c (machine2 c) (p .1)
+  pub inner : word (map (machine1 c .output) (p .0)) ≡ word (map (machine2 c .input) (p .1))
+
+-- the kept moves of a state, as the papers' moves, each with its next filter state
+abbrev pub movesIn : Composition → World → ℕ → List (Edges × ℕ)
+movesIn c w n = listedAt c (stateAt w n)
+
+-- "An expanded state's k-th transition record is its k-th kept move": the moves of a list of records from state n on
+unfoldable pub movesOfRecords : Composition → World → ℕ → List ℕ → List Edges
+movesOfRecords c w n [] = []
+movesOfRecords c w n (r ∷ rs) = thenMoves (getElem? (movesIn c w n) (r - partIn w n .first)) (λ m g. movesOfRecords c w (targetOf w r) rs)
+
+-- and the records of a list of moves: the place of each among the kept moves of its state
+abbrev pub thenRecord : Option (ℕ × ℕ) → (ℕ → List ℕ) → List ℕ
+thenRecord none go = []
+thenRecord (some p) go = go (p .0)
+
+unfoldable pub recordsOfMoves : Composition → World → ℕ → List Edges → List ℕ
+recordsOfMoves c w n [] = []
+recordsOfMoves c w n (m ∷ ms) =
+    thenRecord (placeOf m (movesIn c w n)) (λ k. (partIn w n .first + k) ∷ recordsOfMoves c w (targetOf w (partIn w n .first + k)) ms)
+
+-- "a composed path's pair is the machine 1 records and the machine 2 records of its moves, in order"
+abbrev pub pairOfRecords : Composition → World → List ℕ → List ℕ × List ℕ
+pairOfRecords c w rs = pairOf (movesOfRecords c w 0 rs)
+
+-- the composed path of a pair; which move goes first is the filter's (`pickOf`)
+abbrev pub recordsOfPair : Composition → (Bool → Bool → MoveKind) → World → List ℕ × List ℕ → List ℕ
+recordsOfPair c pick w p = recordsOfMoves c w 0 (merge pick (machine1 c) (machine2 c) (p .0) (p .1))
+
+-- the weight that final weight answers, where it does; else the kind's zero
+abbrev pub answeredWeight : ℕ → Checked (Option ℕ) → ℕ
+answeredWeight zero′ (good (some x)) = x
+answeredWeight zero′ (good none) = zero′
+answeredWeight zero′ (refused n) = zero′
+
+-- the exact weight of a list of records from state n on: the product of the stored weights, and of the final weight at its end
+abbrev pub recordsWeight : (k : Kind) → Lent → World → ℕ → List ℕ → semiring k .Element
+recordsWeight k l w n [] = exact k (answeredWeight (zeroOf k) (finalIn l w n .answer))
+recordsWeight k l w n (r ∷ rs) = semiring k .times (exact k (weightOf w r)) (recordsWeight k l w (targetOf w r) rs)
+
+pub record Paths (l : Lent) (c : Composition) (pick : Bool → Bool → MoveKind) (w : World) : Type 0 where
+  -- "accepting paths .. correspond one to one, paired as in document 01, with all pairs of accepting paths whose inner labels .. agree"
+  pub paths : OneToOne (AcceptingRecords l w) (AgreeingPair c) (pairOfRecords c w) (recordsOfPair c pick w)
+  -- "and weigh the product of both"; the paths of the pair begin in the machines' starts
+  pub weights : (t : Triple) → startAt c ≡ some t → (rs : List ℕ) → AcceptingRecords l w rs → recordsWeight (c .kind) l w 0 rs
+      ≡ semiring (c .kind) .times (weightFrom c (machine1 c) (t .s1) (pairOfRecords c w rs .0)) (weightFrom c (machine2 c) (t .s2) (pairOfRecords c w rs .1))
+  -- the composed input labels are the first path's, the output labels the second's, epsilons left out
+  pub inputs : (rs : List ℕ) → AcceptingRecords l w rs → word (map (inputOf w) rs) ≡ word (map (machine1 c .input) (pairOfRecords c w rs .0))
+  pub outputs : (rs : List ℕ) → AcceptingRecords l w rs → word (map (outputOf w) rs) ≡ word (map (machine2 c .output) (pairOfRecords c w rs .1))
