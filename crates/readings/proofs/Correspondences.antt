@@ -1,5 +1,5 @@
 -- What follows from a correspondence: every b comes from exactly one a; correspondences can be turned round and chained.
-use mathlib.Core.Path.{_≡_, sym, _∙_, ap, subst}
+use mathlib.Core.Path.{_≡_, sym, _∙_, ap}
 use Rattle.readings.specs.Correspondence.{OneToOne}
 
 module _ {A B : Type 0} {P : A → Type 0} {Q : B → Type 0} {to : A → B} {from : B → A} (c : OneToOne P Q to from) where
@@ -18,7 +18,3 @@ chained {to = to} {from = from} {on = on} {off = off} c d = record {
   from-to = λ a p. ap from (d .from-to (to a) (c .goes a p)) ∙ c .from-to a p;
   to-from = λ r q. ap on (c .to-from (off r) (d .comes r q)) ∙ d .to-from r q;
 }
-
--- where both P and P′ correspond to Q by the same maps, what has P has P′
-pub also : {A B : Type 0} {P P′ : A → Type 0} {Q : B → Type 0} {to : A → B} {from : B → A} → OneToOne P Q to from → OneToOne P′ Q to from → (a : A) → P a → P′ a
-also {P′ = P′} {to = to} c d a p = subst P′ (c .from-to a p) (d .comes (to a) (c .goes a p))

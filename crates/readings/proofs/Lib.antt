@@ -4,6 +4,7 @@ pub mod Projection
 pub mod Rebuilt
 pub mod Made
 pub mod Theorem
+pub mod Swap
 pub mod Filters
 pub mod Placed
 pub mod Example

@@ -18,16 +18,18 @@ use Rattle.words.specs.Filters.{filterOf}
 use Rattle.words.specs.Steps.{Composition, Kept, keptAt}
 use Rattle.words.specs.Settings.{Settings, Lent, operand1, operand2, compositionOf}
 use Rattle.words.specs.AsPapers.{exact, edgesOf, plain, WalkedSigma}
-use Rattle.words.proofs.TableLaws.{sequenceLive, sequence-laws, alternateLive, alternate-laws, matchingLive, matching-laws}
+use Rattle.papers.specs.Pick.{sequenceLive, matchingLive}
+use Rattle.words.specs.Filters.{alternateLive}
+use Rattle.words.proofs.TableLaws.{sequence-laws, alternate-laws, matching-laws}
 use Rattle.words.proofs.CheckedLaws.{good-is}
-use Rattle.words.proofs.PapersMoves.{Sound, Exactly}
+use Rattle.words.specs.Links.{Composable, Exactly}
 use Rattle.words.proofs.PapersOpened.{kept-as-papers, no-sigma, directed, sound-of}
 use Rattle.readings.specs.Correspondence.{OneToOne}
 use Rattle.readings.specs.Merge.{merge}
-use Rattle.readings.specs.Readings.{at, pairOf, PairFrom, Readings}
+use Rattle.readings.specs.Readings.{at, pairOf, PairFrom, Readings, ReadingsOf}
 use Rattle.readings.specs.Places.{Lists, movesAt, placesOf, AcceptingPlaces}
 use Rattle.readings.specs.Listed.{goods, entryOf, listedAt, pickOf}
-use Rattle.readings.proofs.Filters.{ReadingsOf, equal-readings}
+use Rattle.readings.proofs.Filters.{equal-readings}
 use Rattle.readings.proofs.Placed.{placed-readings}
 
 -- a list without refusals is its values
@@ -37,7 +39,7 @@ all-good [] h = refl
 all-good (good a ∷ l) h = ap (λ r. good a ∷ r) (all-good l (λ n i. h n (there i)))
 all-good (refused n ∷ l) h = absurd (h n (here refl))
 
-module _ (c : Composition) (S : Sound c) (none1 : c .operand1 .sigma .label ≡ noLabel) (none2 : c .operand2 .sigma .label ≡ noLabel) (s : Triple) where
+module _ (c : Composition) (S : Composable c) (none1 : c .operand1 .sigma .label ≡ noLabel) (none2 : c .operand2 .sigma .label ≡ noLabel) (s : Triple) where
   exact-list : (d : MatchType) × Exactly d c s (keptAt c s)
   exact-list = let r = directed c s none1 in (r .0, kept-as-papers c S s (r .0) (r .1))
 
@@ -84,7 +86,7 @@ module _ (c : Composition) (S : Sound c) (none1 : c .operand1 .sigma .label ≡ 
       exact-list .1 .once j k (x .0) (y .0) (x .1) (y .1) (ap (λ (e : Edges × ℕ). e .0) (sym (x .2) ∙ y .2)))
 
 -- at every triple
-pub words-lists : (c : Composition) → Sound c → c .operand1 .sigma .label ≡ noLabel → c .operand2 .sigma .label ≡ noLabel → Lists (plain c) (λ s. Unit {0}) (listedAt c)
+pub words-lists : (c : Composition) → Composable c → c .operand1 .sigma .label ≡ noLabel → c .operand2 .sigma .label ≡ noLabel → Lists (plain c) (λ s. Unit {0}) (listedAt c)
 words-lists c S none1 none2 = record {
   exactly = λ s f. exactly-listed c S none1 none2 s;
   once = λ s f. once-listed c S none1 none2 s;

@@ -15,7 +15,8 @@ use Rattle.words.specs.Labels.{Checked, good, refused, andThen}
 use Rattle.words.specs.Steps.{Composition, finalAt}
 use Rattle.words.specs.Settings.{Lent}
 use Rattle.words.specs.AsPapers.{exact, plain}
-use Rattle.words.proofs.PapersFinal.{NoEnd, final-as-papers}
+use Rattle.words.specs.Links.{NoEnd}
+use Rattle.words.proofs.PapersFinal.{final-as-papers}
 use Rattle.calls.specs.Checks.{entered, enteredAt}
 use Rattle.calls.specs.Calls.{settle, unchanged, finalWeightOf}
 use Rattle.calls.specs.Sequences.{World}

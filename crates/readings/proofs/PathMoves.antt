@@ -15,8 +15,8 @@ use Rattle.words.specs.Matches.{Match, loop, own, viaSigma}
 use Rattle.words.specs.Sigmas.{Sigma, replace}
 use Rattle.words.specs.Steps.{Composition, Kept, Step, keptAt, stepOf, stepsAt}
 use Rattle.words.specs.AsPapers.{edgeOf, rewritten}
-use Rattle.words.proofs.PapersMoves.{Sound}
-use Rattle.words.proofs.PapersSteps.{IsStep, step-good}
+use Rattle.words.specs.Links.{Composable, IsStep}
+use Rattle.words.proofs.PapersSteps.{step-good}
 use Rattle.readings.specs.Listed.{goods, entryOf, listedAt}
 use Rattle.readings.proofs.Listed.{kept-good}
 
@@ -32,7 +32,7 @@ unwritten σ M q x label (viaSigma t) e n i = go (σ .rewriteBoth)
     go false = refl
 
 -- where each kept move has a step
-module _ (c : Composition) (P : Sound c) (t : Triple) (steps : List Step) (all : stepsAt c t ≡ map good steps) where
+module _ (c : Composition) (P : Composable c) (t : Triple) (steps : List Step) (all : stepsAt c t ≡ map good steps) where
   -- the step of the move at a place
   pub listed-step : (k : ℕ) (v : Kept) → At (keptAt c t) k (good v) → (step : Step) × At steps k step × IsStep c t v step
   unfolding stepsAt

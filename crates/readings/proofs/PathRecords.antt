@@ -14,8 +14,7 @@ use Rattle.words.specs.Labels.{noLabel, good}
 use Rattle.words.specs.Steps.{Composition, Kept, Step}
 use Rattle.words.specs.AsPapers.{exact, edgesOf, plain}
 use Rattle.words.specs.Settings.{Lent}
-use Rattle.words.proofs.PapersMoves.{Sound as Composable}
-use Rattle.words.proofs.PapersSteps.{IsStep}
+use Rattle.words.specs.Links.{Composable, IsStep}
 use Rattle.calls.specs.Store.{trField}
 use Rattle.calls.specs.Calls.{finalWeightOf}
 use Rattle.calls.specs.Sequences.{World}

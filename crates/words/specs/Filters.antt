@@ -1,5 +1,5 @@
 -- 01, "Filters": the table, cell by cell.
-use mathlib.Core.Bool.{Bool, true, false}
+use mathlib.Core.Bool.{Bool, true, false, not}
 use mathlib.Core.Option.{Option, none, some}
 use Prim.Native.Nat.{ℕ, zero, suc}
 use Rattle.papers.specs.Filter.{lone1, lone2, bothEpsilon, aLabel, Facts, Filter, noEpsilon, onlyEpsilons}
@@ -63,3 +63,14 @@ abbrev pub filterOf : ℕ → Filter
 filterOf zero = sequence
 filterOf (suc zero) = alternate
 filterOf (suc (suc n)) = matching
+
+-- Ours, for the laws of a filter: from which f two paths can be taken to their ends. Sequence and match are as the papers'; alternate: in f = 1 no epsilon of machine 2 may follow;
+-- an f above 1, which it never gives, is as 0.
+abbrev pub alternateLive : ℕ → Bool → Bool → Bool
+alternateLive zero x y = true
+alternateLive (suc zero) x y = not y
+alternateLive (suc (suc f)) x y = true
+
+-- neither "none" nor "all" holds of a machine
+abbrev pub neither : Facts
+neither = record { none1 = false; all1 = false; none2 = false; all2 = false }
