@@ -15,3 +15,5 @@ pub mod Composition
 pub mod Sigma
 -- Paths, accepting paths, matching pairs of paths.
 pub mod Paths
+-- The weight of a pair of words; what composition means.
+pub mod Sums
