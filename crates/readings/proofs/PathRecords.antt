@@ -22,8 +22,8 @@ use Rattle.readings.specs.Listed.{entryOf, listedAt}
 use Rattle.readings.specs.Places.{thenMoves}
 use Rattle.readings.specs.Demands.{Expanded, partIn, recordsIn, stateAt, targetOf, IsRecord, IsList, Sound, movesIn, movesOfRecords, thenRecord, recordsOfMoves}
 use Rattle.readings.proofs.Placed.{place-is}
-use Rattle.readings.proofs.Listed.{listed-places, exactly-listed, words-lists}
-use Rattle.readings.proofs.PathMoves.{unwritten, listed-step, listed-length}
+use Rattle.readings.proofs.Listed.{places, exactly-listed, words-lists}
+use Rattle.readings.proofs.PathMoves.{unwritten, listed-step, no-refusal, listed-length}
 
 -- record r of state n is the move m, kept with the next filter state g: at the same place, to the same state, with the same labels and weight
 pub record Link (c : Composition) (w : World) (n r : ℕ) (m : Edges) (g : ℕ) : Type 0 where
@@ -72,7 +72,7 @@ module _ (l : Lent) (c : Composition) (w : World) (W : Whole l c w) where
   pub at-link : (n : ℕ) → n < w .session .used .states → (k : ℕ) (m : Edges) (g : ℕ) → At (movesIn c w n) k (m, g) → Link c w n (partIn w n .first + k) m g
   at-link n u k m g h =
       let L = list-of n u in
-      let v = listed-places c (W .links) (W .sigma1) (W .sigma2) (stateAt w n) k m g .0 h in
+      let v = places c (stateAt w n) (no-refusal c (W .links) (stateAt w n) (L .steps) (L .moves)) k m g .0 h in
       let st = listed-step c (W .links) (stateAt w n) (L .steps) (L .moves) k (v .0) (v .1) in
       let i = subst (At (movesIn c w n) k) (v .2) h in
       let kept = exact-at (stateAt w n) (edgesOf (v .0 .move)) (v .0 .next) .0 (at-in (movesIn c w n) k i) in
@@ -92,7 +92,7 @@ module _ (l : Lent) (c : Composition) (w : World) (W : Whole l c w) where
       let L = list-of n u in
       let b = of-interval (partIn w n .first) (partIn w n .count) i in
       let k = r - partIn w n .first in
-      let long = listed-length c (W .links) (stateAt w n) (L .steps) (L .moves) (W .sigma1) (W .sigma2) in
+      let long = listed-length c (W .links) (stateAt w n) (L .steps) (L .moves) in
       let e = at-place (movesIn c w n) k (omega (arith, long, L .count, b)) in
       (e .0 .0, e .0 .1, subst (λ j. Link c w n j (e .0 .0) (e .0 .1)) (omega (arith, b)) (at-link n u k (e .0 .0) (e .0 .1) (e .1)))
 

@@ -26,6 +26,15 @@ use Rattle.readings.specs.Merge.{merge}
 use Rattle.readings.specs.Readings.{pairOf, Pair}
 use Rattle.readings.specs.Listed.{listedAt, pickOf}
 use Rattle.readings.specs.Places.{thenMoves, placeOf}
+-- for demand 2
+use Rattle.lists.specs.Lists.{Enumerates}
+use Rattle.papers.specs.Composition.{Start, Kept as KeptMove, reached}
+use Rattle.papers.specs.Sums.{SumIs, PairOf, weightOfPair, ComposedWeighs}
+use Rattle.words.specs.Matches.{MatchType}
+use Rattle.words.specs.Filters.{papersFilterOf}
+use Rattle.words.specs.AsPapers.{composedOf, directionOf, matchesOf, inputBy, outputBy, weightOf}
+use Rattle.words.specs.Links.{FinalExactly}
+use Rattle.readings.specs.Readings.{filteredBy, SamePaths}
 
 -- "Each call gets the session last returned, at first the opening's, and memory as last left"
 abbrev pub worldOf : {A : Type 0} → Outcome A → World
@@ -233,3 +242,70 @@ abbrev pub Claim : Type 0
 Claim = (s : Settings) (l : Lent) (got : Session) (m : Memory) → openOf s l got m .answer ≡ good tt
     → (side : Side) × (sideFor s l ≡ good side)
     × ((cs : List Call) → OpeningsRefused l (worldOf (openOf s l got m)) cs → Demand3 s l m (compositionOf s l side) (worldOf (openOf s l got m)) cs)
+
+-- Demand 2b: "They are proved to follow a definition of composition written from Mohri, Pereira and Riley and the OpenFst papers", from the calls' answers to the papers in one
+-- step; sigma labels may be set. `composedOf c` is the papers' composition, with document 01's filter, in which a label meets itself or a sigma that serves for it.
+
+-- Record r is the papers' composed transition (e1, e2) from s with the next filter state g; d is the direction at s, by which it is known which transition serves as sigma.
+pub record IsTransition (c : Composition) (w : World) (d : MatchType) (s : Triple) (m : Edges) (g r : ℕ) : Type 0 where
+  -- "machine 1's input, machine 2's output (both after any rewriting)"
+  pub input : trField (w .memory .trs) (r - 1) 0 ≡ inputBy c (matchesOf d (c .operand1) (c .operand2) m)
+  pub output : trField (w .memory .trs) (r - 1) 1 ≡ outputBy c (matchesOf d (c .operand1) (c .operand2) m)
+  -- ARS, w[e1] ⊗ w[e2], exact
+  pub weight : exact (c .kind) (trField (w .memory .trs) (r - 1) 2) ≡ weightOf c m
+  -- ARS, (n[e1], n[e2], g), which is found
+  pub target : stateAt w (targetOf w r) ≡ reached (composedOf c) s m g
+  pub found : targetOf w r < w .session .used .states
+
+-- The list p of state n is the papers'.
+pub record PapersList (c : Composition) (w : World) (n : ℕ) (p : Part) : Type 0 where
+  -- the state has a direction
+  pub direction : MatchType
+  pub rule : directionOf c (stateAt w n) ≡ good direction
+  -- 01's list holds each kept move of the papers once, and nothing else
+  pub moves : Enumerates (movesIn c w n) (λ e. KeptMove (composedOf c) (stateAt w n) (e .0) (e .1))
+  -- there is a record for each, in 01's order
+  pub count : p .count ≡ length (movesIn c w n)
+  pub record-of : (k : ℕ) (m : Edges) (g : ℕ) → At (movesIn c w n) k (m, g) → IsTransition c w direction (stateAt w n) m g (p .first + k)
+
+-- the word of a list of records, ε left out: field 0 has the inputs, field 1 the outputs
+abbrev pub wordOn : ℕ → World → List ℕ → List ℕ
+wordOn field w rs = word (map (λ r. trField (w .memory .trs) (r - 1) field) rs)
+
+-- the accepting paths x:y of the store
+abbrev pub ReadsAs : Lent → World → List ℕ → List ℕ → List ℕ → Type 0
+ReadsAs l w x y rs = AcceptingRecords l w rs × (wordOn 0 w rs ≡ x) × (wordOn 1 w rs ≡ y)
+
+-- MPR's equation, of the store. The machines are T1 and T2.
+pub record ByWords (l : Lent) (c : Composition) (pick : Bool → Bool → MoveKind) (w : World) (x y : List ℕ) : Type 0 where
+  -- path by path: the accepting paths x:y and the pairs of accepting paths x:z, z:y, for any z, correspond one to one, and the weights multiply
+  pub paths : OneToOne (ReadsAs l w x y) (PairOf (semiring (c .kind)) (exact (c .kind)) (c .operand1 .machine) (c .operand2 .machine) x y)
+      (pairOfRecords c w) (recordsOfPair c pick w)
+  pub weights : (rs : List ℕ) → ReadsAs l w x y rs
+      → recordsWeight (c .kind) l w 0 rs ≡ weightOfPair (semiring (c .kind)) (exact (c .kind)) (c .operand1 .machine) (c .operand2 .machine) (pairOfRecords c w rs)
+  -- as a sum: the weights of the accepting paths x:y have the ⊕-sum e just where e = ⊕ over z of T1(x, z) ⊗ T2(z, y). That the paths x:y can be listed, and that the middle words z
+  -- and the paths x:z and z:y of each can be, is one and the same; where they cannot, no sum is spoken of.
+  pub sum : (e : semiring (c .kind) .Element)
+      → SumIs (semiring (c .kind)) (ReadsAs l w x y) (recordsWeight (c .kind) l w 0) e
+      ↔ ComposedWeighs (semiring (c .kind)) (exact (c .kind)) (c .operand1 .machine) (c .operand2 .machine) x y e
+
+-- The claim about the world w that a list of calls leads to; c is the composition that the opening with the settings s fixed.
+pub record Demand2 (s : Settings) (l : Lent) (c : Composition) (w : World) : Type 0 where
+  -- state 0 is the papers' start, and is found just where there is one
+  pub start : (t : Triple) → Start (composedOf c) t ↔ ((0 < w .session .used .states) × (stateAt w 0 ≡ t))
+  -- the list of an expanded state, whichever call expanded it
+  pub lists : (n : ℕ) → Expanded w n → PapersList c w n (partIn w n)
+  -- the list that an accepted expansion answers
+  pub answers : (n : ℕ) (p : Part) → expandOf l (w .session) (w .memory) n .answer ≡ good p → PapersList c (worldOf (expandOf l (w .session) (w .memory) n)) n p
+  -- the final weight that is answered for a found state
+  pub finals : (n : ℕ) → n < w .session .used .states → FinalExactly c (stateAt w n) (finalWeightOf l (w .session) (w .memory) n .answer)
+  -- with no sigma label set, once all found states are expanded and no final weight would be refused
+  pub words : Finished s l w → (x y : List ℕ) → ByWords l c (pickOf (s .filter)) w x y
+  -- document 01's filter, which looks at "none" and "all", leaves the accepting paths that the papers' own leaves
+  pub filters : SamePaths (semiring (c .kind)) (exact (c .kind)) (composedOf c) (filteredBy (papersFilterOf (s .filter)) (composedOf c))
+
+-- 2b, for every list of calls that demand 3 speaks of
+abbrev pub Claim2 : Type 0
+Claim2 = (s : Settings) (l : Lent) (got : Session) (m : Memory) → openOf s l got m .answer ≡ good tt
+    → (side : Side) × (sideFor s l ≡ good side)
+    × ((cs : List Call) → OpeningsRefused l (worldOf (openOf s l got m)) cs → Demand2 s l (compositionOf s l side) (after l (worldOf (openOf s l got m)) cs))
