@@ -2,7 +2,7 @@
 -- no accepting path.
 use mathlib.Core.Path.{_≡_}
 use mathlib.Core.Bool.{Bool}
-use Prim.Native.Nat.{ℕ}
+use Prim.Native.Nat.{ℕ, zero, suc}
 use Rattle.papers.specs.Machine.{Machine}
 use Rattle.papers.specs.Weight.{Kind, semiring}
 use Rattle.papers.specs.Filter.{MoveKind, Filter, epsilonSequencing, epsilonSequencingMirrored, epsilonMatching}
@@ -12,7 +12,7 @@ use Rattle.papers.specs.Pick.{sequencePick, alternatePick, matchingPick, sequen
 use Rattle.papers.specs.Laws.{Lawful}
 use Rattle.papers.proofs.SemiringLaws.{semiring-laws}
 use Rattle.papers.proofs.PaperFilters.{sequencing-laws, mirrored-laws, epsilon-matching-laws}
-use Rattle.words.specs.Filters.{sequence, alternate, matching, alternateLive}
+use Rattle.words.specs.Filters.{sequence, alternate, matching, filterOf, papersFilterOf, alternateLive}
 use Rattle.words.proofs.TableLaws.{sequence-laws, alternate-laws, matching-laws}
 use Rattle.readings.specs.Correspondence.{OneToOne}
 use Rattle.readings.specs.Merge.{merge}
@@ -64,3 +64,9 @@ module _ (k : Kind) (value : ℕ → semiring k .Element) (C : Composed) where
 
   pub match-as-papers : SamePaths (semiring k) value (filteredBy matching C) (filteredBy epsilonMatching C)
   match-as-papers = same-by-pick (semiring k) (semiring-laws k) value C matchingPick matching epsilonMatching matchingLive matchingLive matching-laws epsilon-matching-laws
+
+  -- whichever of the three
+  pub filter-as-papers : (n : ℕ) → SamePaths (semiring k) value (filteredBy (filterOf n) C) (filteredBy (papersFilterOf n) C)
+  filter-as-papers zero = sequence-as-papers
+  filter-as-papers (suc zero) = alternate-as-papers
+  filter-as-papers (suc (suc n)) = match-as-papers

@@ -10,10 +10,12 @@ pub mod Placed
 pub mod Example
 pub mod Listed
 pub mod PathMoves
+pub mod PapersLists
 pub mod PathEnds
 pub mod PathRecords
 pub mod PathFollows
 pub mod StorePaths
+pub mod WordPaths
 pub mod PathExample
 pub mod Grows
 pub mod Expansions
@@ -24,4 +26,5 @@ pub mod TwoWorlds
 pub mod LargerMemory
 pub mod NeverEight
 pub mod Demands
+pub mod Demand2
 pub mod DemandCase

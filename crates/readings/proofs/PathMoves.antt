@@ -8,22 +8,23 @@ use lib.ListN.{length, length-map}
 use borrow.Author.Tests.{ne-eqb}
 use Rattle.lists.specs.Lists.{At}
 use Rattle.lists.proofs.Places.{at-map, of-at-map, in-at}
-use Rattle.papers.specs.Composition.{Leaves, outer, Triple}
+use Rattle.papers.specs.Composition.{Leaves, outer, Triple, Move as Edges, inputOf, outputOf}
 use Rattle.papers.specs.Machine.{Machine}
 use Rattle.words.specs.Labels.{noLabel, Checked, good, refused, andThen}
 use Rattle.words.specs.Matches.{MatchType, Match, loop, own, viaSigma}
 use Rattle.words.specs.Sigmas.{Sigma, replace}
 use Rattle.words.specs.Steps.{Composition, Kept, Step, keptAt, stepOf, stepsAt}
-use Rattle.words.specs.AsPapers.{edgeOf, directionOf, rewritten}
+use Rattle.words.specs.AsPapers.{edgeOf, edgesOf, composedOf, directionOf, matchesOf, rewritten, inputBy, outputBy}
 use Rattle.words.specs.Links.{Composable, IsStep}
 use Rattle.words.proofs.CheckedLaws.{good≢refused}
+use Rattle.words.proofs.PapersMoves.{edges-matches}
 use Rattle.words.proofs.PapersOpened.{kept-refused}
 use Rattle.words.proofs.PapersSteps.{step-good}
 use Rattle.readings.specs.Listed.{goods, entryOf, listedAt}
 use Rattle.readings.proofs.Listed.{all-good}
 
 -- without a sigma label nothing is rewritten
-pub unwritten : (σ : Sigma) (M : Machine) (q x : ℕ) (label : ℕ → ℕ) (m : Match) → σ .label ≡ noLabel → ((t : ℕ) → In t (M .list q) → label t ≢ noLabel) → Leaves M q (edgeOf m)
+unwritten : (σ : Sigma) (M : Machine) (q x : ℕ) (label : ℕ → ℕ) (m : Match) → σ .label ≡ noLabel → ((t : ℕ) → In t (M .list q) → label t ≢ noLabel) → Leaves M q (edgeOf m)
     → rewritten σ x m (outer label (edgeOf m)) ≡ outer label (edgeOf m)
 unwritten σ M q x label loop e n i = refl
 unwritten σ M q x label (own t) e n i = refl
@@ -32,6 +33,22 @@ unwritten σ M q x label (viaSigma t) e n i = go (σ .rewriteBoth)
     go : (b : Bool) → cond b (replace (σ .label) x (label t)) (label t) ≡ label t
     go true = rw (e, ne-eqb (label t) noLabel (n t i))
     go false = refl
+
+-- neither label of a composed transition, in whichever direction it was found
+pub unwritten-both : (c : Composition) → c .operand1 .sigma .label ≡ noLabel → c .operand2 .sigma .label ≡ noLabel
+    → ((q t : ℕ) → In t (c .operand1 .machine .list q) → c .operand1 .machine .input t ≢ noLabel) → ((q t : ℕ) → In t (c .operand2 .machine .list q) → c .operand2 .machine .output t ≢ noLabel)
+    → (s : Triple) (d : MatchType) (m : Edges) → Leaves (c .operand1 .machine) (s .s1) (m .first) → Leaves (c .operand2 .machine) (s .s2) (m .second)
+    → (inputBy c (matchesOf d (c .operand1) (c .operand2) m) ≡ inputOf (composedOf c) m) × (outputBy c (matchesOf d (c .operand1) (c .operand2) m) ≡ outputOf (composedOf c) m)
+unwritten-both c none1 none2 labels1 labels2 s d m l1 l2 =
+    let v = matchesOf d (c .operand1) (c .operand2) m in
+    let e : edgesOf v ≡ m = edges-matches d (c .operand1) (c .operand2) m in (
+      unwritten (c .operand1 .sigma) (c .operand1 .machine) (s .s1) _ (c .operand1 .machine .input) (v .first) none1 (labels1 (s .s1))
+          (subst (λ (z : Edges). Leaves (c .operand1 .machine) (s .s1) (z .first)) (sym e) l1)
+          ∙ ap (inputOf (composedOf c)) e,
+      unwritten (c .operand2 .sigma) (c .operand2 .machine) (s .s2) _ (c .operand2 .machine .output) (v .second) none2 (labels2 (s .s2))
+          (subst (λ (z : Edges). Leaves (c .operand2 .machine) (s .s2) (z .second)) (sym e) l2)
+          ∙ ap (outputOf (composedOf c)) e,
+    )
 
 -- where each kept move has a step
 module _ (c : Composition) (P : Composable c) (t : Triple) (steps : List Step) (all : stepsAt c t ≡ map good steps) where

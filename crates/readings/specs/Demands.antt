@@ -29,6 +29,7 @@ use Rattle.readings.specs.Places.{thenMoves, placeOf}
 -- for demand 2
 use Rattle.lists.specs.Lists.{Enumerates}
 use Rattle.papers.specs.Composition.{Start, Kept as KeptMove, reached}
+use Rattle.papers.specs.Paths.{AcceptingRun, movesWeight}
 use Rattle.papers.specs.Sums.{SumIs, PairOf, weightOfPair, ComposedWeighs}
 use Rattle.words.specs.Matches.{MatchType}
 use Rattle.words.specs.Filters.{papersFilterOf}
@@ -268,6 +269,18 @@ pub record PapersList (c : Composition) (w : World) (n : ℕ) (p : Part) : Type 
   pub count : p .count ≡ length (movesIn c w n)
   pub record-of : (k : ℕ) (m : Edges) (g : ℕ) → At (movesIn c w n) k (m, g) → IsTransition c w direction (stateAt w n) m g (p .first + k)
 
+-- all found states are expanded, and no found state's final weight would be refused; sigma labels may be set
+pub record AllRead (l : Lent) (w : World) : Type 0 where
+  pub expanded : (n : ℕ) → n < w .session .used .states → Expanded w n
+  pub weighed : (n : ℕ) → n < w .session .used .states → (x : Option ℕ) × (finalWeightOf l (w .session) (w .memory) n .answer ≡ good x)
+
+-- The accepting paths of the store are those of the papers' composition: they correspond one to one, record by move, and weigh the same.
+pub record PapersPaths (l : Lent) (c : Composition) (w : World) : Type 0 where
+  pub paths : OneToOne (AcceptingRecords l w) (AcceptingRun (semiring (c .kind)) (exact (c .kind)) (composedOf c)) (movesOfRecords c w 0) (recordsOfMoves c w 0)
+  pub weights : (rs : List ℕ) → AcceptingRecords l w rs
+      → recordsWeight (c .kind) l w 0 rs
+      ≡ movesWeight (semiring (c .kind)) (exact (c .kind)) (composedOf c) (stateAt w 0 .s1) (stateAt w 0 .s2) (movesOfRecords c w 0 rs)
+
 -- the word of a list of records, ε left out: field 0 has the inputs, field 1 the outputs
 abbrev pub wordOn : ℕ → World → List ℕ → List ℕ
 wordOn field w rs = word (map (λ r. trField (w .memory .trs) (r - 1) field) rs)
@@ -299,10 +312,12 @@ pub record Demand2 (s : Settings) (l : Lent) (c : Composition) (w : World) : Typ
   pub answers : (n : ℕ) (p : Part) → expandOf l (w .session) (w .memory) n .answer ≡ good p → PapersList c (worldOf (expandOf l (w .session) (w .memory) n)) n p
   -- the final weight that is answered for a found state
   pub finals : (n : ℕ) → n < w .session .used .states → FinalExactly c (stateAt w n) (finalWeightOf l (w .session) (w .memory) n .answer)
-  -- with no sigma label set, once all found states are expanded and no final weight would be refused
-  pub words : Finished s l w → (x y : List ℕ) → ByWords l c (pickOf (s .filter)) w x y
+  -- the accepting paths, once all found states are expanded and no final weight would be refused
+  pub paths : AllRead l w → PapersPaths l c w
   -- document 01's filter, which looks at "none" and "all", leaves the accepting paths that the papers' own leaves
   pub filters : SamePaths (semiring (c .kind)) (exact (c .kind)) (composedOf c) (filteredBy (papersFilterOf (s .filter)) (composedOf c))
+  -- with no sigma label set, the weight of every pair of words
+  pub words : Finished s l w → (x y : List ℕ) → ByWords l c (pickOf (s .filter)) w x y
 
 -- 2b, for every list of calls that demand 3 speaks of
 abbrev pub Claim2 : Type 0

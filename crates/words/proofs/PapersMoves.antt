@@ -36,7 +36,7 @@ edge-match W M (along t) (along u) = go (eqb (inner M u) (inner W t))
     go true = refl
     go false = refl
 
-edges-matches : (d : MatchType) (A B : Operand) (m : Edges) → edgesOf (matchesOf d A B m) ≡ m
+pub edges-matches : (d : MatchType) (A B : Operand) (m : Edges) → edgesOf (matchesOf d A B m) ≡ m
 edges-matches inputs A B m = λ i. record { first = edge-walked (m .first) i; second = edge-match A B (m .first) (m .second) i }
 edges-matches outputs A B m = λ i. record { first = edge-match B A (m .second) (m .first) i; second = edge-walked (m .second) i }
 
