@@ -1,13 +1,13 @@
 -- Demand 2b, whole: for every accepted opening, whatever memory held, and every list of calls in which each opening is refused, sigma set or not.
 use mathlib.Core.Path.{_≡_, refl, sym, _∙_, ap, subst}
-use mathlib.Core.List.{List, [], append-nil}
+use mathlib.Core.List.{[], append-nil}
 use mathlib.Core.Logic.{_↔_}
 use mathlib.Core.Option.{some}
-use Prim.Native.Nat.{ℕ, _<_}
+use Prim.Native.Nat.{_<_}
 use Rattle.papers.specs.Composition.{Triple, Start}
 use Rattle.words.specs.Labels.{good}
 use Rattle.words.specs.Sides.{Side}
-use Rattle.words.specs.Steps.{Composition, startAt}
+use Rattle.words.specs.Steps.{Composition}
 use Rattle.words.specs.Settings.{Settings, Lent, compositionOf}
 use Rattle.words.specs.AsPapers.{exact, composedOf}
 use Rattle.words.specs.Links.{FinalExactly}
@@ -16,7 +16,7 @@ use Rattle.words.proofs.PapersSteps.{start-as-papers}
 use Rattle.words.proofs.PapersFinal.{final-as-papers}
 use Rattle.calls.specs.Checks.{sideFor}
 use Rattle.calls.specs.Calls.{openOf, expandOf}
-use Rattle.calls.specs.Sequences.{World, Call, after}
+use Rattle.calls.specs.Sequences.{World, after}
 use Rattle.calls.proofs.ExpandKept.{sided}
 use Rattle.calls.proofs.OpenKept.{open-kept}
 use Rattle.readings.specs.Listed.{pickOf}

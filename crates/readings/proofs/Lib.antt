@@ -28,3 +28,4 @@ pub mod NeverEight
 pub mod Demands
 pub mod Demand2
 pub mod DemandCase
+pub mod WordCase

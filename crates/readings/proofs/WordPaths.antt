@@ -3,18 +3,17 @@ use mathlib.Core.Path.{_≡_, refl, sym, _∙_, ap, ap₂}
 use mathlib.Core.Bool.{Bool}
 use mathlib.Core.List.{List, map}
 use mathlib.Core.Logic.{_↔_, Iff·trans}
-use mathlib.Core.Option.{Option, some}
+use mathlib.Core.Option.{Option}
 use Prim.Native.Nat.{ℕ}
 use Rattle.papers.specs.Machine.{Machine}
 use Rattle.papers.specs.Weight.{Semiring, semiring}
 use Rattle.papers.specs.Filter.{MoveKind}
-use Rattle.papers.specs.Composition.{Triple}
 use Rattle.papers.specs.Paths.{word}
-use Rattle.papers.specs.Sums.{SumIs, PairOf, weightFrom, weightOfPair, ComposedWeighs}
+use Rattle.papers.specs.Sums.{PairOf, weightFrom, weightOfPair}
 use Rattle.papers.proofs.SemiringLaws.{semiring-laws}
 use Rattle.papers.proofs.PathLaws.{agree-equal}
 use Rattle.papers.proofs.MiddleWords.{over-middle-words}
-use Rattle.words.specs.Steps.{Composition, startAt}
+use Rattle.words.specs.Steps.{Composition}
 use Rattle.words.specs.Settings.{Lent}
 use Rattle.words.specs.AsPapers.{exact, plain}
 use Rattle.words.proofs.PapersSteps.{start-as-papers}
