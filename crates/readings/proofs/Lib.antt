@@ -29,3 +29,4 @@ pub mod Demands
 pub mod Demand2
 pub mod DemandCase
 pub mod WordCase
+pub mod SigmaCase

@@ -126,11 +126,11 @@ just-these = record {
   once = distinct-map (λ k. k ∷ []) (λ a b e. head-eq-of-cons-eq e) (interval 1 4) (distinct-interval 1 4);
   exactly = λ rs. (
     of-four Reads
-    ((omega arith, ((omega arith, refl), here refl, (1, refl))), refl, refl)
-    ((omega arith, ((omega arith, refl), there (here refl), (1, refl))), refl, refl)
-    ((omega arith, ((omega arith, refl), there (there (here refl)), (1, refl))), refl, refl)
-    ((omega arith, ((omega arith, refl), there (there (there (here refl))), (1, refl))), refl, refl)
-    rs,
+        ((omega arith, ((omega arith, refl), here refl, (1, refl))), refl, refl)
+        ((omega arith, ((omega arith, refl), there (here refl), (1, refl))), refl, refl)
+        ((omega arith, ((omega arith, refl), there (there (here refl)), (1, refl))), refl, refl)
+        ((omega arith, ((omega arith, refl), there (there (there (here refl))), (1, refl))), refl, refl)
+        rs,
     λ h. from0 rs (h .0 .1),
   );
 }
