@@ -1,5 +1,5 @@
--- The laws of a filter, from which it follows that it leaves exactly one composed path for each pair of paths. Ours: the papers show it of each filter. Of a path from a state,
--- all that the laws look at is whether its first transition has ε on the inner side ("begins with ε").
+-- The laws of a filter, from which it follows that it leaves exactly one composed path for each pair of paths. Ours: the papers show it of each filter. Of a path from
+-- a state, all that the laws look at is whether its first transition has ε on the inner side ("begins with ε").
 use mathlib.Core.Path.{_≡_}
 use mathlib.Core.Bool.{Bool, true, false, not}
 use mathlib.Core.Option.{some}

@@ -1,5 +1,5 @@
--- The weight of a pair of words, and what composition means. MPR: Mohri, Pereira, Riley 2002: a transducer T gives the words (x, y) the ⊕-sum of the weights of its accepting
--- paths x:y, and (T1 ∘ T2)(x, y) = ⊕ over z of T1(x, z) ⊗ T2(z, y). Ours: no sum is infinite. A sum is spoken of where what is summed over can be listed.
+-- The weight of a pair of words, and what composition means. MPR: Mohri, Pereira, Riley 2002: a transducer T gives the words (x, y) the ⊕-sum of the weights of its
+-- accepting paths x:y, and (T1 ∘ T2)(x, y) = ⊕ over z of T1(x, z) ⊗ T2(z, y). Ours: no sum is infinite; a sum is spoken of where what is summed over can be listed.
 use mathlib.Core.Path.{_≡_}
 use mathlib.Core.List.{List, [], _∷_, map}
 use mathlib.Core.Option.{Option, none, some}
@@ -47,8 +47,8 @@ module _ (K : Semiring) (value : ℕ → K .Element) where
   abbrev pub Middle : Machine → Machine → List ℕ → List ℕ → List ℕ → Type 0
   Middle A B x y z = (p : List ℕ) × PathOf A x z p × ((q : List ℕ) × PathOf B z y q)
 
-  -- MPR, the definition of composition: e = ⊕ over z of T1(x, z) ⊗ T2(z, y), over the middle words: where a machine has no path, the product is 0̄ and adds nothing. That there is
-  -- such an e says that the middle words are finite in number, and so are the paths x:z and z:y of each.
+  -- MPR, the definition of composition: e = ⊕ over z of T1(x, z) ⊗ T2(z, y), over the middle words z: for any other z one of both is 0̄, an empty sum, and adds nothing.
+  -- That there is such an e says that the middle words are finite in number, and so are the paths x:z and z:y of each.
   pub record ComposedWeighs (A B : Machine) (x y : List ℕ) (e : K .Element) : Type 0 where
     pub weight1 : List ℕ → K .Element
     pub weight2 : List ℕ → K .Element

@@ -244,10 +244,11 @@ Claim = (s : Settings) (l : Lent) (got : Session) (m : Memory) → openOf s l go
     → (side : Side) × (sideFor s l ≡ good side)
     × ((cs : List Call) → OpeningsRefused l (worldOf (openOf s l got m)) cs → Demand3 s l m (compositionOf s l side) (worldOf (openOf s l got m)) cs)
 
--- Demand 2b: "They are proved to follow a definition of composition written from Mohri, Pereira and Riley and the OpenFst papers", from the calls' answers to the papers in one
--- step; sigma labels may be set. `composedOf c` is the papers' composition, with document 01's filter, in which a label meets itself or a sigma that serves for it.
+-- Demand 2b: "They are proved to follow a definition of composition written from Mohri, Pereira and Riley and the OpenFst papers": from the calls' answers to the
+-- papers in one step. MPR: Mohri, Pereira, Riley 2002. ARS: Allauzen, Riley, Schalkwyk 2009. Sigma labels may be set: `composedOf c` is the papers' composition with
+-- 01's filter, in which a label meets itself, or a sigma that serves for it.
 
--- Record r is the papers' composed transition (e1, e2) from s with the next filter state g; d is the direction at s, by which it is known which transition serves as sigma.
+-- Record r is the papers' composed transition (e1, e2) from s, with the next filter state g. d is the direction at s: it tells which transition may serve as sigma.
 pub record IsTransition (c : Composition) (w : World) (d : MatchType) (s : Triple) (m : Edges) (g r : ℕ) : Type 0 where
   -- "machine 1's input, machine 2's output (both after any rewriting)"
   pub input : trField (w .memory .trs) (r - 1) 0 ≡ inputBy c (matchesOf d (c .operand1) (c .operand2) m)
@@ -295,9 +296,10 @@ pub record ByWords (l : Lent) (c : Composition) (pick : Bool → Bool → MoveKi
   pub paths : OneToOne (ReadsAs l w x y) (PairOf (semiring (c .kind)) (exact (c .kind)) (c .operand1 .machine) (c .operand2 .machine) x y)
       (pairOfRecords c w) (recordsOfPair c pick w)
   pub weights : (rs : List ℕ) → ReadsAs l w x y rs
-      → recordsWeight (c .kind) l w 0 rs ≡ weightOfPair (semiring (c .kind)) (exact (c .kind)) (c .operand1 .machine) (c .operand2 .machine) (pairOfRecords c w rs)
-  -- as a sum: the weights of the accepting paths x:y have the ⊕-sum e just where e = ⊕ over z of T1(x, z) ⊗ T2(z, y). That the paths x:y can be listed, and that the middle words z
-  -- and the paths x:z and z:y of each can be, is one and the same; where they cannot, no sum is spoken of.
+      → recordsWeight (c .kind) l w 0 rs
+      ≡ weightOfPair (semiring (c .kind)) (exact (c .kind)) (c .operand1 .machine) (c .operand2 .machine) (pairOfRecords c w rs)
+  -- as a sum: the weights of the accepting paths x:y have the ⊕-sum e just where e = ⊕ over z of T1(x, z) ⊗ T2(z, y). Either says that its sum is finite: so the paths
+  -- x:y can be listed just where the middle words z, and the paths x:z and z:y of each, can be. Where they cannot, no sum is spoken of.
   pub sum : (e : semiring (c .kind) .Element)
       → SumIs (semiring (c .kind)) (ReadsAs l w x y) (recordsWeight (c .kind) l w 0) e
       ↔ ComposedWeighs (semiring (c .kind)) (exact (c .kind)) (c .operand1 .machine) (c .operand2 .machine) x y e

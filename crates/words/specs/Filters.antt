@@ -70,8 +70,8 @@ papersFilterOf zero = epsilonSequencing
 papersFilterOf (suc zero) = epsilonSequencingMirrored
 papersFilterOf (suc (suc n)) = epsilonMatching
 
--- Ours, for the laws of a filter: from which f two paths can be taken to their ends. Sequence and match are as the papers'; alternate: in f = 1 no epsilon of machine 2 may follow;
--- an f above 1, which it never gives, is as 0.
+-- Ours, for the laws of a filter: from which f two paths can be taken to their ends. For sequence and match as for the papers' own. Alternate: in f = 1 no epsilon of
+-- machine 2 may follow; an f above 1, which it never gives, is as 0.
 abbrev pub alternateLive : ℕ → Bool → Bool → Bool
 alternateLive zero x y = true
 alternateLive (suc zero) x y = not y

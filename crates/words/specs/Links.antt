@@ -1,5 +1,5 @@
--- What the links between 01's lists and the papers' composition (AsPapers) say: 01's paragraph on moves as written; that the kept moves, and the composed transitions, of a state
--- are exactly the papers'; that its final weight is. Proved in proofs/Papers*.antt and proofs/WalkLaws.antt.
+-- What the links between 01's lists and the papers' composition (AsPapers) say: 01's paragraph on moves as written; that the kept moves, and the composed transitions,
+-- of a state are exactly the papers'; that its final weight is. Proved in proofs/Papers*.antt and proofs/WalkLaws.antt.
 use mathlib.Core.Path.{_≡_}
 use mathlib.Core.Bool.{false, cond}
 use mathlib.Core.List.{List, _∷_, map, List·Memᴰ}
