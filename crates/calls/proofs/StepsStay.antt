@@ -85,7 +85,7 @@ reached-stays d t none r e =
     let c = past-check (leb (stateRoom (d .memory)) (d .used .states)) 13 _ r e in
     subst (λ (q : Reached). Stays d (q .store)) (good-is (c .1)) (add-stays d t)
 
-step-stays : (d : Store) (next : ℕ) (st : Step) (e : Store) → storeStep d next st ≡ good e → Stays d e
+pub step-stays : (d : Store) (next : ℕ) (st : Step) (e : Store) → storeStep d next st ≡ good e → Stays d e
 unfolding storeStep reach
 step-stays d next st e g =
     let c = past-check (leb (trRoom (d .memory)) (d .used .trs)) 13 _ e g in

@@ -23,6 +23,7 @@ use Rattle.readings.specs.Listed.{pickOf}
 use Rattle.readings.specs.Demands.{worldOf, OpeningsRefused, stateAt, at-start, Sound, PapersList, Demand2, Claim2}
 use Rattle.readings.proofs.Filters.{filter-as-papers}
 use Rattle.readings.proofs.PapersLists.{papers-list}
+use Rattle.readings.proofs.Refused.{refused-for}
 use Rattle.readings.proofs.PathEnds.{final-answer}
 use Rattle.readings.proofs.StorePaths.{begins, papers-paths, store-paths}
 use Rattle.readings.proofs.WordPaths.{by-words}
@@ -52,6 +53,7 @@ follows s l side rule w k =
           let v = worldOf (expandOf l (w .session) (w .memory) n) in
           let x = expand-lists l c w k n p e in
           subst (PapersList c v n) (x .1) (papers-list c P v n (expand-onto l c w k n .kept .sound .lists n (x .0)));
+      refusals = λ n j u. refused-for s l side rule w (S .enters) n u j;
       finals = λ n u. subst (FinalExactly c (stateAt w n)) (sym (final-answer l c w (S .enters) n u)) (final-as-papers c (stateAt w n));
       paths = papers-paths s l side rule w S;
       filters = filter-as-papers (c .kind) (exact (c .kind)) (composedOf c) (s .filter);

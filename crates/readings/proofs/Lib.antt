@@ -14,6 +14,7 @@ pub mod PapersLists
 pub mod PathEnds
 pub mod PathRecords
 pub mod PathFollows
+pub mod Refused
 pub mod StorePaths
 pub mod WordPaths
 pub mod PathExample

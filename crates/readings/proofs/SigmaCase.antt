@@ -4,7 +4,7 @@ use mathlib.Core.Path.{_≡_, refl, sym, _∙_, ap, subst}
 use mathlib.Core.List.{List, [], _∷_, List·Memᴰ·head as here}
 use mathlib.Core.Logic.{_⊎_}
 use mathlib.Core.Option.{none, some}
-use Prim.Native.Nat.{ℕ, zero, suc, _<_, _≤_}
+use Prim.Native.Nat.{ℕ, zero, suc, _+_, _<_, _≤_}
 use native.Mathlib.Omega.{arith}
 use lib.ListN.{length, replicate}
 use Rattle.papers.specs.Weight.{finite, tropical, cost}
@@ -31,6 +31,7 @@ use Rattle.readings.specs.Listed.{goods, listedAt}
 use Rattle.readings.specs.Places.{placeOf}
 use Rattle.readings.specs.Readings.{at, filteredBy}
 use Rattle.readings.specs.Demands.{worldOf, OpeningsRefused, stateAt, targetOf, AcceptingRecords, movesIn, movesOfRecords, recordsOfMoves, IsTransition, PapersList, AllRead, Demand2}
+use Rattle.readings.proofs.Refused.{says-thirteen}
 use Rattle.readings.proofs.Demand2.{demand-2}
 
 abbrev lent : Lent
@@ -176,3 +177,21 @@ by-papers-filter = second-claim .filters .0 (bySigma ∷ []) .0 its-path
 pub from-any : (q1 q2 : ℕ) → AcceptingMoves tropical (exact cost) (filteredBy epsilonSequencing (composedOf c)) (at q1 q2) (bySigma ∷ [])
     → AcceptingMoves tropical (exact cost) (composedOf c) (at q1 q2) (bySigma ∷ [])
 from-any q1 q2 h = second-claim .filters .1 q1 q2 (bySigma ∷ []) .1 h
+
+-- room for one transition where two moves are kept: 13, and the room is short
+abbrev tight : World
+tight = world (session asked 0 1 0) (1 ∷ 0 ∷ []) (0 ∷ 0 ∷ 0 ∷ 0 ∷ 0 ∷ 8 ∷ 8 ∷ 8 ∷ 8 ∷ 8 ∷ 8 ∷ []) (replicate 9 8)
+
+opens-tight : openOf set lent got (record { heads = 9 ∷ 9 ∷ []; states = replicate 11 8; trs = replicate 9 8 }) .answer ≡ good tt
+unfolding Holds
+opens-tight = refl
+
+pub third-claim : Demand2 set lent c tight
+unfolding Holds
+third-claim =
+    let r = demand-2 set lent got (record { heads = 9 ∷ 9 ∷ []; states = replicate 11 8; trs = replicate 9 8 }) opens-tight in
+    subst (λ x. Demand2 set lent (compositionOf set lent x) tight) (good-is (sym (r .1) ∙ rule)) (r .2 [] tt)
+
+pub short : (1 < 0 + 2) ⊎ (2 < 1 + 2)
+unfolding Holds listedAt goods
+short = says-thirteen c tight 0 (third-claim .refusals 0 13 (omega arith) refl)

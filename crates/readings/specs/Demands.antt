@@ -33,8 +33,9 @@ use Rattle.papers.specs.Paths.{AcceptingRun, movesWeight}
 use Rattle.papers.specs.Sums.{SumIs, PairOf, weightOfPair, ComposedWeighs}
 use Rattle.words.specs.Matches.{MatchType}
 use Rattle.words.specs.Filters.{papersFilterOf}
-use Rattle.words.specs.AsPapers.{composedOf, directionOf, matchesOf, inputBy, outputBy, weightOf}
+use Rattle.words.specs.AsPapers.{TooLarge, composedOf, directionOf, WalkedSigma, matchesOf, inputBy, outputBy, weightOf}
 use Rattle.words.specs.Links.{FinalExactly}
+use Rattle.calls.specs.Store.{stateRoom, trRoom}
 use Rattle.readings.specs.Readings.{filteredBy, SamePaths}
 
 -- "Each call gets the session last returned, at first the opening's, and memory as last left"
@@ -270,6 +271,19 @@ pub record PapersList (c : Composition) (w : World) (n : ℕ) (p : Part) : Type 
   pub count : p .count ≡ length (movesIn c w n)
   pub record-of : (k : ℕ) (m : Edges) (g : ℕ) → At (movesIn c w n) k (m, g) → IsTransition c w direction (stateAt w n) m g (p .first + k)
 
+-- Why the expansion of state n is refused by k: "10, then in move order 11 before a walked label's matches, and 12, 13 for each kept move. Nothing else yields them."
+pub data RefusedFor (c : Composition) (w : World) (n k : ℕ) : Type 0 where
+  -- "both states need matching": it has no direction
+  undirected : k ≡ 10 → directionOf c (stateAt w n) ≡ refused 10 → RefusedFor c w n k
+  -- "walked label is sigma"
+  walked-sigma : k ≡ 11 → (d : MatchType) → directionOf c (stateAt w n) ≡ good d
+      → WalkedSigma d (c .operand1) (c .operand2) (stateAt w n .s1) (stateAt w n .s2) → RefusedFor c w n k
+  -- "weight too large", of a kept move of the papers
+  too-large : k ≡ 12 → (m : Edges) (g : ℕ) → KeptMove (composedOf c) (stateAt w n) m g → TooLarge (c .kind) (weightOf c m) → RefusedFor c w n k
+  -- "a record .. is lacking": there are not as many unused records, of one sort, as there are kept moves
+  no-room : k ≡ 13 → (trRoom (w .memory) < w .session .used .trs + length (movesIn c w n)) ⊎ (stateRoom (w .memory) < w .session .used .states + length (movesIn c w n))
+      → RefusedFor c w n k
+
 -- all found states are expanded, and no found state's final weight would be refused; sigma labels may be set
 pub record AllRead (l : Lent) (w : World) : Type 0 where
   pub expanded : (n : ℕ) → n < w .session .used .states → Expanded w n
@@ -312,6 +326,8 @@ pub record Demand2 (s : Settings) (l : Lent) (c : Composition) (w : World) : Typ
   pub lists : (n : ℕ) → Expanded w n → PapersList c w n (partIn w n)
   -- the list that an accepted expansion answers
   pub answers : (n : ℕ) (p : Part) → expandOf l (w .session) (w .memory) n .answer ≡ good p → PapersList c (worldOf (expandOf l (w .session) (w .memory) n)) n p
+  -- why one is refused
+  pub refusals : (n k : ℕ) → n < w .session .used .states → expandOf l (w .session) (w .memory) n .answer ≡ refused k → RefusedFor c w n k
   -- the final weight that is answered for a found state
   pub finals : (n : ℕ) → n < w .session .used .states → FinalExactly c (stateAt w n) (finalWeightOf l (w .session) (w .memory) n .answer)
   -- the accepting paths, once all found states are expanded and no final weight would be refused
