@@ -1,5 +1,5 @@
 -- Why the expansion of a found state is refused: a refusal stands in 01's list of its steps, or a record is lacking.
-use mathlib.Core.Path.{_≡_, refl, sym, _∙_, ap, subst}
+use mathlib.Core.Path.{_≡_, refl, sym, _∙_, ap}
 use mathlib.Core.List.{List, [], _∷_, _++_, map, List·Memᴰ as In, List·Memᴰ·not-nil, List·Memᴰ·cases-cons, nil≢cons, head-eq-of-cons-eq, tail-eq-of-cons-eq}
 use mathlib.Core.Logic.{⊎-elim, inl, inr}
 use Prim.Native.Nat.{ℕ, _<_, _≤_}
@@ -17,7 +17,7 @@ use Rattle.words.proofs.CheckedLaws.{refused-is, good≢refused}
 use Rattle.words.proofs.PapersOpened.{kept-as-papers, kept-refused, direction-refused, at-direction, sound-of}
 use Rattle.words.proofs.PapersSteps.{opened-as-papers}
 use Rattle.calls.specs.Checks.{storeOf, sideFor, entered}
-use Rattle.calls.specs.Calls.{expandOf, storeSteps}
+use Rattle.calls.specs.Calls.{expandOf}
 use Rattle.calls.specs.Sequences.{World}
 use Rattle.calls.proofs.ExpandKept.{sided}
 use Rattle.calls.proofs.ExpandCases.{by-expand}
