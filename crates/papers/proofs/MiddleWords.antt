@@ -67,7 +67,7 @@ module _ (K : Semiring) (L : CommutativeSemiring K) (value : ℕ → K .Element)
                 in-pairs ps qs p .1 (f .exactly (p .0) .1 (subst (λ u. PathOf K value A x u (p .0)) k (h .1)), s .exactly (p .1) .1 (subst (λ u. PathOf K value B u y (p .1)) k (h .2)))
 
     -- all of them
-    pub over-pairs : SumIs K Pairs (weightOfPair K value A B) e
+    pub over-pairs : SumIs K (PairOf K value A B x y) (weightOfPair K value A B) e
     over-pairs =
         let S = C .sum in
         let r = by-words (S .0) (S .1 .once) (λ z i. S .1 .exactly z .0 i) in (
@@ -137,7 +137,7 @@ module _ (K : Semiring) (L : CommutativeSemiring K) (value : ℕ → K .Element)
     }
 
   -- MPR's equation
-  pub over-middle-words : (e : K .Element) → SumIs K Pairs (weightOfPair K value A B) e ↔ ComposedWeighs K value A B x y e
+  pub over-middle-words : (e : K .Element) → SumIs K (PairOf K value A B x y) (weightOfPair K value A B) e ↔ ComposedWeighs K value A B x y e
   over-middle-words e = (
     λ h.
         let C = listed (h .0) (h .1) in

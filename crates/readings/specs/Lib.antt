@@ -9,5 +9,5 @@ pub mod Readings
 pub mod Places
 -- 01's lists as such lists.
 pub mod Listed
--- Demand 3 whole, over lists of calls.
+-- Demands 3 and 2b whole, over lists of calls.
 pub mod Demands
