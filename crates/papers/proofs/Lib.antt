@@ -8,3 +8,4 @@ pub mod Closed
 pub mod SigmaCases
 pub mod SumLaws
 pub mod MiddleWords
+pub mod SumCase
