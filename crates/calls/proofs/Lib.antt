@@ -12,6 +12,7 @@ pub mod ExpandKept
 pub mod OpenKept
 pub mod RunLaws
 pub mod StepsStay
+pub mod StepsLack
 pub mod FindLaws
 pub mod StepsMade
 pub mod Parts

@@ -9,3 +9,4 @@ pub mod Apart
 pub mod Rising
 pub mod Runs
 pub mod Totals
+pub mod Listed

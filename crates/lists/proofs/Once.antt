@@ -6,8 +6,8 @@ use mathlib.Core.Logic.{⊎-elim}
 use mathlib.Core.Option.{Option·none-ne-some}
 use Prim.Native.Nat.{ℕ, zero, suc}
 use native.Mathlib.Omega.{arith}
-use Rattle.lists.specs.Lists.{At, Distinct, putIf, keepIf}
-use Rattle.lists.proofs.Members.{of-flat, of-keep}
+use Rattle.lists.specs.Lists.{At, Distinct, putIf, keepIf, interval}
+use Rattle.lists.proofs.Members.{of-flat, of-keep, of-interval}
 use Rattle.lists.proofs.Places.{in-at, at-in}
 
 pub one-place : {A : Type 0} (l : List A) → Distinct l → (j k : ℕ) {a : A} → At l j a → At l k a → j ≡ k
@@ -50,3 +50,9 @@ distinct-of (x ∷ xs) h = (
   λ i. let p = in-at i in let z : 0 ≡ suc (p .0) = h 0 (suc (p .0)) x refl (p .1) in absurd (omega arith),
   distinct-of xs (λ j k a u v. let z : suc j ≡ suc k = h (suc j) (suc k) a u v in omega arith),
 )
+
+-- numbers in a row
+pub distinct-interval : (s n : ℕ) → Distinct (interval s n)
+unfolding interval
+distinct-interval s zero = tt
+distinct-interval s (suc n) = (λ i. let b = of-interval (suc s) n i in omega (arith, b .0), distinct-interval (suc s) n)

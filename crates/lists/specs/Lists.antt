@@ -2,6 +2,7 @@
 use mathlib.Core.Path.{_≡_}
 use mathlib.Core.Bool.{Bool, true, false, _&&_}
 use mathlib.Core.List.{List, [], _∷_, List·Memᴰ}
+use mathlib.Core.Logic.{_↔_}
 use mathlib.Core.Option.{Option, none, some}
 use Prim.Native.Nat.{ℕ, zero, suc}
 use lib.ListN.{getElem?}
@@ -15,6 +16,11 @@ At l k a = getElem? l k ≡ some a
 abbrev pub Distinct : {A : Type 0} → List A → Type 0
 Distinct [] = Unit {0}
 Distinct (x ∷ xs) = (List·Memᴰ x xs → ⊥) × Distinct xs
+
+-- l holds each a with P once, and nothing else
+pub record Enumerates {A : Type 0} (l : List A) (P : A → Type 0) : Type 0 where
+  pub once : Distinct l
+  pub exactly : (a : A) → List·Memᴰ a l ↔ P a
 
 -- x in front of l where the test holds
 abbrev pub putIf : {A : Type 0} → Bool → A → List A → List A

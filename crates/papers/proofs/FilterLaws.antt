@@ -1,11 +1,12 @@
--- The laws of a filter, from which it is to follow that it leaves exactly one composed path for each pair of paths: a test that the checker computes, and the laws that
--- follow from the test. Of a path from a state, all that the laws look at is whether its first transition has ε on the inner side ("begins with ε").
+-- The laws of a filter (specs/Laws) as a test that the checker computes: the laws follow from the test.
 use mathlib.Core.Path.{_≡_, refl, sym, _∙_, ap₂}
-use mathlib.Core.Bool.{Bool, true, false, not, Bool·beq, false≢true}
+use mathlib.Core.Bool.{Bool, true, false, Bool·beq, false≢true}
 use mathlib.Core.Option.{Option, none, some}
 use Prim.Native.Nat.{ℕ}
-use Rattle.lists.proofs.Finite.{both, left, right, join, implies, apply, allB, atB}
+use Rattle.lists.specs.Finite.{both, implies, allB}
+use Rattle.lists.proofs.Finite.{left, right, join, apply, atB}
 use Rattle.papers.specs.Filter.{MoveKind, lone1, lone2, bothEpsilon, aLabel, Facts, Filter}
+use Rattle.papers.specs.Laws.{fits, begins, then1, then2, Lawful}
 
 unfoldable pub allK : (MoveKind → Bool) → Bool
 allK P = both (both (P lone1) (P lone2)) (both (P bothEpsilon) (P aLabel))
@@ -52,30 +53,6 @@ sameK-eq j k e =
     let q = beq-eq (tests j .1) (tests k .1) (right _ _ e) in
     sym (kind-tests j) ∙ ap₂ kindBy p q ∙ kind-tests k
 
--- a path from a state where nothing (n) or everything (a) is ε begins with ε (e) or not
-abbrev pub fits : Bool → Bool → Bool → Bool
-fits n a e = both (implies n (not e)) (implies a e)
-
--- a move of this kind can be the first of two paths that begin with ε (x, y) or not
-abbrev pub begins : MoveKind → Bool → Bool → Bool
-begins lone1 x y = x
-begins lone2 x y = y
-begins bothEpsilon x y = both x y
-begins aLabel x y = both (not x) (not y)
-
--- how path 1, and path 2, begins after the move: as its rest does (x′), or, where its machine rested, as before (x)
-abbrev pub then1 : MoveKind → Bool → Bool → Bool
-then1 lone1 x x′ = x′
-then1 lone2 x x′ = x
-then1 bothEpsilon x x′ = x′
-then1 aLabel x x′ = x′
-
-abbrev pub then2 : MoveKind → Bool → Bool → Bool
-then2 lone1 y y′ = y
-then2 lone2 y y′ = y′
-then2 bothEpsilon y y′ = y′
-then2 aLabel y y′ = y′
-
 -- the test of a result: it must be there; or, if it is there
 abbrev holds : (ℕ → Bool) → Option ℕ → Bool
 holds P none = false
@@ -85,7 +62,6 @@ abbrev fails : (ℕ → Bool) → Option ℕ → Bool
 fails P none = true
 fails P (some g) = P g
 
--- `live f x y`: from the filter state f, two paths that begin so can be taken to their ends; `pick x y`: the one kind of move that may come first
 module _ (filter : Filter) (live : ℕ → Bool → Bool → Bool) (pick : Bool → Bool → MoveKind) where
   abbrev forward : ℕ → Bool → Bool → Bool → Bool → Bool → Bool → Bool → Bool → Bool
   forward f n1 a1 n2 a2 x y x′ y′ =
@@ -110,20 +86,6 @@ module _ (filter : Filter) (live : ℕ → Bool → Bool → Bool) (pick : Bool 
       both
       (both (allB λ x. allB λ y. both (begins (pick x y) x y) (live 0 x y)) (live f false false))
       (both (all8 (forward f)) (allK λ k. all8 (backward f k)))
-
-  pub record Lawful : Type 0 where
-    -- the picked move can begin two such paths
-    pub picks : (x y : Bool) → begins (pick x y) x y ≡ true
-    -- from the first filter state every two paths can be taken to their ends
-    pub start : (x y : Bool) → live 0 x y ≡ true
-    -- so can two paths that begin with no ε, from every filter state
-    pub end : (f : ℕ) → live f false false ≡ true
-    -- the picked move is kept, and what is left can be taken to its ends, however it begins
-    pub forwards : (φ : Facts) (f : ℕ) (x y : Bool) → fits (φ .none1) (φ .all1) x ≡ true → fits (φ .none2) (φ .all2) y ≡ true → live f x y ≡ true
-        → (g : ℕ) × (filter (pick x y) φ f ≡ some g) × ((x′ y′ : Bool) → live g (then1 (pick x y) x x′) (then2 (pick x y) y y′) ≡ true)
-    -- a kept move from which the rest can be taken to its ends is the picked one
-    pub backwards : (k : MoveKind) (φ : Facts) (f g : ℕ) (x y x′ y′ : Bool) → fits (φ .none1) (φ .all1) x ≡ true → fits (φ .none2) (φ .all2) y ≡ true → begins k x y ≡ true
-        → filter k φ f ≡ some g → live g (then1 k x x′) (then2 k y y′) ≡ true → (live f x y ≡ true) × (pick x y ≡ k)
 
   module _ (pass : (f : ℕ) → lawful f ≡ true) where
     start-of : (x y : Bool) → both (begins (pick x y) x y) (live 0 x y) ≡ true
@@ -162,7 +124,7 @@ module _ (filter : Filter) (live : ℕ → Bool → Bool → Bool) (pick : Bool 
         let u : both (live f x y) (sameK (pick x y) k) ≡ true = apply _ _ (rw e at t) h4 in
         (left _ _ u, sameK-eq (pick x y) k (right _ _ u))
 
-    pub laws : Lawful
+    pub laws : Lawful filter live pick
     laws = record {
       picks = λ x y. left _ _ (start-of x y);
       start = λ x y. right _ _ (start-of x y);

@@ -6,3 +6,6 @@ pub mod SemiringLaws
 pub mod PathLaws
 pub mod Closed
 pub mod SigmaCases
+pub mod SumLaws
+pub mod MiddleWords
+pub mod SumCase

@@ -56,7 +56,7 @@ epsilonSequencingMirrored bothEpsilon φ f = none
 epsilonSequencingMirrored aLabel φ f = some 0
 
 -- ARS, the epsilon-matching filter, Q3 = {0, 1, 2}: 0 for (x, x); 0 for (ε, ε) in 0; 1 for (ε, ε^L) but in 2; 2 for (ε^L, ε) but in 1; else ⊥. A state above 2 is read as 2.
--- It is the filter transducer of Mohri, Pereira, Riley 1996 and Pereira, Riley 1997.
+-- It is the filter transducer of Mohri, Pereira, Riley 1996 and Pereira, Riley 1997; which state is 1 and which 2 is as in the implementations.
 abbrev pub epsilonMatching : Filter
 epsilonMatching lone1 φ zero = some 1
 epsilonMatching lone1 φ (suc zero) = some 1

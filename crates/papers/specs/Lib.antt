@@ -7,9 +7,13 @@ pub mod Weight
 pub mod Filter
 -- Which of the composed paths of a pair each filter leaves.
 pub mod Pick
+-- The laws by which it leaves one.
+pub mod Laws
 -- The composition of two machines with a filter.
 pub mod Composition
 -- Which inner labels meet where one machine has a special label.
 pub mod Sigma
 -- Paths, accepting paths, matching pairs of paths.
 pub mod Paths
+-- The weight of a pair of words; what composition means.
+pub mod Sums

@@ -1,5 +1,11 @@
--- What follows from a correspondence: every b comes from exactly one a; correspondences can be turned round and chained.
-use mathlib.Core.Path.{_≡_, sym, _∙_, ap, subst}
+-- What follows from a correspondence: every b comes from exactly one a; correspondences can be turned round and chained; lists and sums go over.
+use mathlib.Core.Path.{_≡_, refl, sym, _∙_, ap, subst}
+use mathlib.Core.List.{List, [], _∷_, map, List·Memᴰ as In, List·Memᴰ·head as here, List·Memᴰ·tail as there, Memᴰ·map, Memᴰ·of-map, Memᴰ·cast}
+use mathlib.Core.Logic.{_↔_}
+use Rattle.lists.specs.Lists.{Distinct, Enumerates}
+use Rattle.papers.specs.Weight.{Semiring, CommutativeSemiring}
+use Rattle.papers.specs.Sums.{SumIs}
+use Rattle.papers.proofs.SumLaws.{total-equal, total-map}
 use Rattle.readings.specs.Correspondence.{OneToOne}
 
 module _ {A B : Type 0} {P : A → Type 0} {Q : B → Type 0} {to : A → B} {from : B → A} (c : OneToOne P Q to from) where
@@ -19,6 +25,42 @@ chained {to = to} {from = from} {on = on} {off = off} c d = record {
   to-from = λ r q. ap on (c .to-from (off r) (d .comes r q)) ∙ d .to-from r q;
 }
 
--- where both P and P′ correspond to Q by the same maps, what has P has P′
-pub also : {A B : Type 0} {P P′ : A → Type 0} {Q : B → Type 0} {to : A → B} {from : B → A} → OneToOne P Q to from → OneToOne P′ Q to from → (a : A) → P a → P′ a
-also {P′ = P′} {to = to} c d a p = subst P′ (c .from-to a p) (d .comes (to a) (c .goes a p))
+-- what holds of the same b may stand for Q
+pub exchanged : {A B : Type 0} {P : A → Type 0} {Q R : B → Type 0} {to : A → B} {from : B → A} → ((b : B) → Q b ↔ R b) → OneToOne P Q to from → OneToOne P R to from
+exchanged {to = to} f c = record {
+  goes = λ a p. f (to a) .0 (c .goes a p);
+  comes = λ b r. c .comes b (f b .1 r);
+  from-to = c .from-to;
+  to-from = λ b r. c .to-from b (f b .1 r);
+}
+
+-- a list of the ones, each once, gives a list of the others
+distinct-image : {A B : Type 0} (g : A → B) (l : List A) → ((a b : A) → In a l → In b l → g a ≡ g b → a ≡ b) → Distinct l → Distinct (map g l)
+distinct-image g [] h d = tt
+distinct-image g (x ∷ l) h d = (
+  λ i. let r = Memᴰ·of-map g l i in d .0 (Memᴰ·cast (h x (r .0) (here refl) (there (r .1)) (sym (r .2))) (r .1)),
+  distinct-image g l (λ a b i j. h a b (there i) (there j)) (d .1),
+)
+
+pub image : {A B : Type 0} {P : A → Type 0} {Q : B → Type 0} {to : A → B} {from : B → A} (l : List A) → OneToOne P Q to from → Enumerates l P → Enumerates (map to l) Q
+image {Q = Q} {to = to} {from = from} l o e = record {
+  once = distinct-image to l (λ a b i j q. sym (o .from-to a (e .exactly a .0 i)) ∙ (ap from q ∙ o .from-to b (e .exactly b .0 j))) (e .once);
+  exactly = λ b. (
+    λ i. let r = Memᴰ·of-map to l i in subst Q (r .2) (o .goes (r .0) (e .exactly (r .0) .0 (r .1))),
+    λ q. Memᴰ·cast (sym (o .to-from b q)) (Memᴰ·map to (e .exactly (from b) .1 (o .comes b q))),
+  );
+}
+
+-- and where their weights are equal, the same sum
+module _ (K : Semiring) (L : CommutativeSemiring K) where
+  summed : {A B : Type 0} {P : A → Type 0} {Q : B → Type 0} {to : A → B} {from : B → A} (v : A → K .Element) (w : B → K .Element) (e : K .Element)
+      → OneToOne P Q to from → ((a : A) → P a → v a ≡ w (to a)) → SumIs K P v e → SumIs K Q w e
+  summed {to = to} v w e o h s = (
+    map to (s .0),
+    image (s .0) o (s .1),
+    total-map K L to w (s .0) ∙ (sym (total-equal K L v (λ a. w (to a)) (s .0) (λ a i. h a (s .1 .exactly a .0 i))) ∙ s .2),
+  )
+
+  pub same-sum : {A B : Type 0} {P : A → Type 0} {Q : B → Type 0} {to : A → B} {from : B → A} (v : A → K .Element) (w : B → K .Element) (e : K .Element)
+      → OneToOne P Q to from → ((a : A) → P a → v a ≡ w (to a)) → SumIs K P v e ↔ SumIs K Q w e
+  same-sum {from = from} v w e o h = (summed v w e o h, summed w v e (turned o) (λ b q. ap w (sym (o .to-from b q)) ∙ sym (h (from b) (o .comes b q))))

@@ -16,11 +16,11 @@ use Rattle.papers.specs.Paths.{word, path1, path2, Matching, Ends, Accepting, A
 use Rattle.words.specs.Machines.{stateCount, trCount, startWord, sideMark, acceptorMark, stateWord, trWord, firstOk, nextOk, firstOf, nextOf, listBy, listFrom, listOf, machineOf, noFall, sorted, stateOk, trOk, acceptor, marksOk, sizeOk, wellFormed}
 use Rattle.words.specs.Filters.{sequence, alternate, matching}
 use Rattle.words.specs.AsPapers.{exact}
-use Rattle.words.proofs.TableLaws.{sequencePick, alternatePick, matchingPick}
+use Rattle.papers.specs.Pick.{sequencePick, alternatePick, matchingPick}
 use Rattle.readings.specs.Merge.{move, mergeUpTo, merge}
-use Rattle.readings.specs.Readings.{composed, Pair}
+use Rattle.readings.specs.Readings.{composed, Pair, ReadingsOf}
 use Rattle.readings.specs.Places.{sameEdge}
-use Rattle.readings.proofs.Filters.{ReadingsOf, sequence-readings, alternate-readings, match-readings}
+use Rattle.readings.proofs.Filters.{sequence-readings, alternate-readings, match-readings}
 
 -- States 0, 1, 2; records 1 from 0 to 1 and 2 from 1 to 2, and 3 from 0 to 2, which is final. Records 1 and 2 are those of 01's listing.
 -- Machine 1: 1:0 of weight 1, 2:5 of weight 2, 3:5 of weight 10; final weight 2.

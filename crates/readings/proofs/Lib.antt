@@ -4,16 +4,20 @@ pub mod Projection
 pub mod Rebuilt
 pub mod Made
 pub mod Theorem
+pub mod Swap
 pub mod Filters
 pub mod Placed
 pub mod Example
 pub mod Listed
 pub mod PathMoves
+pub mod PapersLists
 pub mod PathEnds
 pub mod PathRecords
 pub mod PathFollows
+pub mod Refused
 pub mod StorePaths
 pub mod StoreWalks
+pub mod WordPaths
 pub mod Grows
 pub mod Expansions
 pub mod CallsKept
@@ -23,6 +27,7 @@ pub mod TwoWorlds
 pub mod LargerMemory
 pub mod NeverEight
 pub mod Demands
+pub mod Demand2
 pub mod DemandCase
 pub mod Rooms
 pub mod Decided
@@ -31,3 +36,5 @@ pub mod GivenAgain
 pub mod Consequences
 pub mod PathExample
 pub mod RoomCase
+pub mod WordCase
+pub mod SigmaCase

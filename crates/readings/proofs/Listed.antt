@@ -3,9 +3,9 @@
 use mathlib.Core.Path.{_≡_, refl, sym, _∙_, ap, subst}
 use mathlib.Core.Bool.{true}
 use mathlib.Core.List.{List, [], _∷_, map, List·Memᴰ as In, List·Memᴰ·head as here, List·Memᴰ·tail as there}
-use mathlib.Core.Logic.{_↔_}
+use mathlib.Core.Logic.{_↔_, Iff·trans}
 use Prim.Native.Nat.{ℕ, zero, suc}
-use Rattle.lists.specs.Lists.{At, Distinct}
+use Rattle.lists.specs.Lists.{At, Distinct, Enumerates}
 use Rattle.lists.proofs.Places.{at-in, in-at, at-map, of-at-map}
 use Rattle.lists.proofs.Once.{distinct-of}
 use Rattle.papers.specs.Weight.{semiring}
@@ -17,74 +17,84 @@ use Rattle.words.specs.Sides.{Side, sideOf}
 use Rattle.words.specs.Filters.{filterOf}
 use Rattle.words.specs.Steps.{Composition, Kept, keptAt}
 use Rattle.words.specs.Settings.{Settings, Lent, operand1, operand2, compositionOf}
-use Rattle.words.specs.AsPapers.{exact, edgesOf, plain, WalkedSigma}
-use Rattle.words.proofs.TableLaws.{sequenceLive, sequence-laws, alternateLive, alternate-laws, matchingLive, matching-laws}
+use Rattle.words.specs.AsPapers.{exact, edgesOf, composedOf, plain, directionOf, WalkedSigma}
+use Rattle.papers.specs.Pick.{sequenceLive, matchingLive}
+use Rattle.words.specs.Filters.{alternateLive}
+use Rattle.words.proofs.TableLaws.{sequence-laws, alternate-laws, matching-laws}
 use Rattle.words.proofs.CheckedLaws.{good-is}
-use Rattle.words.proofs.PapersMoves.{Sound, Exactly}
-use Rattle.words.proofs.PapersOpened.{kept-as-papers, no-sigma, directed, sound-of}
+use Rattle.words.specs.Links.{Composable}
+use Rattle.words.proofs.PapersOpened.{kept-as-papers, at-direction, directed, plain-composition, sound-of}
 use Rattle.readings.specs.Correspondence.{OneToOne}
 use Rattle.readings.specs.Merge.{merge}
-use Rattle.readings.specs.Readings.{at, pairOf, PairFrom, Readings}
+use Rattle.readings.specs.Readings.{at, pairOf, PairFrom, Readings, ReadingsOf}
 use Rattle.readings.specs.Places.{Lists, movesAt, placesOf, AcceptingPlaces}
 use Rattle.readings.specs.Listed.{goods, entryOf, listedAt, pickOf}
-use Rattle.readings.proofs.Filters.{ReadingsOf, equal-readings}
+use Rattle.readings.proofs.Filters.{equal-readings}
 use Rattle.readings.proofs.Placed.{placed-readings}
 
 -- a list without refusals is its values
-all-good : {A : Type 0} (l : List (Checked A)) → ((n : ℕ) → In (refused n) l → ⊥) → l ≡ map good (goods l)
+pub all-good : {A : Type 0} (l : List (Checked A)) → ((n : ℕ) → In (refused n) l → ⊥) → l ≡ map good (goods l)
 unfolding goods
 all-good [] h = refl
 all-good (good a ∷ l) h = ap (λ r. good a ∷ r) (all-good l (λ n i. h n (there i)))
 all-good (refused n ∷ l) h = absurd (h n (here refl))
 
-module _ (c : Composition) (S : Sound c) (none1 : c .operand1 .sigma .label ≡ noLabel) (none2 : c .operand2 .sigma .label ≡ noLabel) (s : Triple) where
-  exact-list : (d : MatchType) × Exactly d c s (keptAt c s)
-  exact-list = let r = directed c s none1 in (r .0, kept-as-papers c S s (r .0) (r .1))
+-- where no kept move is refused
+module _ (c : Composition) (s : Triple) (all : keptAt c s ≡ map good (goods (keptAt c s))) where
+  -- a place of the one list is the place of the other
+  pub places : (k : ℕ) (m : Edges) (g : ℕ) → At (listedAt c s) k (m, g) ↔ ((v : Kept) × At (keptAt c s) k (good v) × ((m, g) ≡ entryOf v))
+  unfolding listedAt
+  places k m g = (
+    λ h. let r = of-at-map entryOf (goods (keptAt c s)) k h in (r .0, subst (λ l. At l k (good (r .0))) (sym all) (at-map good (goods (keptAt c s)) k (r .1)), r .2),
+    λ h.
+        let r = of-at-map good (goods (keptAt c s)) k (subst (λ l. At l k (good (h .0))) all (h .1)) in
+        let e : h .0 ≡ r .0 = good-is (r .2) in
+        subst (At (listedAt c s) k) (sym (h .2 ∙ ap entryOf e)) (at-map entryOf (goods (keptAt c s)) k (r .1)),
+  )
 
+  -- it holds each kept move of the papers once, and nothing else
+  pub enumerated : Composable c → (d : MatchType) → directionOf c s ≡ good d → Enumerates (listedAt c s) (λ e. KeptMove (composedOf c) s (e .0) (e .1))
+  enumerated S d e =
+      let E = kept-as-papers c S s d e in
+      record {
+        once =
+            distinct-of (listedAt c s)
+            (λ j k a u v.
+            let x = places j (a .0) (a .1) .0 u in
+            let y = places k (a .0) (a .1) .0 v in
+            E .once j k (x .0) (y .0) (x .1) (y .1) (ap (λ (z : Edges × ℕ). z .0) (sym (x .2) ∙ y .2)));
+        exactly = λ a. (
+          λ i.
+              let p = in-at i in
+              let r = places (p .0) (a .0) (a .1) .0 (p .1) in
+              subst (λ (z : Edges × ℕ). KeptMove (composedOf c) s (z .0) (z .1)) (sym (r .2))
+              (at-direction c s d e (edgesOf (r .0 .move)) (r .0 .next) .1 (E .sound (r .0) (at-in (keptAt c s) (p .0) (r .1)))),
+          λ h.
+              let p = in-at (E .complete (a .0) (a .1) (at-direction c s d e (a .0) (a .1) .0 h)) in
+              at-in (listedAt c s) (p .0) (places (p .0) (a .0) (a .1) .1 (_, p .1, λ i. (sym (E .itself (a .0)) i, a .1))),
+        );
+      }
+
+module _ (c : Composition) (S : Composable c) (none1 : c .operand1 .sigma .label ≡ noLabel) (none2 : c .operand2 .sigma .label ≡ noLabel) (s : Triple) where
   no-walked : (d : MatchType) → WalkedSigma d (c .operand1) (c .operand2) (s .s1) (s .s2) → ⊥
   no-walked inputs w = S .labels1 (s .s1) (w .0) (w .1) (w .2 ∙ none2)
   no-walked outputs w = S .labels2 (s .s2) (w .0) (w .1) (w .2 ∙ none1)
 
   -- no kept move is refused
-  pub kept-good : keptAt c s ≡ map good (goods (keptAt c s))
-  kept-good = let E = exact-list in all-good (keptAt c s) (λ n i. no-walked (E .0) (E .1 .refusals n .0 i .1))
+  kept-good : keptAt c s ≡ map good (goods (keptAt c s))
+  kept-good = let r = directed c s none1 in all-good (keptAt c s) (λ n i. no-walked (r .0) (kept-as-papers c S s (r .0) (r .1) .refusals n .0 i .1))
 
-  -- a place of the one list is the place of the other
-  pub listed-places : (k : ℕ) (m : Edges) (g : ℕ) → At (listedAt c s) k (m, g) ↔ ((v : Kept) × At (keptAt c s) k (good v) × ((m, g) ≡ entryOf v))
-  unfolding listedAt
-  listed-places k m g = (
-    λ h. let r = of-at-map entryOf (goods (keptAt c s)) k h in (r .0, subst (λ l. At l k (good (r .0))) (sym kept-good) (at-map good (goods (keptAt c s)) k (r .1)), r .2),
-    λ h.
-        let r = of-at-map good (goods (keptAt c s)) k (subst (λ l. At l k (good (h .0))) kept-good (h .1)) in
-        let e : h .0 ≡ r .0 = good-is (r .2) in
-        subst (At (listedAt c s) k) (sym (h .2 ∙ ap entryOf e)) (at-map entryOf (goods (keptAt c s)) k (r .1)),
-  )
+  plainly : Enumerates (listedAt c s) (λ e. KeptMove (composedOf c) s (e .0) (e .1))
+  plainly = let r = directed c s none1 in enumerated c s kept-good S (r .0) (r .1)
 
   pub exactly-listed : (m : Edges) (g : ℕ) → In (m, g) (listedAt c s) ↔ KeptMove (plain c) s m g
-  exactly-listed m g = (
-    λ i.
-        let p = in-at i in
-        let r = listed-places (p .0) m g .0 (p .1) in
-        subst (λ (e : Edges × ℕ). KeptMove (plain c) s (e .0) (e .1)) (sym (r .2))
-        (no-sigma c S none1 none2 s (E .0) (edgesOf (r .0 .move)) (r .0 .next) .0 (E .1 .sound (r .0) (at-in (keptAt c s) (p .0) (r .1)))),
-    λ h.
-        let p = in-at (E .1 .complete m g (no-sigma c S none1 none2 s (E .0) m g .1 h)) in
-        at-in (listedAt c s) (p .0) (listed-places (p .0) m g .1 (_, p .1, λ i. (sym (E .1 .itself m) i, g))),
-  )
-    where
-      E : (d : MatchType) × Exactly d c s (keptAt c s)
-      E = exact-list
+  exactly-listed m g = Iff·trans (plainly .exactly (m, g)) (plain-composition c S none1 none2 s m g)
 
   once-listed : Distinct (listedAt c s)
-  once-listed =
-      distinct-of (listedAt c s)
-      (λ j k a u v.
-      let x = listed-places j (a .0) (a .1) .0 u in
-      let y = listed-places k (a .0) (a .1) .0 v in
-      exact-list .1 .once j k (x .0) (y .0) (x .1) (y .1) (ap (λ (e : Edges × ℕ). e .0) (sym (x .2) ∙ y .2)))
+  once-listed = plainly .once
 
 -- at every triple
-pub words-lists : (c : Composition) → Sound c → c .operand1 .sigma .label ≡ noLabel → c .operand2 .sigma .label ≡ noLabel → Lists (plain c) (λ s. Unit {0}) (listedAt c)
+pub words-lists : (c : Composition) → Composable c → c .operand1 .sigma .label ≡ noLabel → c .operand2 .sigma .label ≡ noLabel → Lists (plain c) (λ s. Unit {0}) (listedAt c)
 words-lists c S none1 none2 = record {
   exactly = λ s f. exactly-listed c S none1 none2 s;
   once = λ s f. once-listed c S none1 none2 s;

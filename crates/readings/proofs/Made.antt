@@ -16,7 +16,7 @@ use Rattle.papers.specs.Weight.{Semiring, CommutativeSemiring}
 use Rattle.papers.specs.Filter.{MoveKind, lone1, lone2, bothEpsilon, aLabel, factsOf}
 use Rattle.papers.specs.Composition.{rest, along, Composed, Triple, Move, reached}
 use Rattle.papers.specs.Paths.{path1, path2, Matching, Accepting, AcceptingMoves}
-use Rattle.papers.proofs.FilterLaws.{begins, then1, then2, Lawful}
+use Rattle.papers.specs.Laws.{begins, then1, then2, Lawful}
 use Rattle.papers.proofs.Forms.{form1, form2, formε, formx}
 use Rattle.papers.proofs.PathLaws.{word-ε, word-label, ends-both}
 use Rattle.readings.specs.Merge.{beginsε, move, front, mergeUpTo}

@@ -14,8 +14,9 @@ use Rattle.papers.proofs.PathLaws.{ends-both}
 use Rattle.words.specs.Labels.{Checked, good, refused, andThen}
 use Rattle.words.specs.Steps.{Composition, finalAt}
 use Rattle.words.specs.Settings.{Lent}
-use Rattle.words.specs.AsPapers.{exact, plain}
-use Rattle.words.proofs.PapersFinal.{NoEnd, final-as-papers}
+use Rattle.words.specs.AsPapers.{exact, composedOf}
+use Rattle.words.specs.Links.{NoEnd}
+use Rattle.words.proofs.PapersFinal.{final-as-papers}
 use Rattle.calls.specs.Checks.{entered, enteredAt}
 use Rattle.calls.specs.Calls.{settle, unchanged, finalWeightOf}
 use Rattle.calls.specs.Sequences.{World}
@@ -38,8 +39,8 @@ no-end k M q h d = ⊎-elim (λ f. true≢false (sym (h .0) ∙ f)) (λ z. h .1 
 -- state n ends a path: with the weight x that is answered
 pub record IsEnd (l : Lent) (c : Composition) (w : World) (n x : ℕ) : Type 0 where
   pub answer : finalWeightOf l (w .session) (w .memory) n .answer ≡ good (some x)
-  pub both : EndsBoth (semiring (c .kind)) (exact (c .kind)) (plain c) (stateAt w n .s1) (stateAt w n .s2)
-  pub product : exact (c .kind) x ≡ productAt (semiring (c .kind)) (exact (c .kind)) (plain c) (stateAt w n .s1) (stateAt w n .s2)
+  pub both : EndsBoth (semiring (c .kind)) (exact (c .kind)) (composedOf c) (stateAt w n .s1) (stateAt w n .s2)
+  pub product : exact (c .kind) x ≡ productAt (semiring (c .kind)) (exact (c .kind)) (composedOf c) (stateAt w n .s1) (stateAt w n .s2)
 
 module _ (l : Lent) (c : Composition) (w : World) (enters : entered l (w .session) (w .memory) ≡ good c) (n : ℕ) (u : n < w .session .used .states) where
   pub answered-end : (x : ℕ) → finalWeightOf l (w .session) (w .memory) n .answer ≡ good (some x) → IsEnd l c w n x
@@ -49,9 +50,9 @@ module _ (l : Lent) (c : Composition) (w : World) (enters : entered l (w .sessio
 
   -- where the answer is no refusal
   pub end-answered : (x : Option ℕ) → finalWeightOf l (w .session) (w .memory) n .answer ≡ good x
-      → EndsBoth (semiring (c .kind)) (exact (c .kind)) (plain c) (stateAt w n .s1) (stateAt w n .s2) → (y : ℕ) × IsEnd l c w n y
+      → EndsBoth (semiring (c .kind)) (exact (c .kind)) (composedOf c) (stateAt w n .s1) (stateAt w n .s2) → (y : ℕ) × IsEnd l c w n y
   end-answered (some x) e h = (x, answered-end x e)
   end-answered none e h =
       let d = final-as-papers c (stateAt w n) .none-where .0 (sym (final-answer l c w enters n u) ∙ e) in
-      let b = ends-both (semiring (c .kind)) (semiring-laws (c .kind)) (exact (c .kind)) (plain c) (stateAt w n .s1) (stateAt w n .s2) .0 h in
+      let b = ends-both (semiring (c .kind)) (semiring-laws (c .kind)) (exact (c .kind)) (composedOf c) (stateAt w n .s1) (stateAt w n .s2) .0 h in
       absurd (⊎-elim (no-end (c .kind) (c .operand1 .machine) (stateAt w n .s1) (b .0)) (no-end (c .kind) (c .operand2 .machine) (stateAt w n .s2) (b .1)) d)

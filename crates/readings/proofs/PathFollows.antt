@@ -1,26 +1,29 @@
 -- A list of records and a list of moves that follow one another, link by link, to an end. What accepts on either side is followed by its image, and of two that follow one
--- another each is the image of the other, with the same labels and the same weight: so accepting records and accepting moves correspond one to one.
+-- another each is the image of the other, with the same weight and, without sigma, the same labels: so accepting records and accepting moves correspond one to one.
 use mathlib.Core.Path.{_≡_, refl, sym, _∙_, ap, ap₂, subst}
-use mathlib.Core.List.{List, [], _∷_, map}
+use mathlib.Core.List.{List, [], _∷_, map, List·Memᴰ as In}
+use mathlib.Core.Logic.{_≢_}
 use Prim.Native.Nat.{ℕ, _-_, _<_}
 use Rattle.papers.specs.Weight.{semiring}
 use Rattle.papers.specs.Composition.{Triple, Move as Edges, inputOf, outputOf}
 use Rattle.papers.specs.Paths.{AcceptingMoves, movesWeight}
+use Rattle.words.specs.Labels.{noLabel}
 use Rattle.words.specs.Weights.{zeroOf}
 use Rattle.words.specs.Steps.{Composition}
-use Rattle.words.specs.AsPapers.{exact, plain}
+use Rattle.words.specs.AsPapers.{exact, composedOf}
 use Rattle.words.specs.Settings.{Lent}
 use Rattle.calls.specs.Store.{trField}
 use Rattle.calls.specs.Sequences.{World}
 use Rattle.readings.specs.Correspondence.{OneToOne}
 use Rattle.readings.specs.Worlds.{stateAt, targetOf}
 use Rattle.readings.specs.StorePaths.{AcceptingFrom, movesOfRecords, recordsOfMoves, answeredWeight, recordsWeight}
+use Rattle.readings.proofs.PathMoves.{unwritten-both}
 use Rattle.readings.proofs.PathEnds.{IsEnd, answered-end, end-answered}
 use Rattle.readings.proofs.PathRecords.{Link, Whole, move-link, record-link, moves-turn, records-turn}
 
 -- accepting moves of the papers' composition, from a triple on
 abbrev pub AcceptingAt : Composition → Triple → List Edges → Type 0
-AcceptingAt c t ms = AcceptingMoves (semiring (c .kind)) (exact (c .kind)) (plain c) t ms
+AcceptingAt c t ms = AcceptingMoves (semiring (c .kind)) (exact (c .kind)) (composedOf c) t ms
 
 abbrev pub Follows : Lent → Composition → World → ℕ → List ℕ → List Edges → Type 0
 Follows l c w n [] [] = (x : ℕ) × IsEnd l c w n x
@@ -34,9 +37,7 @@ pub record Alike (l : Lent) (c : Composition) (w : World) (n : ℕ) (rs : List �
   pub moves : AcceptingAt c (stateAt w n) ms
   pub to : movesOfRecords c w n rs ≡ ms
   pub from : recordsOfMoves c w n ms ≡ rs
-  pub inputs : map (λ r. trField (w .memory .trs) (r - 1) 0) rs ≡ map (inputOf (plain c)) ms
-  pub outputs : map (λ r. trField (w .memory .trs) (r - 1) 1) rs ≡ map (outputOf (plain c)) ms
-  pub weight : recordsWeight (c .kind) l w n rs ≡ movesWeight (semiring (c .kind)) (exact (c .kind)) (plain c) (stateAt w n .s1) (stateAt w n .s2) ms
+  pub weight : recordsWeight (c .kind) l w n rs ≡ movesWeight (semiring (c .kind)) (exact (c .kind)) (composedOf c) (stateAt w n .s1) (stateAt w n .s2) ms
 
 module _ (l : Lent) (c : Composition) (w : World) (W : Whole l c w) where
   of-records : (rs : List ℕ) (n : ℕ) → n < w .session .used .states → AcceptingFrom l w n rs → Follows l c w n rs (movesOfRecords c w n rs)
@@ -45,7 +46,7 @@ module _ (l : Lent) (c : Composition) (w : World) (W : Whole l c w) where
   of-records (r ∷ rs) n u h =
       let k = record-link l c w W n u r (h .1) in
       let turn = moves-turn l c w W n r (k .0) (k .1) (k .2) rs in
-      subst (Follows l c w n (r ∷ rs)) (sym turn) (k .1, k .2, of-records rs (targetOf w r) (k .2 .used) (h .2))
+      subst (Follows l c w n (r ∷ rs)) (sym turn) (k .1, k .2, of-records rs (targetOf w r) (k .2 .same .found) (h .2))
 
   of-moves : (ms : List Edges) (n : ℕ) → n < w .session .used .states → AcceptingAt c (stateAt w n) ms
       → Follows l c w n (recordsOfMoves c w n ms) ms
@@ -54,8 +55,8 @@ module _ (l : Lent) (c : Composition) (w : World) (W : Whole l c w) where
   of-moves (m ∷ ms) n u h =
       let k = move-link l c w W n u m (h .0) (h .1) in
       let turn = records-turn l c w W n u (k .0) m (h .0) (k .1) ms in
-      let onward = subst (λ t. AcceptingAt c t ms) (sym (k .1 .to)) (h .2) in
-      subst (λ rs. Follows l c w n rs (m ∷ ms)) (sym turn) (h .0, k .1, of-moves ms (targetOf w (k .0)) (k .1 .used) onward)
+      let onward = subst (λ t. AcceptingAt c t ms) (sym (k .1 .same .target)) (h .2) in
+      subst (λ rs. Follows l c w n rs (m ∷ ms)) (sym turn) (h .0, k .1, of-moves ms (targetOf w (k .0)) (k .1 .same .found) onward)
 
   alike : (rs : List ℕ) (ms : List Edges) (n : ℕ) → n < w .session .used .states → Follows l c w n rs ms → Alike l c w n rs ms
   unfolding movesOfRecords recordsOfMoves
@@ -64,26 +65,44 @@ module _ (l : Lent) (c : Composition) (w : World) (W : Whole l c w) where
     moves = h .1 .both;
     to = refl;
     from = refl;
-    inputs = refl;
-    outputs = refl;
     weight = ap (λ a. exact (c .kind) (answeredWeight (zeroOf (c .kind)) a)) (h .1 .answer) ∙ h .1 .product;
   }
   alike [] (m ∷ ms) n u h = absurd h
   alike (r ∷ rs) [] n u h = absurd h
   alike (r ∷ rs) (m ∷ ms) n u h =
       let k = h .1 in
-      let A = alike rs ms (targetOf w r) (k .used) (h .2) in
+      let A = alike rs ms (targetOf w r) (k .same .found) (h .2) in
       record {
         records = (W .expanded n u, k .listed, A .records);
-        moves = (h .0, k .kept, subst (λ t. AcceptingAt c t ms) (k .to) (A .moves));
+        moves = (h .0, k .kept, subst (λ t. AcceptingAt c t ms) (k .same .target) (A .moves));
         to = moves-turn l c w W n r m (h .0) k rs ∙ ap (λ (z : List Edges). m ∷ z) (A .to);
         from = records-turn l c w W n u r m (h .0) k ms ∙ ap (λ (z : List ℕ). r ∷ z) (A .from);
-        inputs = ap₂ _∷_ (k .input) (A .inputs);
-        outputs = ap₂ _∷_ (k .output) (A .outputs);
         weight =
-            ap₂ (semiring (c .kind) .times) (k .weight)
-            (A .weight ∙ ap (λ (t : Triple). movesWeight (semiring (c .kind)) (exact (c .kind)) (plain c) (t .s1) (t .s2) ms) (k .to));
+            ap₂ (semiring (c .kind) .times) (k .same .weight)
+            (A .weight ∙ ap (λ (t : Triple). movesWeight (semiring (c .kind)) (exact (c .kind)) (composedOf c) (t .s1) (t .s2) ms) (k .same .target));
       }
+
+  -- where nothing is rewritten: no sigma label is set, and no outer label is MAX
+  module _ (none1 : c .operand1 .sigma .label ≡ noLabel) (none2 : c .operand2 .sigma .label ≡ noLabel)
+      (labels1 : (q t : ℕ) → In t (c .operand1 .machine .list q) → c .operand1 .machine .input t ≢ noLabel)
+      (labels2 : (q t : ℕ) → In t (c .operand2 .machine .list q) → c .operand2 .machine .output t ≢ noLabel) where
+    labels : (rs : List ℕ) (ms : List Edges) (n : ℕ) → Follows l c w n rs ms
+        → (map (λ r. trField (w .memory .trs) (r - 1) 0) rs ≡ map (inputOf (composedOf c)) ms)
+        × (map (λ r. trField (w .memory .trs) (r - 1) 1) rs ≡ map (outputOf (composedOf c)) ms)
+    labels [] [] n h = (refl, refl)
+    labels [] (m ∷ ms) n h = absurd h
+    labels (r ∷ rs) [] n h = absurd h
+    labels (r ∷ rs) (m ∷ ms) n h =
+        let k = h .1 in
+        let q = labels rs ms (targetOf w r) (h .2) in
+        let u = unwritten-both c none1 none2 labels1 labels2 (stateAt w n) (k .direction) m (k .kept .1 .0) (k .kept .1 .1) in
+        (ap₂ _∷_ (k .same .input ∙ u .0) (q .0), ap₂ _∷_ (k .same .output ∙ u .1) (q .1))
+
+    -- accepting records have the labels of their moves
+    pub records-labels : (rs : List ℕ) (n : ℕ) → n < w .session .used .states → AcceptingFrom l w n rs
+        → (map (λ r. trField (w .memory .trs) (r - 1) 0) rs ≡ map (inputOf (composedOf c)) (movesOfRecords c w n rs))
+        × (map (λ r. trField (w .memory .trs) (r - 1) 1) rs ≡ map (outputOf (composedOf c)) (movesOfRecords c w n rs))
+    records-labels rs n u h = labels rs (movesOfRecords c w n rs) n (of-records rs n u h)
 
   module _ (n : ℕ) (u : n < w .session .used .states) where
     -- accepting records from a used state on, and what their moves share with them

@@ -1,4 +1,4 @@
--- A composed state all of whose kept moves have a step, without sigma labels: its k-th step is that of the k-th listed move, and nothing is rewritten.
+-- A composed state all of whose kept moves have a step: it has a direction, and its k-th step is that of the k-th listed move. Without sigma labels nothing is rewritten.
 use mathlib.Core.Path.{_≡_, refl, sym, _∙_, ap, subst}
 use mathlib.Core.Bool.{Bool, true, false, cond}
 use mathlib.Core.List.{List, map, List·Memᴰ as In}
@@ -7,21 +7,24 @@ use Prim.Native.Nat.{ℕ}
 use lib.ListN.{length, length-map}
 use borrow.Author.Tests.{ne-eqb}
 use Rattle.lists.specs.Lists.{At}
-use Rattle.lists.proofs.Places.{at-map, of-at-map}
-use Rattle.papers.specs.Composition.{Leaves, outer, Triple}
+use Rattle.lists.proofs.Places.{at-map, of-at-map, in-at}
+use Rattle.papers.specs.Composition.{Leaves, outer, Triple, Move as Edges, inputOf, outputOf}
 use Rattle.papers.specs.Machine.{Machine}
-use Rattle.words.specs.Labels.{noLabel, good, andThen}
-use Rattle.words.specs.Matches.{Match, loop, own, viaSigma}
+use Rattle.words.specs.Labels.{noLabel, Checked, good, refused, andThen}
+use Rattle.words.specs.Matches.{MatchType, Match, loop, own, viaSigma}
 use Rattle.words.specs.Sigmas.{Sigma, replace}
 use Rattle.words.specs.Steps.{Composition, Kept, Step, keptAt, stepOf, stepsAt}
-use Rattle.words.specs.AsPapers.{edgeOf, rewritten}
-use Rattle.words.proofs.PapersMoves.{Sound}
-use Rattle.words.proofs.PapersSteps.{IsStep, step-good}
+use Rattle.words.specs.AsPapers.{edgeOf, edgesOf, composedOf, directionOf, matchesOf, rewritten, inputBy, outputBy}
+use Rattle.words.specs.Links.{Composable, IsStep}
+use Rattle.words.proofs.CheckedLaws.{good≢refused}
+use Rattle.words.proofs.PapersMoves.{edges-matches}
+use Rattle.words.proofs.PapersOpened.{kept-refused}
+use Rattle.words.proofs.PapersSteps.{step-good}
 use Rattle.readings.specs.Listed.{goods, entryOf, listedAt}
-use Rattle.readings.proofs.Listed.{kept-good}
+use Rattle.readings.proofs.Listed.{all-good}
 
 -- without a sigma label nothing is rewritten
-pub unwritten : (σ : Sigma) (M : Machine) (q x : ℕ) (label : ℕ → ℕ) (m : Match) → σ .label ≡ noLabel → ((t : ℕ) → In t (M .list q) → label t ≢ noLabel) → Leaves M q (edgeOf m)
+unwritten : (σ : Sigma) (M : Machine) (q x : ℕ) (label : ℕ → ℕ) (m : Match) → σ .label ≡ noLabel → ((t : ℕ) → In t (M .list q) → label t ≢ noLabel) → Leaves M q (edgeOf m)
     → rewritten σ x m (outer label (edgeOf m)) ≡ outer label (edgeOf m)
 unwritten σ M q x label loop e n i = refl
 unwritten σ M q x label (own t) e n i = refl
@@ -31,8 +34,24 @@ unwritten σ M q x label (viaSigma t) e n i = go (σ .rewriteBoth)
     go true = rw (e, ne-eqb (label t) noLabel (n t i))
     go false = refl
 
+-- neither label of a composed transition, in whichever direction it was found
+pub unwritten-both : (c : Composition) → c .operand1 .sigma .label ≡ noLabel → c .operand2 .sigma .label ≡ noLabel
+    → ((q t : ℕ) → In t (c .operand1 .machine .list q) → c .operand1 .machine .input t ≢ noLabel) → ((q t : ℕ) → In t (c .operand2 .machine .list q) → c .operand2 .machine .output t ≢ noLabel)
+    → (s : Triple) (d : MatchType) (m : Edges) → Leaves (c .operand1 .machine) (s .s1) (m .first) → Leaves (c .operand2 .machine) (s .s2) (m .second)
+    → (inputBy c (matchesOf d (c .operand1) (c .operand2) m) ≡ inputOf (composedOf c) m) × (outputBy c (matchesOf d (c .operand1) (c .operand2) m) ≡ outputOf (composedOf c) m)
+unwritten-both c none1 none2 labels1 labels2 s d m l1 l2 =
+    let v = matchesOf d (c .operand1) (c .operand2) m in
+    let e : edgesOf v ≡ m = edges-matches d (c .operand1) (c .operand2) m in (
+      unwritten (c .operand1 .sigma) (c .operand1 .machine) (s .s1) _ (c .operand1 .machine .input) (v .first) none1 (labels1 (s .s1))
+          (subst (λ (z : Edges). Leaves (c .operand1 .machine) (s .s1) (z .first)) (sym e) l1)
+          ∙ ap (inputOf (composedOf c)) e,
+      unwritten (c .operand2 .sigma) (c .operand2 .machine) (s .s2) _ (c .operand2 .machine .output) (v .second) none2 (labels2 (s .s2))
+          (subst (λ (z : Edges). Leaves (c .operand2 .machine) (s .s2) (z .second)) (sym e) l2)
+          ∙ ap (outputOf (composedOf c)) e,
+    )
+
 -- where each kept move has a step
-module _ (c : Composition) (P : Sound c) (t : Triple) (steps : List Step) (all : stepsAt c t ≡ map good steps) where
+module _ (c : Composition) (P : Composable c) (t : Triple) (steps : List Step) (all : stepsAt c t ≡ map good steps) where
   -- the step of the move at a place
   pub listed-step : (k : ℕ) (v : Kept) → At (keptAt c t) k (good v) → (step : Step) × At steps k step × IsStep c t v step
   unfolding stepsAt
@@ -40,13 +59,33 @@ module _ (c : Composition) (P : Sound c) (t : Triple) (steps : List Step) (all :
       let r = of-at-map good steps k (subst (λ l. At l k (stepOf c t v)) all (at-map (λ x. andThen x (stepOf c t)) (keptAt c t) k h)) in
       (r .0, r .1, step-good c P t v (r .0) (r .2))
 
+  -- no kept move is refused
+  pub no-refusal : keptAt c t ≡ map good (goods (keptAt c t))
+  unfolding stepsAt
+  no-refusal =
+      all-good (keptAt c t)
+      (λ n i.
+      let p = in-at i in
+      let r = of-at-map good steps (p .0) (subst (λ l. At l (p .0) (refused n)) all (at-map (λ x. andThen x (stepOf c t)) (keptAt c t) (p .0) (p .1))) in
+      good≢refused (sym (r .2)))
+
+  -- so the state has a direction
+  pub has-direction : (d : MatchType) × (directionOf c t ≡ good d)
+  has-direction = go (directionOf c t) refl
+    where
+      go : (r : Checked MatchType) → directionOf c t ≡ r → (d : MatchType) × (directionOf c t ≡ good d)
+      go (good d) e = (d, e)
+      go (refused n) e =
+          let r = of-at-map good (goods (keptAt c t)) 0 (subst (λ (l : List (Checked Kept)). At l 0 (refused n)) (sym (kept-refused c t n e) ∙ no-refusal) refl) in
+          absurd (good≢refused (sym (r .2)))
+
   -- as many moves as steps
-  pub listed-length : c .operand1 .sigma .label ≡ noLabel → c .operand2 .sigma .label ≡ noLabel → length (listedAt c t) ≡ length steps
+  pub listed-length : length (listedAt c t) ≡ length steps
   unfolding stepsAt listedAt
-  listed-length none1 none2 =
+  listed-length =
       length-map (goods (keptAt c t)) entryOf
       ∙ sym (length-map (goods (keptAt c t)) good)
-      ∙ sym (ap length (kept-good c P none1 none2 t))
+      ∙ sym (ap length no-refusal)
       ∙ sym (length-map (keptAt c t) (λ k. andThen k (stepOf c t)))
       ∙ ap length all
       ∙ length-map steps good

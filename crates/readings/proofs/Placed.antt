@@ -8,7 +8,7 @@ use Prim.Native.Nat.{ℕ, zero, suc}
 use native.Mathlib.Omega.{arith}
 use lib.Dec.{eqb}
 use borrow.Author.Tests.{eqb-true, eq-eqb, ne-eqb}
-use Rattle.lists.specs.Lists.{At}
+use Rattle.lists.specs.Lists.{At, Enumerates}
 use Rattle.lists.proofs.Members.{and-left, and-right}
 use Rattle.lists.proofs.Places.{at-in, in-at}
 use Rattle.lists.proofs.Once.{one-place}
@@ -77,15 +77,22 @@ place-found (e ∷ es) m g (suc k) only a =
         absurd (omega arith)
     other false h r = rw (h, r)
 
+-- so is each move of a list that holds the kept moves, each once
+pub place-of : (C : Composed) (s : Triple) (l : List (Move × ℕ)) → Enumerates l (λ e. Kept C s (e .0) (e .1)) → (k : ℕ) (m : Move) (g : ℕ) → At l k (m, g)
+    → placeOf m l ≡ some (k, g)
+place-of C s l E k m g a =
+    place-found l m g k
+    (λ j h i.
+    let e = one-next C s m h g (E .exactly (m, h) .0 (at-in l j i)) (E .exactly (m, g) .0 (at-in l k a)) in
+    one-place l (E .once) j k (subst (λ x. At l j (m, x)) e i) a)
+    a
+
 module _ (C : Composed) (Found : Triple → Type 0) (listed : Listed) (L : Lists C Found listed) where
   found-at : (s : Triple) → Found s → (k : ℕ) (m : Move) (g : ℕ) → At (listed s) k (m, g) → Kept C s m g
   found-at s f k m g a = L .exactly s f m g .0 (at-in (listed s) k a)
 
-  pub place-is : (s : Triple) → Found s → (k : ℕ) (m : Move) (g : ℕ) → At (listed s) k (m, g) → placeOf m (listed s) ≡ some (k, g)
-  place-is s f k m g a =
-      place-found (listed s) m g k
-      (λ j h i. let e = one-next C s m h g (found-at s f j m h i) (found-at s f k m g a) in one-place (listed s) (L .once s f) j k (subst (λ x. At (listed s) j (m, x)) e i) a)
-      a
+  place-is : (s : Triple) → Found s → (k : ℕ) (m : Move) (g : ℕ) → At (listed s) k (m, g) → placeOf m (listed s) ≡ some (k, g)
+  place-is s f = place-of C s (listed s) (record { once = L .once s f; exactly = λ e. L .exactly s f (e .0) (e .1) })
 
   pub moves-step : (s : Triple) (k : ℕ) (ks : List ℕ) (m : Move) (g : ℕ) → At (listed s) k (m, g) → movesAt C listed s (k ∷ ks) ≡ m ∷ movesAt C listed (reached C s m g) ks
   unfolding movesAt

@@ -9,14 +9,15 @@ use lib.Dec.{eqb}
 use lib.ListN.{length}
 use borrow.Author.Tests.{eq-eqb, ne-eqb}
 use Rattle.lists.specs.Lists.{every}
-use Rattle.lists.proofs.Finite.{join, implies}
+use Rattle.lists.specs.Finite.{implies}
+use Rattle.lists.proofs.Finite.{join}
 use Rattle.lists.proofs.Members.{and-left, and-right, every-in}
 use Rattle.papers.specs.Machine.{ε, Machine}
 use Rattle.papers.specs.Weight.{Semiring, CommutativeSemiring}
 use Rattle.papers.specs.Filter.{MoveKind, lone1, lone2, bothEpsilon, aLabel, noEpsilon, onlyEpsilons, factsOf}
 use Rattle.papers.specs.Composition.{Edge, Composed, Triple, Move, Enabled, reached}
 use Rattle.papers.specs.Paths.{taken, path1, path2, Accepting, AcceptingMoves}
-use Rattle.papers.proofs.FilterLaws.{fits, begins, then1, then2, Lawful}
+use Rattle.papers.specs.Laws.{fits, begins, then1, then2, Lawful}
 use Rattle.papers.proofs.Forms.{by-form}
 use Rattle.papers.proofs.PathLaws.{accepting1, accepting2}
 use Rattle.readings.specs.Merge.{beginsε, move, front, mergeUpTo}
@@ -50,10 +51,10 @@ front-nil bothEpsilon go = refl
 front-nil aLabel go = refl
 
 module _ (C : Composed) (live : ℕ → Bool → Bool → Bool) (pick : Bool → Bool → MoveKind) where
-  abbrev b1 : List ℕ → Bool
+  abbrev pub b1 : List ℕ → Bool
   b1 p = beginsε (C .first .output) p
 
-  abbrev b2 : List ℕ → Bool
+  abbrev pub b2 : List ℕ → Bool
   b2 p = beginsε (C .second .input) p
 
   -- from this filter state the two paths can be taken to their ends
@@ -61,25 +62,25 @@ module _ (C : Composed) (live : ℕ → Bool → Bool → Bool) (pick : Bool →
   Live f p1 p2 = live f (b1 p1) (b2 p2) ≡ true
 
   -- What a move of kind k before the paths p1 and p2 says of the longer two: they can begin so; a machine that rests begins as before; they are longer; the move is their front.
-  abbrev Opens : List ℕ → List ℕ → MoveKind → Edge → Edge → Type 0
+  abbrev pub Opens : List ℕ → List ℕ → MoveKind → Edge → Edge → Type 0
   Opens p1 p2 k e1 e2 =
       (begins k (b1 (taken e1 ++ p1)) (b2 (taken e2 ++ p2)) ≡ true)
-      × ((g : ℕ) → Live g p1 p2 → live g (then1 k (b1 (taken e1 ++ p1)) (b1 p1)) (then2 k (b2 (taken e2 ++ p2)) (b2 p2)) ≡ true)
+      × ((g : ℕ) → live g (then1 k (b1 (taken e1 ++ p1)) (b1 p1)) (then2 k (b2 (taken e2 ++ p2)) (b2 p2)) ≡ live g (b1 p1) (b2 p2))
       × (suc (length p1 + length p2) ≤ length (taken e1 ++ p1) + length (taken e2 ++ p2))
       × ((go : List ℕ → List ℕ → List Move) → front k (taken e1 ++ p1) (taken e2 ++ p2) go ≡ move e1 e2 ∷ go p1 p2)
 
-  opens : (q1 q2 : ℕ) (p1 p2 : List ℕ) (k : MoveKind) (m : Move) → Enabled C q1 q2 k m → Opens p1 p2 k (m .first) (m .second)
+  pub opens : (q1 q2 : ℕ) (p1 p2 : List ℕ) (k : MoveKind) (m : Move) → Enabled C q1 q2 k m → Opens p1 p2 k (m .first) (m .second)
   opens q1 q2 p1 p2 k m en =
       by-form (C .first) (C .second) (C .first .output) (C .second .input) (C .meets) q1 q2 (Opens p1 p2)
-      (λ t l e. (eq-eqb _ ε e, λ g h. h, omega arith, λ go. refl))
-      (λ u l e. (eq-eqb _ ε e, λ g h. h, omega arith, λ go. refl))
-      (λ t u l l′ e d. (join _ _ (eq-eqb _ ε e) (eq-eqb _ ε d), λ g h. h, omega arith, λ go. refl))
-      (λ t u l l′ n n′ r. (join _ _ (ap not (ne-eqb _ ε n)) (ap not (ne-eqb _ ε n′)), λ g h. h, omega arith, λ go. refl))
+      (λ t l e. (eq-eqb _ ε e, λ g. refl, omega arith, λ go. refl))
+      (λ u l e. (eq-eqb _ ε e, λ g. refl, omega arith, λ go. refl))
+      (λ t u l l′ e d. (join _ _ (eq-eqb _ ε e) (eq-eqb _ ε d), λ g. refl, omega arith, λ go. refl))
+      (λ t u l l′ n n′ r. (join _ _ (ap not (ne-eqb _ ε n)) (ap not (ne-eqb _ ε n′)), λ g. refl, omega arith, λ go. refl))
       k (m .first) (m .second) en
 
   module _ (K : Semiring) (value : ℕ → K .Element) (laws : CommutativeSemiring K) (L : Lawful (C .filter) live pick) where
     -- the first move is the picked one
-    picked : (s : Triple) (m : Move) (ms : List Move) (h : AcceptingMoves K value C s (m ∷ ms)) → Live (h .0) (path1 ms) (path2 ms)
+    pub picked : (s : Triple) (m : Move) (ms : List Move) (h : AcceptingMoves K value C s (m ∷ ms)) → Live (h .0) (path1 ms) (path2 ms)
         → Live (s .f) (path1 (m ∷ ms)) (path2 (m ∷ ms)) × (pick (b1 (path1 (m ∷ ms))) (b2 (path2 (m ∷ ms))) ≡ h .1 .0)
     unfolding flatMap
     picked s m ms h l =
@@ -88,9 +89,9 @@ module _ (C : Composed) (live : ℕ → Bool → Bool → Bool) (pick : Bool →
         (b1 (path1 (m ∷ ms))) (b2 (path2 (m ∷ ms))) (b1 (path1 ms)) (b2 (path2 ms))
         (path-fits K value (C .first .output) (C .first) (s .s1) (path1 (m ∷ ms)) (accepting1 K laws value C s (m ∷ ms) h))
         (path-fits K value (C .second .input) (C .second) (s .s2) (path2 (m ∷ ms)) (accepting2 K laws value C s (m ∷ ms) h))
-        (o .0) (h .1 .2) (o .1 (h .0) l)
+        (o .0) (h .1 .2) (o .1 (h .0) ∙ l)
 
-    lives : (s : Triple) (ms : List Move) → AcceptingMoves K value C s ms → Live (s .f) (path1 ms) (path2 ms)
+    pub lives : (s : Triple) (ms : List Move) → AcceptingMoves K value C s ms → Live (s .f) (path1 ms) (path2 ms)
     unfolding flatMap
     lives s [] h = L .end (s .f)
     lives s (m ∷ ms) h = picked s m ms h (lives (reached C s m (h .0)) ms (h .2)) .0

@@ -1,24 +1,29 @@
--- Demand 3c of a store: its accepting paths, as lists of record numbers, correspond one to one with the pairs of accepting paths that match. The records of a state are its moves
--- (PathRecords, PathFollows), and the moves are read by the theorem on the papers' composition (Filters); here the two are chained, from the start.
+-- The accepting paths of a store, as lists of record numbers, are those of the papers' composition (2b); without sigma they correspond one to one with the pairs of accepting paths that
+-- match (3c). The records of a state are its moves (PathRecords, PathFollows), and the moves are read by the theorem on the papers' composition (Filters); here the two are chained,
+-- from the start.
 use mathlib.Core.Path.{_≡_, refl, sym, _∙_, ap, subst}
 use mathlib.Core.Bool.{Bool, true}
-use mathlib.Core.List.{List, List·Memᴰ as In}
+use mathlib.Core.List.{List, [], _∷_, List·Memᴰ as In}
+use mathlib.Core.Logic.{_↔_}
 use mathlib.Core.Option.{none, some, Option·none-ne-some}
 use Prim.Native.Nat.{ℕ, _<_}
 use native.Mathlib.Omega.{arith}
 use Rattle.papers.specs.Weight.{semiring}
 use Rattle.papers.specs.Filter.{MoveKind}
-use Rattle.papers.specs.Composition.{Triple, Move as Edges}
-use Rattle.papers.specs.Paths.{word, AcceptingRun, movesWeight}
-use Rattle.words.specs.Labels.{good}
+use Rattle.papers.specs.Composition.{Triple, Move as Edges, reached}
+use Rattle.papers.specs.Paths.{word, AcceptingMoves, AcceptingRun, movesWeight}
+use Rattle.papers.proofs.SemiringLaws.{semiring-laws}
+use Rattle.papers.proofs.PathLaws.{agree-equal, moves-weigh}
+use Rattle.words.specs.Labels.{noLabel, good}
 use Rattle.words.specs.Machines.{listOf, wellFormed}
 use Rattle.words.specs.Sides.{Side}
 use Rattle.words.specs.Steps.{Composition, startAt}
 use Rattle.words.specs.Settings.{Settings, Lent, compositionOf}
-use Rattle.words.specs.AsPapers.{exact, plain}
+use Rattle.words.specs.AsPapers.{exact, composedOf, plain}
+use Rattle.words.specs.Links.{Composable}
 use Rattle.words.proofs.ListLaws.{list-member}
 use Rattle.words.proofs.FormLaws.{TrForm, form}
-use Rattle.words.proofs.PapersOpened.{sound-of}
+use Rattle.words.proofs.PapersOpened.{plain-composition, sound-of}
 use Rattle.words.proofs.PapersSteps.{start-as-papers}
 use Rattle.calls.specs.Checks.{sideFor}
 use Rattle.calls.specs.Sequences.{World}
@@ -28,29 +33,20 @@ use Rattle.readings.specs.Readings.{pairOf, Pair}
 use Rattle.readings.specs.Listed.{pickOf}
 use Rattle.readings.specs.Worlds.{stateAt, Found, at-start, as-target, Sound}
 use Rattle.readings.specs.StorePaths.{AgreeingPair, AcceptingRecords, movesOfRecords, recordsOfMoves, recordsOfPair, Paths, Finished}
-use Rattle.readings.proofs.Correspondences.{chained}
-use Rattle.readings.proofs.Labels.{agree-same, same-agree}
+use Rattle.readings.specs.Follows.{AllRead, PapersPaths}
+use Rattle.readings.proofs.Correspondences.{chained, exchanged}
 use Rattle.readings.proofs.Listed.{readings-of}
 use Rattle.readings.proofs.PathRecords.{Whole}
-use Rattle.readings.proofs.PathFollows.{AcceptingAt, records-alike, records-moves}
+use Rattle.readings.proofs.PathFollows.{AcceptingAt, records-alike, records-moves, records-labels}
 
 -- a record in a list of a well-formed machine
 tr-of : (m : List ℕ) → wellFormed m ≡ true → (q t : ℕ) → In t (listOf m q) → TrForm m t
 tr-of m ok q t i = let r = list-member m q i in form m ok .tr t (r .0) (r .1)
 
-pub whole : (s : Settings) (l : Lent) (side : Side) → sideFor s l ≡ good side → (w : World) → Sound l (compositionOf s l side) w → Finished s l w → Whole l (compositionOf s l side) w
-whole s l side rule w S F =
+pub whole : (s : Settings) (l : Lent) (side : Side) → sideFor s l ≡ good side → (w : World) → Sound l (compositionOf s l side) w → AllRead l w → Whole l (compositionOf s l side) w
+whole s l side rule w S R =
     let z = sided s l side rule in
-    record {
-      links = sound-of s l side (z .formed1) (z .formed2) (z .rule);
-      sigma1 = F .sigma1;
-      sigma2 = F .sigma2;
-      labels1 = λ q t i e. let h = tr-of (l .m1) (z .formed1) q t i .input in omega (arith, h, e);
-      labels2 = λ q t i e. let h = tr-of (l .m2) (z .formed2) q t i .output in omega (arith, h, e);
-      sound = S;
-      expanded = F .expanded;
-      weighed = F .weighed;
-    }
+    record { links = sound-of s l side (z .formed1) (z .formed2) (z .rule); sound = S; expanded = R .expanded; weighed = R .weighed }
 
 -- what is found goes back to the start
 begun : (c : Composition) (w : World) (n : ℕ) → Found c w n → (t : Triple) × (startAt c ≡ some t)
@@ -58,7 +54,7 @@ begun c w n (at-start _ t e z) = (t, e)
 begun c w n (as-target _ k r f x i e) = begun c w k f
 
 -- so where a state is used, both machines have a start
-begins : (l : Lent) (c : Composition) (w : World) → Sound l c w → 0 < w .session .used .states → (t : Triple) × (startAt c ≡ some t)
+pub begins : (l : Lent) (c : Composition) (w : World) → Sound l c w → 0 < w .session .used .states → (t : Triple) × (startAt c ≡ some t)
 begins l c w S h = begun c w 0 (S .found 0 .0 h)
 
 module _ (l : Lent) (c : Composition) (w : World) (W : Whole l c w) where
@@ -66,7 +62,7 @@ module _ (l : Lent) (c : Composition) (w : World) (W : Whole l c w) where
   from-start : (t : Triple) → startAt c ≡ some t → (0 < w .session .used .states) × (stateAt w 0 ≡ t)
   from-start t e = (W .sound .found 0 .1 (at-start 0 t e refl), W .sound .start t e)
 
-  start-records : OneToOne (AcceptingRecords l w) (AcceptingRun (semiring (c .kind)) (exact (c .kind)) (plain c)) (movesOfRecords c w 0) (recordsOfMoves c w 0)
+  start-records : OneToOne (AcceptingRecords l w) (AcceptingRun (semiring (c .kind)) (exact (c .kind)) (composedOf c)) (movesOfRecords c w 0) (recordsOfMoves c w 0)
   start-records = record {
     goes = λ rs h.
         let t = begins l c w (W .sound) (h .0) in
@@ -76,7 +72,7 @@ module _ (l : Lent) (c : Composition) (w : World) (W : Whole l c w) where
     to-from = λ ms h. let u = used ms h in records-moves l c w W 0 (u .0) .to-from ms (u .1);
   }
     where
-      used : (ms : List Edges) → AcceptingRun (semiring (c .kind)) (exact (c .kind)) (plain c) ms
+      used : (ms : List Edges) → AcceptingRun (semiring (c .kind)) (exact (c .kind)) (composedOf c) ms
           → (0 < w .session .used .states) × AcceptingAt c (stateAt w 0) ms
       used ms h =
           let f = from-start (h .0) (start-as-papers c (h .0) .1 (h .1)) in
@@ -86,30 +82,54 @@ module _ (l : Lent) (c : Composition) (w : World) (W : Whole l c w) where
 in-words : (c : Composition) {join : List ℕ × List ℕ → List Edges} → OneToOne (AcceptingRun (semiring (c .kind)) (exact (c .kind)) (plain c)) (Pair (semiring (c .kind)) (exact (c .kind)) _≡_ (plain c)) pairOf join
     → OneToOne (AcceptingRun (semiring (c .kind)) (exact (c .kind)) (plain c)) (AgreeingPair c) pairOf join
 in-words c r = record {
-  goes = λ ms h. let p = r .goes ms h in record { first = p .0; second = p .1; inner = agree-same _ _ (p .2) };
+  goes = λ ms h. let p = r .goes ms h in record { first = p .0; second = p .1; inner = agree-equal _ _ .0 (p .2) };
   comes = λ p h. r .comes p (matching p h);
   from-to = r .from-to;
   to-from = λ p h. r .to-from p (matching p h);
 }
   where
     matching : (p : List ℕ × List ℕ) → AgreeingPair c p → Pair (semiring (c .kind)) (exact (c .kind)) _≡_ (plain c) p
-    matching p h = (h .first, h .second, same-agree _ _ (h .inner))
+    matching p h = (h .first, h .second, agree-equal _ _ .1 (h .inner))
+
+-- 2b, of every sound store whose states are all expanded and weighed, sigma set or not
+pub papers-paths : (s : Settings) (l : Lent) (side : Side) → sideFor s l ≡ good side → (w : World) → Sound l (compositionOf s l side) w → AllRead l w
+    → PapersPaths l (compositionOf s l side) w
+papers-paths s l side rule w S R =
+    let c = compositionOf s l side in
+    let W = whole s l side rule w S R in
+    record { paths = start-records l c w W; weights = λ rs h. records-alike l c w W 0 (h .0) rs (h .1) .weight }
+
+-- without sigma the papers' composition is the plain one, so they have the same accepting paths
+module _ (c : Composition) (P : Composable c) (none1 : c .operand1 .sigma .label ≡ noLabel) (none2 : c .operand2 .sigma .label ≡ noLabel) where
+  plain-moves : (ms : List Edges) (t : Triple)
+      → AcceptingMoves (semiring (c .kind)) (exact (c .kind)) (composedOf c) t ms ↔ AcceptingMoves (semiring (c .kind)) (exact (c .kind)) (plain c) t ms
+  plain-moves [] t = (λ h. h, λ h. h)
+  plain-moves (m ∷ ms) t = (
+    λ h. (h .0, plain-composition c P none1 none2 t m (h .0) .0 (h .1), plain-moves ms (reached (plain c) t m (h .0)) .0 (h .2)),
+    λ h. (h .0, plain-composition c P none1 none2 t m (h .0) .1 (h .1), plain-moves ms (reached (plain c) t m (h .0)) .1 (h .2)),
+  )
+
+  plain-runs : (ms : List Edges) → AcceptingRun (semiring (c .kind)) (exact (c .kind)) (composedOf c) ms ↔ AcceptingRun (semiring (c .kind)) (exact (c .kind)) (plain c) ms
+  plain-runs ms = (λ h. (h .0, h .1, plain-moves ms (h .0) .0 (h .2)), λ h. (h .0, h .1, plain-moves ms (h .0) .1 (h .2)))
 
 -- 3c, of every sound and finished store: whichever the filter, the side and the order of the lists
 pub store-paths : (s : Settings) (l : Lent) (side : Side) → sideFor s l ≡ good side → (w : World) → Sound l (compositionOf s l side) w → Finished s l w
     → Paths l (compositionOf s l side) (pickOf (s .filter)) w
 store-paths s l side rule w S F =
     let c = compositionOf s l side in
-    let W = whole s l side rule w S F in
+    let z = sided s l side rule in
+    let W = whole s l side rule w S (record { expanded = F .expanded; weighed = F .weighed }) in
     let r = readings-of c (s .filter) refl in
+    let labels = records-labels l c w W (F .sigma1) (F .sigma2)
+    (λ q t i e. let h = tr-of (l .m1) (z .formed1) q t i .input in omega (arith, h, e)) (λ q t i e. let h = tr-of (l .m2) (z .formed2) q t i .output in omega (arith, h, e)) in
     record {
-      paths = chained (start-records l c w W) (in-words c (r .paths));
+      paths = chained (exchanged (plain-runs c (W .links) (F .sigma1) (F .sigma2)) (start-records l c w W)) (in-words c (r .paths));
       weights = λ t e rs h.
           records-alike l c w W 0 (h .0) rs (h .1) .weight
-          ∙ ap (λ (q : Triple). movesWeight (semiring (c .kind)) (exact (c .kind)) (plain c) (q .s1) (q .s2) (movesOfRecords c w 0 rs)) (S .start t e)
-          ∙ r .weights (t .s1) (t .s2) (movesOfRecords c w 0 rs);
-      inputs = λ rs h. ap word (records-alike l c w W 0 (h .0) rs (h .1) .inputs) ∙ r .inputs (movesOfRecords c w 0 rs);
-      outputs = λ rs h. ap word (records-alike l c w W 0 (h .0) rs (h .1) .outputs) ∙ r .outputs (movesOfRecords c w 0 rs);
+          ∙ ap (λ (q : Triple). movesWeight (semiring (c .kind)) (exact (c .kind)) (composedOf c) (q .s1) (q .s2) (movesOfRecords c w 0 rs)) (S .start t e)
+          ∙ moves-weigh (semiring (c .kind)) (semiring-laws (c .kind)) (exact (c .kind)) (composedOf c) (t .s1) (t .s2) (movesOfRecords c w 0 rs);
+      inputs = λ rs h. ap word (labels rs 0 (h .0) (h .1) .0) ∙ r .inputs (movesOfRecords c w 0 rs);
+      outputs = λ rs h. ap word (labels rs 0 (h .0) (h .1) .1) ∙ r .outputs (movesOfRecords c w 0 rs);
     }
 
 -- a machine without a start: the store has no accepting path, and there is no pair

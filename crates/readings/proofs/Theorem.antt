@@ -11,7 +11,7 @@ use Rattle.papers.specs.Weight.{Semiring, CommutativeSemiring, Kind, semiring}
 use Rattle.papers.specs.Filter.{MoveKind}
 use Rattle.papers.specs.Composition.{Composed, Move}
 use Rattle.papers.specs.Paths.{path1, path2, AcceptingMoves, AcceptingRun}
-use Rattle.papers.proofs.FilterLaws.{Lawful}
+use Rattle.papers.specs.Laws.{Lawful}
 use Rattle.papers.proofs.SemiringLaws.{semiring-laws}
 use Rattle.papers.proofs.PathLaws.{accepting1, accepting2, input-word, output-word, moves-weigh}
 use Rattle.readings.specs.Correspondence.{OneToOne}

@@ -1,23 +1,31 @@
 -- Demand 3: one claim about whole lists of calls, on slices and sessions, over the definitions that the calls' contracts cite. Its parts stand in Worlds and
--- Answers (scope), Again (3a), Larger (3b) and StorePaths (3c); each quotes the demand or document 01.
+-- Answers (scope), Again (3a), Larger (3b) and StorePaths (3c); each quotes the demand or document 01. And demand 2b, about every world of such a list; its parts
+-- stand in Follows.
 use mathlib.Core.Path.{_≡_}
 use mathlib.Core.List.{List, _∷_, _++_, List·Memᴰ}
 use mathlib.Core.Logic.{_≢_, _↔_}
 use Prim.Native.Nat.{ℕ}
-use Rattle.words.specs.Labels.{good}
+use Rattle.papers.specs.Weight.{semiring}
+use Rattle.papers.specs.Composition.{Triple, Start}
+use Rattle.words.specs.Labels.{good, refused}
+use Rattle.words.specs.Filters.{papersFilterOf}
 use Rattle.words.specs.Steps.{Composition}
 use Rattle.words.specs.Sides.{Side}
 use Rattle.words.specs.Settings.{Settings, Lent, compositionOf}
-use Rattle.calls.specs.Store.{Memory}
+use Rattle.words.specs.AsPapers.{exact, composedOf}
+use Rattle.words.specs.Links.{FinalExactly}
+use Rattle.calls.specs.Store.{Memory, Part}
 use Rattle.calls.specs.Checks.{Session, sideFor}
 use Rattle.calls.specs.Calls.{openOf}
 use Rattle.calls.specs.Sequences.{World, Call, refusal, Reply, answered, replies, after}
+use Rattle.readings.specs.Readings.{filteredBy, SamePaths}
 use Rattle.readings.specs.Listed.{pickOf}
-use Rattle.readings.specs.Worlds.{worldOf, OpeningsRefused, Expanded, Sound}
+use Rattle.readings.specs.Worlds.{worldOf, expandIn, finalIn, OpeningsRefused, UsedState, Expanded, stateAt, partIn, Sound}
 use Rattle.readings.specs.Answers.{ExpandedBy, Answers}
 use Rattle.readings.specs.Again.{Again, replyAfter, GivesAgain}
 use Rattle.readings.specs.Larger.{NoShorter, Larger}
 use Rattle.readings.specs.StorePaths.{Finished, Paths}
+use Rattle.readings.specs.Follows.{PapersList, RefusedFor, AllRead, PapersPaths, ByWords}
 
 -- The claim about one list of calls, from the world w that an opening with the settings s in the memory m left; c is the composition that it fixed.
 pub record Demand3 (s : Settings) (l : Lent) (m : Memory) (c : Composition) (w : World) (cs : List Call) : Type 0 where
@@ -41,3 +49,28 @@ abbrev pub Claim : Type 0
 Claim = (s : Settings) (l : Lent) (got : Session) (m : Memory) → openOf s l got m .answer ≡ good tt
     → (side : Side) × (sideFor s l ≡ good side)
     × ((cs : List Call) → OpeningsRefused l (worldOf (openOf s l got m)) cs → Demand3 s l m (compositionOf s l side) (worldOf (openOf s l got m)) cs)
+
+-- The claim about the world w that a list of calls leads to; c is the composition that the opening with the settings s fixed.
+pub record Demand2 (s : Settings) (l : Lent) (c : Composition) (w : World) : Type 0 where
+  -- state 0 is the papers' start, and is found just where there is one
+  pub start : (t : Triple) → Start (composedOf c) t ↔ (UsedState w 0 × (stateAt w 0 ≡ t))
+  -- the list of an expanded state, whichever call expanded it
+  pub lists : (n : ℕ) → Expanded w n → PapersList c w n (partIn w n)
+  -- the list that an accepted expansion answers
+  pub answers : (n : ℕ) (p : Part) → expandIn l w n .answer ≡ good p → PapersList c (worldOf (expandIn l w n)) n p
+  -- why one is refused
+  pub refusals : (n k : ℕ) → UsedState w n → expandIn l w n .answer ≡ refused k → RefusedFor c w n k
+  -- the final weight that is answered for a found state
+  pub finals : (n : ℕ) → UsedState w n → FinalExactly c (stateAt w n) (finalIn l w n .answer)
+  -- the accepting paths, once all found states are expanded and no final weight would be refused
+  pub paths : AllRead l w → PapersPaths l c w
+  -- document 01's filter, which looks at "none" and "all", leaves the accepting paths that the papers' own leaves
+  pub filters : SamePaths (semiring (c .kind)) (exact (c .kind)) (composedOf c) (filteredBy (papersFilterOf (s .filter)) (composedOf c))
+  -- with no sigma label set, the weight of every pair of words
+  pub words : Finished s l w → (x y : List ℕ) → ByWords l c (pickOf (s .filter)) w x y
+
+-- 2b, for every list of calls that demand 3 speaks of
+abbrev pub Claim2 : Type 0
+Claim2 = (s : Settings) (l : Lent) (got : Session) (m : Memory) → openOf s l got m .answer ≡ good tt
+    → (side : Side) × (sideFor s l ≡ good side)
+    × ((cs : List Call) → OpeningsRefused l (worldOf (openOf s l got m)) cs → Demand2 s l (compositionOf s l side) (after l (worldOf (openOf s l got m)) cs))

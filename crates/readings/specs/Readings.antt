@@ -1,15 +1,17 @@
 -- Demand 3c, of the papers' composition: "accepting paths (final weight not zero) correspond one to one, paired as in document 01, with all pairs of accepting paths whose
 -- inner labels (outputs of the first, inputs of the second) agree, epsilons left out, and weigh the product of both."
 use mathlib.Core.Path.{_≡_}
+use mathlib.Core.Bool.{Bool}
 use mathlib.Core.List.{List, map, List·Memᴰ}
 use mathlib.Core.Logic.{_↔_, _≢_}
 use Prim.Native.Nat.{ℕ}
 use Rattle.papers.specs.Machine.{ε, Machine}
-use Rattle.papers.specs.Weight.{Semiring}
-use Rattle.papers.specs.Filter.{Filter}
+use Rattle.papers.specs.Weight.{Semiring, Kind, semiring}
+use Rattle.papers.specs.Filter.{MoveKind, Filter}
 use Rattle.papers.specs.Composition.{equal, Composed, Triple, Move}
 use Rattle.papers.specs.Paths.{word, path1, path2, Matching, inputWord, outputWord, Accepting, AcceptingPath, pathWeight, AcceptingMoves, AcceptingRun, movesWeight}
 use Rattle.readings.specs.Correspondence.{OneToOne}
+use Rattle.readings.specs.Merge.{merge}
 
 -- the papers' composition of two machines with this filter: only a label and itself meet
 abbrev pub composed : Machine → Machine → Filter → Composed
@@ -47,4 +49,19 @@ module _ (K : Semiring) (value : ℕ → K .Element) (R : ℕ → ℕ → Type 0
     pub inputs : (ms : List Move) → inputWord C ms ≡ word (map (C .first .input) (path1 ms))
     pub outputs : (ms : List Move) → outputWord C ms ≡ word (map (C .second .output) (path2 ms))
     -- 3c: a composed path weighs the product of both, final weights included: from any two states, so from the starts
-    pub weights : (q1 q2 : ℕ) (ms : List Move) → movesWeight K value C q1 q2 ms ≡ K .times (pathWeight K value (C .first) q1 (path1 ms)) (pathWeight K value (C .second) q2 (path2 ms))
+    pub weights : (q1 q2 : ℕ) (ms : List Move)
+        → movesWeight K value C q1 q2 ms ≡ K .times (pathWeight K value (C .first) q1 (path1 ms)) (pathWeight K value (C .second) q2 (path2 ms))
+
+-- the statement where only a label and itself meet; `pick` says which move goes first
+abbrev pub ReadingsOf : (k : Kind) → (ℕ → semiring k .Element) → Machine → Machine → Filter → (Bool → Bool → MoveKind) → Type 0
+ReadingsOf k value A B filter pick = Readings (semiring k) value _≡_ (composed A B filter) (merge pick A B)
+
+-- the same machines, and labels that meet, with another filter
+abbrev pub filteredBy : Filter → Composed → Composed
+filteredBy F C = record { first = C .first; second = C .second; meets = C .meets; filter = F }
+
+-- two compositions have the same accepting paths, as lists of moves: from the starts, and from any two states
+abbrev pub SamePaths : (K : Semiring) → (ℕ → K .Element) → Composed → Composed → Type 0
+SamePaths K value C D =
+    ((ms : List Move) → AcceptingRun K value C ms ↔ AcceptingRun K value D ms)
+    × ((q1 q2 : ℕ) (ms : List Move) → AcceptingMoves K value C (at q1 q2) ms ↔ AcceptingMoves K value D (at q1 q2) ms)

@@ -23,7 +23,7 @@ use Rattle.words.specs.Sigmas.{inner}
 use Rattle.words.specs.Steps.{Composition}
 use Rattle.words.specs.Settings.{Settings, Lent, operand1, operand2, compositionOf}
 use Rattle.words.specs.AsPapers.{exact, composedOf}
-use Rattle.words.proofs.PapersMoves.{Sound}
+use Rattle.words.specs.Links.{Composable}
 use Rattle.words.proofs.PapersOpened.{sound-of}
 
 abbrev settings : ℕ → Settings
@@ -45,7 +45,7 @@ listed2 = 3 ∷ 2 ∷ 1 ∷ 0 ∷ 0 ∷ 0 ∷ 1 ∷ 0 ∷ 0 ∷ 2 ∷ 0 ∷ 0 �
 abbrev pub listing : Composition
 listing = compositionOf (settings MAX) (lent listed1 listed2) (only outputs)
 
-pub listing-sound : Sound listing
+pub listing-sound : Composable listing
 unfolding sideOf wellFormed sizeOk stateOk trOk marksOk acceptor every interval sorted noFall sideMark acceptorMark stateCount trCount startWord stateWord trWord firstOk nextOk firstOf nextOf listBy listFrom listOf
 listing-sound = sound-of (settings MAX) (lent listed1 listed2) (only outputs) refl refl refl
 
@@ -82,7 +82,7 @@ served =
 abbrev pub sigmas : Composition
 sigmas = compositionOf (settings 9) served (only inputs)
 
-pub sigmas-sound : Sound sigmas
+pub sigmas-sound : Composable sigmas
 unfolding sideOf wellFormed sizeOk stateOk trOk marksOk acceptor every interval sorted noFall sideMark acceptorMark stateCount trCount startWord stateWord trWord firstOk nextOk firstOf nextOf listBy listFrom listOf
 sigmas-sound = sound-of (settings 9) served (only inputs) refl refl refl
 

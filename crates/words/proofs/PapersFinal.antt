@@ -1,33 +1,20 @@
 -- The final weight of a composed state: the papers' product, none just where one of both states is not final or has the weight zero, refused just where it is too large.
 use mathlib.Core.Path.{_≡_, refl, sym, _∙_, ap, subst}
 use mathlib.Core.Bool.{Bool, true, false, _&&_, cond, true≢false}
-use mathlib.Core.Logic.{_≢_, _↔_, _⊎_, inl, inr, ⊎-elim}
+use mathlib.Core.Logic.{_≢_, _⊎_, inl, inr, ⊎-elim}
 use mathlib.Core.Option.{Option, none, some, Option·none-ne-some, Option·some-injective}
 use Prim.Native.Nat.{ℕ, _≤_}
 use Rattle.papers.specs.Machine.{Machine}
 use Rattle.papers.specs.Weight.{semiring}
-use Rattle.papers.specs.Composition.{Triple, BothFinal, finalWeightOf}
-use Rattle.papers.specs.Paths.{EndsBoth}
+use Rattle.papers.specs.Composition.{Triple, finalWeightOf}
 use Rattle.papers.proofs.SemiringLaws.{semiring-laws}
 use Rattle.words.specs.Labels.{MAX, Checked, good, refused}
 use Rattle.words.specs.Weights.{Kind, isZero, times}
 use Rattle.words.specs.Steps.{Composition, unlessZero, finalAt}
 use Rattle.words.specs.AsPapers.{exact, TooLarge, composedOf}
+use Rattle.words.specs.Links.{NoEnd, FinalExactly}
 use Rattle.words.proofs.PapersWeights.{times-some, times-none, exact-word, exact-zero, too-large-for-words, too-large-zero}
 use Rattle.words.proofs.CheckedLaws.{refused-is, good-is, good≢refused}
-
--- a state that ends no accepting path: it is not final, or its exact weight is zero
-abbrev pub NoEnd : Kind → Machine → ℕ → Type 0
-NoEnd k M q = (M .isFinal q ≡ false) ⊎ (exact k (M .finalWeight q) ≡ semiring k .zero)
-
-pub record FinalExactly (c : Composition) (s : Triple) (r : Checked (Option ℕ)) : Type 0 where
-  pub none-where : (r ≡ good none) ↔ (NoEnd (c .kind) (c .operand1 .machine) (s .s1) ⊎ NoEnd (c .kind) (c .operand2 .machine) (s .s2))
-  pub some-where : (w : ℕ)
-      → (r ≡ good (some w))
-      ↔ (EndsBoth (semiring (c .kind)) (exact (c .kind)) (composedOf c) (s .s1) (s .s2) × (exact (c .kind) w ≡ finalWeightOf (semiring (c .kind)) (exact (c .kind)) (composedOf c) (s .s1) (s .s2)) × (w ≤ MAX))
-  pub refused-where : (n : ℕ)
-      → (r ≡ refused n)
-      ↔ ((n ≡ 12) × BothFinal (composedOf c) (s .s1) (s .s2) × TooLarge (c .kind) (finalWeightOf (semiring (c .kind)) (exact (c .kind)) (composedOf c) (s .s1) (s .s2)))
 
 -- the four answers
 data Answer (k : Kind) (M N : Machine) (q1 q2 : ℕ) (e : semiring k .Element) (r : Checked (Option ℕ)) : Type 0 where

@@ -4,7 +4,7 @@ use mathlib.Core.List.{List, [], _∷_, List·Memᴰ as In, List·Memᴰ·head a
 use mathlib.Core.Logic.{⊎-elim}
 use mathlib.Core.Option.{Option, none, some}
 use Prim.Native.Nat.{ℕ}
-use Rattle.lists.specs.Lists.{At, Distinct}
+use Rattle.lists.specs.Lists.{Distinct}
 use Rattle.lists.proofs.Places.{at-in}
 use Rattle.lists.proofs.Apart.{Apart, apart-flat, apart-place}
 use Rattle.papers.specs.Filter.{Facts}
@@ -17,13 +17,10 @@ use Rattle.words.specs.Filters.{factsAt}
 use Rattle.words.specs.Steps.{Composition, Move, movesAt, moveKind, Kept, keptBy, keep, keptAlong, keptIn, keptAt}
 use Rattle.words.specs.Settings.{Settings, Lent, compositionOf}
 use Rattle.words.specs.AsPapers.{edgesOf}
+use Rattle.words.specs.Links.{OnePlace}
 use Rattle.words.proofs.ListLaws.{list-distinct}
 use Rattle.words.proofs.CheckedLaws.{good-is, good≢refused}
 use Rattle.words.proofs.PapersWalk.{Alike, alike-sym, walk-once}
-
--- a pair of edges stands in the list at one place
-abbrev pub OnePlace : List (Checked Kept) → Type 0
-OnePlace l = (j k : ℕ) (v w : Kept) → At l j (good v) → At l k (good w) → edgesOf (v .move) ≡ edgesOf (w .move) → j ≡ k
 
 module _ (c : Composition) (s : Triple) where
   abbrev A : Operand

@@ -1,12 +1,11 @@
 -- The kept moves that 01 lists at a composed state are exactly the papers' moves there with 01's filter, each once, whichever machine is walked; the refusals are 10 alone and 11.
 use mathlib.Core.Path.{_≡_, refl, sym, _∙_, ap, subst}
 use mathlib.Core.Bool.{Bool, true, false, cond}
-use mathlib.Core.List.{List, flatMap, List·Memᴰ as In, List·Memᴰ·head as here}
-use mathlib.Core.Logic.{_≢_, _↔_}
+use mathlib.Core.List.{flatMap, List·Memᴰ as In, List·Memᴰ·head as here}
+use mathlib.Core.Logic.{_↔_}
 use mathlib.Core.Option.{some}
 use Prim.Native.Nat.{ℕ}
 use lib.Dec.{eqb}
-use Rattle.lists.specs.Lists.{Distinct}
 use Rattle.lists.proofs.Members.{in-flat, of-flat}
 use Rattle.papers.specs.Machine.{Machine}
 use Rattle.papers.specs.Filter.{MoveKind, noEpsilon, onlyEpsilons}
@@ -14,43 +13,15 @@ use Rattle.papers.specs.Composition.{Edge, rest, along, Meets, Triple, Move as 
 use Rattle.papers.specs.Sigma.{specialOf1, specialOf2}
 use Rattle.papers.proofs.Forms.{Meeting}
 use Rattle.papers.proofs.Mirror.{mirrorKind, mirror-twice, mirrorMeets, met-mirror}
-use Rattle.words.specs.Labels.{epsLabel, noLabel, Checked, good, refused}
+use Rattle.words.specs.Labels.{good, refused}
 use Rattle.words.specs.Matches.{MatchType, inputs, outputs, labelOn, own, viaSigma}
 use Rattle.words.specs.Sigmas.{Operand, inner}
 use Rattle.words.specs.Filters.{noneAt, allAt}
 use Rattle.words.specs.Steps.{Composition, Move, moveKind, Kept, keptAlong}
 use Rattle.words.specs.AsPapers.{edgeOf, edgesOf, specialOf, meetsIn, composedIn, WalkedSigma, walkedOf, matchOf, matchesOf}
-use Rattle.words.proofs.PapersKept.{OnePlace, moves, facts, kept1, of-kept1, in-kept1, refused1, along-once}
+use Rattle.words.specs.Links.{Composable, Exactly}
+use Rattle.words.proofs.PapersKept.{moves, facts, kept1, of-kept1, in-kept1, refused1, along-once}
 use Rattle.words.proofs.PapersWalk.{in-walk, of-walk, kind-walked, kind-other, refused-walk}
-
--- What the links ask of a composition; `sound-of` gives it for well-formed machines and an accepted side.
-pub record Sound (c : Composition) : Type 0 where
-  -- "Machine 1 is matched on outputs, 2 on inputs."
-  pub on1 : c .operand1 .on ≡ outputs
-  pub on2 : c .operand2 .on ≡ inputs
-  -- no record stands twice in a list
-  pub distinct1 : (s : ℕ) → Distinct (c .operand1 .machine .list s)
-  pub distinct2 : (s : ℕ) → Distinct (c .operand2 .machine .list s)
-  -- "MAX is `NO_LABEL`, never a label of a machine."
-  pub labels1 : (s t : ℕ) → In t (c .operand1 .machine .list s) → inner (c .operand1) t ≢ noLabel
-  pub labels2 : (s t : ℕ) → In t (c .operand2 .machine .list s) → inner (c .operand2) t ≢ noLabel
-  -- refusal 4 shuts out a sigma label 0
-  pub nonzero1 : c .operand1 .sigma .label ≢ epsLabel
-  pub nonzero2 : c .operand2 .sigma .label ≢ epsLabel
-
--- what a list of kept moves is, in direction d
-pub record Exactly (d : MatchType) (c : Composition) (s : Triple) (l : List (Checked Kept)) : Type 0 where
-  -- what is listed is a move of the papers, with its next filter state
-  pub sound : (v : Kept) → In (good v) l → KeptMove (composedIn d c) s (edgesOf (v .move)) (v .next)
-  -- and its edges tell how its matches serve: so no two listed moves stand for one pair of edges
-  pub known : (v : Kept) → In (good v) l → matchesOf d (c .operand1) (c .operand2) (edgesOf (v .move)) ≡ v .move
-  -- every move of the papers is listed, as itself
-  pub complete : (m : Edges) (g : ℕ) → KeptMove (composedIn d c) s m g → In (good (record { move = matchesOf d (c .operand1) (c .operand2) m; next = g })) l
-  pub itself : (m : Edges) → edgesOf (matchesOf d (c .operand1) (c .operand2) m) ≡ m
-  -- at one place
-  pub once : OnePlace l
-  -- a refusal is 11, just where a walked label is sigma
-  pub refusals : (n : ℕ) → In (refused n) l ↔ ((n ≡ 11) × WalkedSigma d (c .operand1) (c .operand2) (s .s1) (s .s2))
 
 edge-walked : (e : Edge) → edgeOf (walkedOf e) ≡ e
 edge-walked rest = refl
@@ -65,7 +36,7 @@ edge-match W M (along t) (along u) = go (eqb (inner M u) (inner W t))
     go true = refl
     go false = refl
 
-edges-matches : (d : MatchType) (A B : Operand) (m : Edges) → edgesOf (matchesOf d A B m) ≡ m
+pub edges-matches : (d : MatchType) (A B : Operand) (m : Edges) → edgesOf (matchesOf d A B m) ≡ m
 edges-matches inputs A B m = λ i. record { first = edge-walked (m .first) i; second = edge-match A B (m .first) (m .second) i }
 edges-matches outputs A B m = λ i. record { first = edge-match B A (m .second) (m .first) i; second = edge-walked (m .second) i }
 
@@ -74,7 +45,7 @@ meeting-mirror : (A B : Machine) (la lb : ℕ → ℕ) (meets : Meets) (q1 q2 : 
 meeting-mirror A B la lb meets q1 q2 k e1 e2 h = (h .1, h .0, met-mirror meets q1 q2 k _ _ (h .2))
 
 -- the moves before the filter
-module _ (c : Composition) (S : Sound c) (s : Triple) where
+module _ (c : Composition) (S : Composable c) (s : Triple) where
   abbrev A : Operand
   A = c .operand1
 

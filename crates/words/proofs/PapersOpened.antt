@@ -23,10 +23,11 @@ use Rattle.words.specs.AsPapers.{edgesOf, meetsIn, composedIn, composedO
 use Rattle.words.proofs.ListLaws.{list-member, list-distinct}
 use Rattle.words.proofs.FormLaws.{TrForm, form}
 use Rattle.words.proofs.CheckedLaws.{good≢refused}
-use Rattle.words.proofs.PapersMoves.{Sound, Exactly, kept-along, outputs1, inputs2}
+use Rattle.words.specs.Links.{Composable, Exactly}
+use Rattle.words.proofs.PapersMoves.{kept-along, outputs1, inputs2}
 
 -- at every composed state: the papers' moves, each once
-pub kept-as-papers : (c : Composition) → Sound c → (s : Triple) (d : MatchType) → directionOf c s ≡ good d → Exactly d c s (keptAt c s)
+pub kept-as-papers : (c : Composition) → Composable c → (s : Triple) (d : MatchType) → directionOf c s ≡ good d → Exactly d c s (keptAt c s)
 unfolding keptAt
 kept-as-papers c S s d e = rw e (kept-along c S s d)
 
@@ -67,7 +68,7 @@ pub no-direction : (c : Composition) (s : Triple) (n x y : ℕ) → directionOf 
 no-direction c s n x y e h = rw e at h
 
 -- without sigma labels the papers' relation is the plain one, in both directions
-module _ (c : Composition) (S : Sound c) (none1 : c .operand1 .sigma .label ≡ noLabel) (none2 : c .operand2 .sigma .label ≡ noLabel) (s : Triple) where
+module _ (c : Composition) (S : Composable c) (none1 : c .operand1 .sigma .label ≡ noLabel) (none2 : c .operand2 .sigma .label ≡ noLabel) (s : Triple) where
   abbrev M : Machine
   M = c .operand1 .machine
 
@@ -153,7 +154,7 @@ directed c s e = go (c .side)
     go both = rw (unset (c .operand1) (s .s1) e) (by (nonEmpty (sigmaTrs (c .operand2) (s .s2))) (length (c .operand1 .machine .list (s .s1))) (length (c .operand2 .machine .list (s .s2))))
 
 -- so 01's composition without sigma is the papers' plain one
-pub plain-composition : (c : Composition) → Sound c → c .operand1 .sigma .label ≡ noLabel → c .operand2 .sigma .label ≡ noLabel → (s : Triple) (m : Edges) (g : ℕ)
+pub plain-composition : (c : Composition) → Composable c → c .operand1 .sigma .label ≡ noLabel → c .operand2 .sigma .label ≡ noLabel → (s : Triple) (m : Edges) (g : ℕ)
     → KeptMove (composedOf c) s m g ↔ KeptMove (plain c) s m g
 plain-composition c S e1 e2 s m g =
     let r = directed c s e1 in
@@ -176,7 +177,7 @@ listed m w s t i = let r = list-member m s i in form m w .tr t (r .0) (r .1)
 
 -- the composition that an opening fixes: its machines are well formed and its side is the one that 4 to 7 leave
 pub sound-of : (s : Settings) (l : Lent) (side : Side) → wellFormed (l .m1) ≡ true → wellFormed (l .m2) ≡ true → sideOf (operand1 s l) (operand2 s l) ≡ good side
-    → Sound (compositionOf s l side)
+    → Composable (compositionOf s l side)
 sound-of s l side w1 w2 e =
     let n = side-nonzero (operand1 s l) (operand2 s l) side e in
     record {

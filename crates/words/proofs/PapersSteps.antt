@@ -5,12 +5,12 @@ use mathlib.Core.Bool.{Bool, true, false, cond}
 use mathlib.Core.List.{List, [], _∷_, map}
 use mathlib.Core.Logic.{_↔_, _⊎_, inl, inr}
 use mathlib.Core.Option.{Option, none, some, Option·none-ne-some, Option·some-injective}
-use Prim.Native.Nat.{ℕ, _≤_}
+use Prim.Native.Nat.{ℕ}
 use Rattle.lists.specs.Lists.{At}
 use Rattle.lists.proofs.Places.{at-map, of-at-map, at-in, in-at}
 use Rattle.papers.specs.Weight.{semiring}
-use Rattle.papers.specs.Composition.{nextState, outer, Triple, Move as Edges, Start, Kept as KeptMove, reached, inputOf, outputOf, edgeWeight, moveWeight}
-use Rattle.words.specs.Labels.{MAX, Checked, good, refused, andThen, collect}
+use Rattle.papers.specs.Composition.{nextState, outer, Triple, Start, Kept as KeptMove, edgeWeight}
+use Rattle.words.specs.Labels.{Checked, good, refused, andThen, collect}
 use Rattle.words.specs.Weights.{Kind, times}
 use Rattle.words.specs.Matches.{MatchType, inputs, outputs, Match, loop, own, viaSigma, Tr, trOf}
 use Rattle.words.specs.Machines.{wellFormed}
@@ -18,11 +18,10 @@ use Rattle.words.specs.Sides.{Side, sideOf}
 use Rattle.words.specs.Sigmas.{Operand, replace, rewrite, given}
 use Rattle.words.specs.Steps.{Composition, asks, Kept, keptAt, Step, weighed, stepOf, stepsAt, startOf, startAt}
 use Rattle.words.specs.Settings.{Settings, Lent, operand1, operand2, compositionOf}
-use Rattle.words.specs.AsPapers.{exact, TooLarge, edgeOf, edgesOf, composedOf, directionOf, WalkedSigma, matchesOf, rewritten}
+use Rattle.words.specs.AsPapers.{exact, TooLarge, edgeOf, edgesOf, composedOf, directionOf, WalkedSigma, matchesOf, rewritten, weightOf}
+use Rattle.words.specs.Links.{Composable, Exactly, IsStep, Weighed, StepsExactly}
 use Rattle.words.proofs.PapersWeights.{product, times-some, times-none, exact-one}
 use Rattle.words.proofs.CheckedLaws.{good-is, refused-is, good≢refused}
-use Rattle.words.proofs.PapersKept.{OnePlace}
-use Rattle.words.proofs.PapersMoves.{Sound, Exactly}
 use Rattle.words.proofs.PapersOpened.{kept-as-papers, at-direction, sound-of}
 
 -- what a match gives: rewriting touches labels alone
@@ -69,26 +68,14 @@ module _ (k : Kind) (o : Operand) (s x : ℕ) where
       go true = refl
       go false = refl
 
--- a step is the papers' composed transition of the kept move v; `rewritten` is 01's addition
-pub record IsStep (c : Composition) (s : Triple) (v : Kept) (t : Step) : Type 0 where
-  pub input : t .input ≡ rewritten (c .operand1 .sigma) (asks (c .operand2) (v .move .second)) (v .move .first) (inputOf (composedOf c) (edgesOf (v .move)))
-  pub output : t .output ≡ rewritten (c .operand2 .sigma) (asks (c .operand1) (v .move .first)) (v .move .second) (outputOf (composedOf c) (edgesOf (v .move)))
-  pub to : t .to ≡ reached (composedOf c) s (edgesOf (v .move)) (v .next)
-  pub weight : exact (c .kind) (t .weight) ≡ moveWeight (semiring (c .kind)) (exact (c .kind)) (composedOf c) (edgesOf (v .move))
-  pub word : t .weight ≤ MAX
-
--- the exact weight of a kept move
-abbrev pub weightOf : (c : Composition) → Kept → semiring (c .kind) .Element
-weightOf c v = moveWeight (semiring (c .kind)) (exact (c .kind)) (composedOf c) (edgesOf (v .move))
-
-module _ (c : Composition) (S : Sound c) (s : Triple) (v : Kept) where
+module _ (c : Composition) (S : Composable c) (s : Triple) (v : Kept) where
   abbrev a : Tr
   a = given (c .kind) (c .operand1) (s .s1) (asks (c .operand2) (v .move .second)) (v .move .first)
 
   abbrev b : Tr
   b = given (c .kind) (c .operand2) (s .s2) (asks (c .operand1) (v .move .first)) (v .move .second)
 
-  weights : product (c .kind) (a .weight) (b .weight) ≡ weightOf c v
+  weights : product (c .kind) (a .weight) (b .weight) ≡ weightOf c (edgesOf (v .move))
   weights = ap₂ (semiring (c .kind) .times) (given-weight (c .kind) (c .operand1) (s .s1) _ (v .move .first)) (given-weight (c .kind) (c .operand2) (s .s2) _ (v .move .second))
 
   made : (w : ℕ) → times (c .kind) (a .weight) (b .weight) ≡ some w → (t : Step) → weighed a b (v .next) (some w) ≡ good t → IsStep c s v t
@@ -113,39 +100,18 @@ module _ (c : Composition) (S : Sound c) (s : Triple) (v : Kept) where
       go (some w) e h = made w e t h
 
   -- 12, just where the exact weight is too large
-  pub step-refused : (n : ℕ) → (stepOf c s v ≡ refused n) ↔ ((n ≡ 12) × TooLarge (c .kind) (weightOf c v))
+  pub step-refused : (n : ℕ) → (stepOf c s v ≡ refused n) ↔ ((n ≡ 12) × TooLarge (c .kind) (weightOf c (edgesOf (v .move))))
   unfolding stepOf
   step-refused n = (
     λ h. go (times (c .kind) (a .weight) (b .weight)) refl h,
     λ h. rw (times-none (c .kind) (a .weight) (b .weight) .1 (rw weights (h .1)), h .0),
   )
     where
-      go : (o : Option ℕ) → times (c .kind) (a .weight) (b .weight) ≡ o → weighed a b (v .next) o ≡ refused n → (n ≡ 12) × TooLarge (c .kind) (weightOf c v)
+      go : (o : Option ℕ) → times (c .kind) (a .weight) (b .weight) ≡ o → weighed a b (v .next) o ≡ refused n → (n ≡ 12) × TooLarge (c .kind) (weightOf c (edgesOf (v .move)))
       go none e h = (cc, rw (← weights) (times-none (c .kind) (a .weight) (b .weight) .0 e))
       go (some w) e h = absurd (good≢refused h)
 
--- what stands at place k for the kept move v: its step, or 12 where its exact weight is too large
-abbrev pub Weighed : (c : Composition) → Triple → List (Checked Step) → ℕ → Kept → Type 0
-Weighed c s l k v = ((t : Step) × At l k (good t) × IsStep c s v t) ⊎ (At l k (refused 12) × TooLarge (c .kind) (weightOf c v))
-
--- what the list of a composed state is, in direction d
-pub record StepsExactly (d : MatchType) (c : Composition) (s : Triple) (l : List (Checked Step)) : Type 0 where
-  -- the step at place k is that of a move of the papers, kept at place k
-  pub sound : (k : ℕ) (t : Step) → At l k (good t) → (v : Kept) × At (keptAt c s) k (good v) × KeptMove (composedOf c) s (edgesOf (v .move)) (v .next) × IsStep c s v t
-  -- how its matches serve is known from its edges, so that a label is rewritten just where a transition serves as sigma
-  pub known : (k : ℕ) (v : Kept) → At (keptAt c s) k (good v) → matchesOf d (c .operand1) (c .operand2) (edgesOf (v .move)) ≡ v .move
-  -- every move of the papers has a place
-  pub complete : (m : Edges) (g : ℕ) → KeptMove (composedOf c) s m g
-      → (k : ℕ) × (v : Kept) × (edgesOf (v .move) ≡ m) × (v .next ≡ g) × At (keptAt c s) k (good v) × Weighed c s l k v
-  -- and only one
-  pub once : OnePlace (keptAt c s)
-  -- a refusal is 11, where a walked label is sigma, or 12, in the place of a move whose exact weight is too large
-  pub refusals : (k n : ℕ) → At l k (refused n)
-      → ((n ≡ 11) × WalkedSigma d (c .operand1) (c .operand2) (s .s1) (s .s2)) ⊎ ((n ≡ 12) × ((v : Kept) × At (keptAt c s) k (good v) × TooLarge (c .kind) (weightOf c v)))
-  -- where a walked label is sigma, there is an 11
-  pub eleven : WalkedSigma d (c .operand1) (c .operand2) (s .s1) (s .s2) → (k : ℕ) × At l k (refused 11)
-
-pub steps-as-papers : (c : Composition) → Sound c → (s : Triple) (d : MatchType) → directionOf c s ≡ good d → StepsExactly d c s (stepsAt c s)
+pub steps-as-papers : (c : Composition) → Composable c → (s : Triple) (d : MatchType) → directionOf c s ≡ good d → StepsExactly d c s (stepsAt c s)
 unfolding stepsAt
 steps-as-papers c S s d e =
     let E = kept-as-papers c S s d e in
@@ -170,7 +136,7 @@ steps-as-papers c S s d e =
     of-good E k t (refused n) i h = absurd (good≢refused h)
 
     of-refused : Exactly d c s (keptAt c s) → (k n : ℕ) (x : Checked Kept) → At (keptAt c s) k x → refused n ≡ step x
-        → ((n ≡ 11) × WalkedSigma d (c .operand1) (c .operand2) (s .s1) (s .s2)) ⊎ ((n ≡ 12) × ((v : Kept) × At (keptAt c s) k (good v) × TooLarge (c .kind) (weightOf c v)))
+        → ((n ≡ 11) × WalkedSigma d (c .operand1) (c .operand2) (s .s1) (s .s2)) ⊎ ((n ≡ 12) × ((v : Kept) × At (keptAt c s) k (good v) × TooLarge (c .kind) (weightOf c (edgesOf (v .move)))))
     of-refused E k n (good v) i h = let r = step-refused c S s v n .0 (sym h) in inr (r .0, (v, i, r .1))
     of-refused E k n (refused m) i h = let r = E .refusals m .0 (at-in (keptAt c s) k i) in inl (refused-is h ∙ r .0, r .1)
 

@@ -21,7 +21,8 @@ use Rattle.words.specs.Sigmas.{Operand, inner, otherwise, lookup}
 use Rattle.words.specs.Steps.{Move, walked, asks, moveOf, movesOf, walk, moveKind}
 use Rattle.words.specs.AsPapers.{edgeOf, edgesOf, specialOf, walkedOf, matchOf}
 use Rattle.words.proofs.CheckedLaws.{refused-is, good≢refused, good-is}
-use Rattle.words.proofs.WalkLaws.{epsilons, lookup-eps, lookup-none}
+use Rattle.words.specs.Links.{epsilons}
+use Rattle.words.proofs.WalkLaws.{lookup-eps, lookup-none}
 use Rattle.words.proofs.PapersLookup.{in-labelled, of-labelled, owns, rests, lookup-label, found, find-own, find-sigma, SameEdge, apart-own, rest≢along, looked}
 
 -- two entries of a list are alike: both are values, with one key

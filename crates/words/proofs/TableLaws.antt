@@ -1,15 +1,15 @@
 -- 01's three filters satisfy the laws of a filter: computed at f = 0, 1 and every larger f, with the papers' `live` and `pick` but where a state above 1 differs. Without
 -- "none" and "all" they are the papers' three.
 use mathlib.Core.Path.{_≡_, refl}
-use mathlib.Core.Bool.{Bool, true, false, not}
+use mathlib.Core.Bool.{true}
 use Prim.Native.Nat.{ℕ, zero, suc, _≤_}
 use native.Mathlib.Omega.{arith}
-use Rattle.lists.proofs.Finite.{both, implies, allB}
+use Rattle.lists.specs.Finite.{both, implies, allB}
 use Rattle.papers.specs.Filter.{MoveKind, lone1, lone2, bothEpsilon, aLabel, Facts, epsilonSequencing, epsilonSequencingMirrored, epsilonMatching}
-use Rattle.papers.proofs.FilterLaws.{allK, sameK, lawful, Lawful, laws}
-pub use Rattle.papers.specs.Pick.{sequencePick, alternatePick, matchingPick}
-pub use Rattle.papers.proofs.PaperFilters.{sequenceLive, matchingLive}
-use Rattle.words.specs.Filters.{sequence, alternate, matching}
+use Rattle.papers.specs.Pick.{sequencePick, alternatePick, matchingPick, sequenceLive, matchingLive}
+use Rattle.papers.specs.Laws.{Lawful}
+use Rattle.papers.proofs.FilterLaws.{allK, sameK, lawful, laws}
+use Rattle.words.specs.Filters.{sequence, alternate, matching, alternateLive, neither}
 
 sequence-lawful : (f : ℕ) → lawful sequence sequenceLive sequencePick f ≡ true
 unfolding lawful both implies allB allK sameK
@@ -18,12 +18,6 @@ sequence-lawful (suc f) = refl
 
 pub sequence-laws : Lawful sequence sequenceLive sequencePick
 sequence-laws = laws _ _ _ sequence-lawful
-
--- alternate: in f = 1 no epsilon of machine 2 may follow; a state above 1, which it never gives, is as 0
-abbrev pub alternateLive : ℕ → Bool → Bool → Bool
-alternateLive zero x y = true
-alternateLive (suc zero) x y = not y
-alternateLive (suc (suc f)) x y = true
 
 alternate-lawful : (f : ℕ) → lawful alternate alternateLive alternatePick f ≡ true
 unfolding lawful both implies allB allK sameK
@@ -44,9 +38,6 @@ pub matching-laws : Lawful matching matchingLive matchingPick
 matching-laws = laws _ _ _ matching-lawful
 
 -- Where neither "none" nor "all" holds of a machine, 01's filters are the papers'. (Alternate differs in states above 1, which neither gives.)
-abbrev neither : Facts
-neither = record { none1 = false; all1 = false; none2 = false; all2 = false }
-
 pub sequence-bare : (k : MoveKind) (φ : Facts) (f : ℕ) → sequence k neither f ≡ epsilonSequencing k φ f
 sequence-bare lone1 φ zero = refl
 sequence-bare lone1 φ (suc f) = refl

@@ -1,18 +1,15 @@
 -- The second paragraph of "Choosing the side", word for word, follows from the look-ups of which the walk is made.
 use mathlib.Core.Path.{_≡_, refl, sym, ap, ap₂}
-use mathlib.Core.Bool.{Bool, true, false, not, _&&_, and-false, cond}
+use mathlib.Core.Bool.{Bool, true, false, not, _&&_, and-false}
 use mathlib.Core.List.{List, [], _∷_, _++_, map, map-map, flatMap}
 use Prim.Native.Nat.{ℕ}
 use lib.Dec.{eqb}
 use borrow.Author.Tests.{eqb-true, eqb-false, ne-eqb}
-use Rattle.words.specs.Labels.{epsLabel, noLabel, Checked, good}
-use Rattle.words.specs.Matches.{MatchType, Match, loop, own, labelled, sortedMatches}
+use Rattle.words.specs.Labels.{epsLabel, noLabel, good}
+use Rattle.words.specs.Matches.{MatchType, Match, loop, own, sortedMatches}
 use Rattle.words.specs.Sigmas.{Operand, inner, restMatches, otherwise, lookup}
-use Rattle.words.specs.Steps.{Move, asks, moveOf, movesOf, walk}
-
--- the epsilon transitions of a state on the inner side
-abbrev pub epsilons : Operand → ℕ → List ℕ
-epsilons o s = labelled (o .on) (o .machine) s epsLabel
+use Rattle.words.specs.Steps.{asks, moveOf, movesOf, walk}
+use Rattle.words.specs.Links.{epsilons, movesOfTr}
 
 or-nothing : (ms : List Match) → otherwise ms [] ≡ ms
 or-nothing [] = refl
@@ -34,13 +31,6 @@ not-asked l = go (eqb l noLabel) refl
 pub lookup-none : (o : Operand) (s : ℕ) → lookup o s noLabel ≡ good (map own (epsilons o s))
 unfolding lookup sortedMatches restMatches
 lookup-none o s = rw (not-asked (o .sigma .label), or-nothing)
-
--- what 01 lists for the walked transition t: "for output 0, s1 alone and then a pair with each epsilon of s2; for another label, each match"
-abbrev pub movesOfTr : MatchType → Operand → Operand → ℕ → ℕ → List (Checked Move)
-movesOfTr d W M sm t =
-    cond (eqb (inner W t) epsLabel)
-    (good (moveOf d (own t) loop) ∷ map (λ u. good (moveOf d (own t) (own u))) (epsilons M sm))
-    (movesOf d (own t) (lookup M sm (inner W t)))
 
 moves-of-tr : (d : MatchType) (W M : Operand) (sm t : ℕ) → (M .sigma .label ≡ epsLabel → ⊥) → movesOf d (own t) (lookup M sm (inner W t)) ≡ movesOfTr d W M sm t
 moves-of-tr d W M sm t h = go (eqb (inner W t) epsLabel) refl

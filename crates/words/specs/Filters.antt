@@ -1,8 +1,8 @@
 -- 01, "Filters": the table, cell by cell.
-use mathlib.Core.Bool.{Bool, true, false}
+use mathlib.Core.Bool.{Bool, true, false, not}
 use mathlib.Core.Option.{Option, none, some}
 use Prim.Native.Nat.{ℕ, zero, suc}
-use Rattle.papers.specs.Filter.{lone1, lone2, bothEpsilon, aLabel, Facts, Filter, noEpsilon, onlyEpsilons}
+use Rattle.papers.specs.Filter.{lone1, lone2, bothEpsilon, aLabel, Facts, Filter, noEpsilon, onlyEpsilons, epsilonSequencing, epsilonSequencingMirrored, epsilonMatching}
 use Rattle.words.specs.Sigmas.{Operand, inner}
 
 -- ""none" means no epsilon on its inner side in the present state"
@@ -63,3 +63,20 @@ abbrev pub filterOf : ℕ → Filter
 filterOf zero = sequence
 filterOf (suc zero) = alternate
 filterOf (suc (suc n)) = matching
+
+-- the papers' filter of each, which looks at neither "none" nor "all"
+abbrev pub papersFilterOf : ℕ → Filter
+papersFilterOf zero = epsilonSequencing
+papersFilterOf (suc zero) = epsilonSequencingMirrored
+papersFilterOf (suc (suc n)) = epsilonMatching
+
+-- Ours, for the laws of a filter: from which f two paths can be taken to their ends. For sequence and match as for the papers' own. Alternate: in f = 1 no epsilon of
+-- machine 2 may follow; an f above 1, which it never gives, is as 0.
+abbrev pub alternateLive : ℕ → Bool → Bool → Bool
+alternateLive zero x y = true
+alternateLive (suc zero) x y = not y
+alternateLive (suc (suc f)) x y = true
+
+-- neither "none" nor "all" holds of a machine
+abbrev pub neither : Facts
+neither = record { none1 = false; all1 = false; none2 = false; all2 = false }

@@ -18,3 +18,5 @@ pub mod Steps
 pub mod Settings
 -- "A machine in words", last sentence, exact weights; and the composition above as the papers' one.
 pub mod AsPapers
+-- What is proved of the two: 01's lists are exactly the papers'.
+pub mod Links
