@@ -1,13 +1,11 @@
 -- 01, "Session and memory": memory, its records, the chains of states.
-use mathlib.Core.Bool.{Bool, _&&_}
 use mathlib.Core.List.{List, [], _∷_, _++_}
 use mathlib.Core.Option.{Option}
 use Prim.Native.Nat.{ℕ, _+_, _*_, _/_, _%_, min}
-use lib.Dec.{eqb}
 use lib.ListN.{length, getD, set}
 use Rattle.lists.specs.Lists.{put, first, linked}
 use Rattle.words.specs.Machines.{limit}
-use Rattle.words.specs.Steps.{Triple, Step}
+use Rattle.words.specs.Steps.{Triple, sameTriple, Step}
 
 -- "Memory is three slices: heads, states, transitions."
 pub record Memory : Type 0 where
@@ -81,9 +79,6 @@ headOf heads t = getD heads (slot heads t) 0
 -- "newest first; 0 ends it": the states of a triple's chain; no chain is longer than the used states, as each next is below its own number
 unfoldable pub chainOf : Store → Triple → List ℕ
 chainOf d t = linked (nextAt (d .memory .states)) (d .used .states) (headOf (d .memory .heads) t)
-
-unfoldable pub sameTriple : Triple → Triple → Bool
-sameTriple a b = eqb (a .s1) (b .s1) && (eqb (a .s2) (b .s2) && eqb (a .f) (b .f))
 
 -- "the first with the triple is the state"
 unfoldable pub find : Store → Triple → Option ℕ

@@ -5,12 +5,14 @@ ghost use lib.ListN.{length};
 ghost use Rattle.calls.specs.Store.{Memory, trSize};
 ghost use Rattle.calls.specs.Checks.{Passes};
 ghost use Rattle.calls.specs.Listing.{stateLine, sideLine, endLine, trLines};
-ghost use Rattle.store_records.specs.Meaning.{tupleMeans, memoryOf};
+ghost use Rattle.compose_state_tuple.specs.Meaning.{tupleMeans};
+ghost use Rattle.store_records.specs.Meaning.{memoryOf};
 ghost use Rattle.lazy_fst.specs.Meaning.{lentWith, sessionMeans, weightLeft};
 ghost use Rattle.listing_text.specs.Printing.{lineBytes, bytesOf};
 ghost use Rattle.listing_write.specs.Written.{Written};
 ghost use Rattle.listing.specs.Stages.{givenWeight, linesAt, linesFrom, Room};
 use crate::weights::found;
+use compose_state_tuple::ComposeStateTuple;
 use fst::StateId;
 use fst::word;
 use lazy_fst::Listed;
@@ -20,7 +22,6 @@ use listing_write::put_end;
 use listing_write::put_side;
 use listing_write::put_state;
 use listing_write::put_tr;
-use store_records::ComposeStateTuple;
 use store_records::get_tuple;
 
 // A line for each of the records that were handed back.

@@ -1,6 +1,7 @@
 // Expansions in any order: the side; for each number `e n` and its transitions, or the refusal; at the end the found states and the counts.
 ghost use Prim.Native.Nat.{_/_, _<_, _≤_};
 ghost use lib.ListN.{length};
+use compose_state_tuple::ComposeStateTuple;
 use fst::StateId;
 use fst::word;
 use lazy_fst::Answer;
@@ -18,7 +19,6 @@ use listing_write::put_state;
 use listing_write::put_tr;
 use session_checks::Settings;
 use session_checks::read_settings;
-use store_records::ComposeStateTuple;
 use store_records::get_tuple;
 
 // The first n bytes of a line.

@@ -5,12 +5,7 @@ use Rattle.words.specs.Steps.{Triple, Step}
 use Rattle.calls.specs.Store.{Memory, Used as Counts, Store, Part as Run}
 use Rattle.fst.specs.declared.tr.Tr.{Tr}
 use Rattle.store_records.specs.declared.Used.{Used}
-use Rattle.store_records.specs.declared.compose_state_tuple.ComposeStateTuple.{ComposeStateTuple}
 use Rattle.store_records.specs.declared.tr_records.Part.{Part}
-
--- (s1, s2, f)
-abbrev pub tupleMeans : ComposeStateTuple → Triple
-tupleMeans t = record { s1 = t .s1 .0; s2 = t .s2 .0; f = t .fs }
 
 -- The pair goes into one word, "s1 × 65536 + s2". The states of a machine all do: there are at most 65535.
 abbrev pub Packs : Triple → Type 0

@@ -1,11 +1,8 @@
 // Records in lent memory: their room, the reading of their words on every memory, and the writing of one record.
-mod compose_state_tuple;
 mod lent;
 mod state_records;
 mod tr_records;
 
-pub use compose_state_tuple::ComposeStateTuple;
-pub use compose_state_tuple::same_tuple;
 pub use lent::store;
 pub use state_records::expanded_word;
 pub use state_records::first_of;

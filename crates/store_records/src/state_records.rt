@@ -6,11 +6,12 @@ ghost use lib.Dec.{eqb};
 ghost use lib.ListN.{length};
 ghost use Rattle.lists.specs.Lists.{put};
 ghost use Rattle.calls.specs.Store.{roomOf, stateSize, stateField, tripleAt, expandedAt, firstAt, nextAt, stateRecord, mark};
-ghost use Rattle.store_records.specs.Meaning.{tupleMeans, Packs, stored};
-use crate::ComposeStateTuple;
+ghost use Rattle.compose_state_tuple.specs.Meaning.{tupleMeans};
+ghost use Rattle.store_records.specs.Meaning.{Packs, stored};
 use crate::lent::LIMIT;
 use crate::lent::least;
 use crate::lent::store;
+use compose_state_tuple::ComposeStateTuple;
 use fst::StateId;
 use fst::word;
 
