@@ -33,6 +33,9 @@ pub struct Settings {
     pub mode2: u32,
 }
 
+// The words of the settings.
+pub const SETTINGS_WORDS: usize = 6;
+
 // The six settings from words, in their order.
 pub fn read_settings(words: &[u32]) -> Settings
     ensures { λ r. ⌜ settingsMeans r ≡ settingsOf (now (words .entry)) ⌝ }
