@@ -15,8 +15,8 @@ use compose_store::expand_state;
 use fst::StateId;
 use store_records::Used;
 use store_records::is_expanded;
-use store_records::part_of;
 use store_records::state_room;
+use tr_lists::part_of;
 
 // The used counts after all expansions, or those of the expansions before the refused one, with the number of its refusal.
 pub enum Ran {

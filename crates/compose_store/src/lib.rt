@@ -10,7 +10,8 @@ ghost use Rattle.calls.specs.Store.{tripleAt};
 ghost use Rattle.calls.specs.Checks.{entered};
 ghost use Rattle.calls.specs.Calls.{reach as reachOf, nextFor, storeStep, storeSteps, newPart, settle, expansion};
 ghost use Rattle.compose_state_tuple.specs.Meaning.{tupleMeans};
-ghost use Rattle.store_records.specs.Meaning.{partMeans, stored, memoryOf};
+ghost use Rattle.store_records.specs.Meaning.{stored, memoryOf};
+ghost use Rattle.tr_lists.specs.Meaning.{partMeans};
 ghost use Rattle.compose_fst_op.specs.Composing.{lentOf, composing};
 ghost use Rattle.compose_moves.specs.Moves.{composeTrMeans};
 ghost use Rattle.compose_weigh.specs.Weigh.{weighOf};
@@ -31,11 +32,11 @@ use fst::Tr;
 use state_table::Found;
 use state_table::add_state;
 use state_table::find_id;
-use store_records::Part;
 use store_records::Used;
 use store_records::get_tuple;
 use store_records::mark_expanded;
 use store_records::push_tr;
+use tr_lists::Part;
 
 // The state of a triple, and how many states are used with it.
 struct Reached {

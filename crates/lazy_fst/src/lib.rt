@@ -18,8 +18,8 @@ use opening::begin;
 use session_checks::Settings;
 use session_checks::enter;
 use session_checks::side_for;
-use store_records::Part;
 use store_records::Used;
+use tr_lists::Part;
 
 // What a call takes and hands back.
 pub struct Session {

@@ -3,15 +3,13 @@ ghost use mathlib.Core.Path.{_≡_};
 ghost use mathlib.Core.List.{List};
 ghost use Prim.Native.Nat.{ℕ, _+_, _/_, _≤_, _<_};
 ghost use lib.ListN.{length};
-ghost use Rattle.lists.specs.Lists.{put, linked};
+ghost use Rattle.lists.specs.Lists.{put};
 ghost use Rattle.words.specs.Steps.{Triple};
-ghost use Rattle.calls.specs.Store.{roomOf, trSize, targetAt, trNextAt, trAt, trRecord, append, partAt};
-ghost use Rattle.calls.specs.Calls.{wordsOf};
+ghost use Rattle.calls.specs.Store.{roomOf, trSize, targetAt, trNextAt, trAt, trRecord, append};
 ghost use Rattle.fst.specs.Meaning.{trMeans};
-ghost use Rattle.store_records.specs.Meaning.{partMeans, stepMeans, stored};
+ghost use Rattle.store_records.specs.Meaning.{stepMeans, stored};
 use crate::lent::LIMIT;
 use crate::lent::least;
-use crate::state_records::first_of;
 use fst::Label;
 use fst::StateId;
 use fst::Tr;
@@ -29,12 +27,6 @@ const TR_WEIGHT: usize = 2;
 const TR_TARGET: usize = 3;
 
 const TR_NEXT: usize = 4;
-
-// The first record and the number of records of a state's list.
-pub struct Part {
-    pub first: u32,
-    pub count: u32,
-}
 
 // How many transition records there is room for.
 pub fn tr_room(trs: &[u32]) -> u32
@@ -90,42 +82,4 @@ pub fn push_tr(trs: &mut [u32], used: u32, tr: Tr, next: u32)
 {
     let at = TR_SIZE * used as usize;
     write_tr(&mut trs[at..], tr, next);
-}
-
-// How many records there are along the links from `first`, at most `most`.
-fn count_links(trs: &[u32], first: u32, most: u32) -> u32
-    ensures { λ r. ⌜ r ≡ length (linked (trNextAt (now (trs .entry))) most first) ⌝ }
-{
-    let mut link = first;
-    let mut count: u32 = 0;
-    while count < most {
-        if link == 0 {
-            return count;
-        }
-        link = tr_next(trs, link - 1);
-        count += 1;
-    }
-    count
-}
-
-// The list of state n as stored.
-pub fn part_of(states: &[u32], trs: &[u32], used: u32, n: StateId) -> Part
-    ensures { λ r. ⌜ ((heads : List ℕ) (u : ℕ) → partMeans r ≡ partAt (stored heads (now (states .entry)) (now (trs .entry)) u used) (n .0)) ⌝ }
-{
-    let first = first_of(states, n);
-    Part {
-        first,
-        count: count_links(trs, first, used),
-    }
-}
-
-// The records of a list as a part of the lent slice, cut where the slice ends.
-pub fn tr_part<'a>(trs: &'a [u32], part: Part) -> &'a [u32]
-    ensures { λ r. ⌜ now r ≡ wordsOf (now (trs .entry)) (partMeans part) ⌝ }
-{
-    let first = part.first as usize;
-    let before = first - least(1, first);
-    let start = least(TR_SIZE * before, trs.len());
-    let count = least(TR_SIZE * (part.count as usize), trs.len() - start);
-    &trs[start..start + count]
 }

@@ -1,8 +1,8 @@
 -- The first is read, the links are counted.
 use Rattle.calls.specs.Store.{partAt}
 use borrow.Author.Needs.{needs}
-use Rattle.store_records.proofs.tr_records.part_of.Statement.{statement}
-use Rattle.store_records.proofs.tr_records.part_of.Tie as tie
+use Rattle.tr_lists.proofs.part_of.Statement.{statement}
+use Rattle.tr_lists.proofs.part_of.Tie as tie
 
 returns : tie.Need-returns
 unfolding partAt

@@ -9,8 +9,8 @@ use Rattle.lists.specs.Lists.{linked}
 use Rattle.calls.specs.Store.{trNextAt}
 use Rattle.lists.proofs.Links.{linked-turn, linked-zero, linked-none}
 use borrow.Author.Needs.{needs}
-use Rattle.store_records.proofs.tr_records.count_links.Statement.{statement}
-use Rattle.store_records.proofs.tr_records.count_links.Tie as tie
+use Rattle.tr_lists.proofs.count_links.Statement.{statement}
+use Rattle.tr_lists.proofs.count_links.Tie as tie
 
 abbrev Inv-loop : tie.InvT-loop
 Inv-loop trs first most link₀ count₀ link count = (link < 2 ^ 32) × (count ≤ most) × (count + length (linked (trNextAt trs) (most - count) link) ≡ length (linked (trNextAt trs) most first))

@@ -3,10 +3,10 @@ use mathlib.Core.Path.{_≡_}
 use Prim.Native.Nat.{_+_, _-_, _*_}
 use native.Mathlib.Omega.{arith}
 use denote.Ref.{now}
-use Rattle.store_records.proofs.PartLaws.{part-cut}
+use Rattle.tr_lists.proofs.PartLaws.{part-cut}
 use borrow.Author.Needs.{needs}
-use Rattle.store_records.proofs.tr_records.tr_part.Statement.{statement}
-use Rattle.store_records.proofs.tr_records.tr_part.Tie as tie
+use Rattle.tr_lists.proofs.tr_part.Statement.{statement}
+use Rattle.tr_lists.proofs.tr_part.Tie as tie
 
 returns : tie.Need-returns
 returns c =
