@@ -17,7 +17,7 @@ use Rattle.words.specs.Steps.{Composition, Step, stepsAt, startAt}
 use Rattle.words.specs.Sides.{Side}
 use Rattle.words.specs.Settings.{Settings, Lent, compositionOf}
 use Rattle.words.specs.AsPapers.{exact, plain}
-use Rattle.calls.specs.Store.{Memory, Part, partAt, tripleAt, expandedAt, trField, targetAt}
+use Rattle.calls.specs.Store.{Memory, Part, partAt, tripleAt, expandedAt, inputAt, outputAt, weightAt, targetAt}
 use Rattle.calls.specs.Checks.{Session, storeOf, sideFor, entered}
 use Rattle.calls.specs.Calls.{Outcome, wordsOf, openOf, expandOf, finalWeightOf, runOf, recordsOf}
 use Rattle.calls.specs.Sequences.{World, Call, opening, expand, finalWeight, records, run, refusal, Reply, answered, callOf, replies, after}
@@ -73,9 +73,9 @@ pub data Found (c : Composition) (w : World) : ℕ → Type 0 where
 -- "An expanded state's k-th transition record is its k-th kept move: machine 1's input, machine 2's output (both after any rewriting), the product of their weights and the
 -- state reached"; `step` has these of a kept move
 pub record IsRecord (w : World) (r : ℕ) (step : Step) : Type 0 where
-  pub input : trField (w .memory .trs) (r - 1) 0 ≡ step .input
-  pub output : trField (w .memory .trs) (r - 1) 1 ≡ step .output
-  pub weight : trField (w .memory .trs) (r - 1) 2 ≡ step .weight
+  pub input : inputAt (w .memory .trs) (r - 1) ≡ step .input
+  pub output : outputAt (w .memory .trs) (r - 1) ≡ step .output
+  pub weight : weightAt (w .memory .trs) (r - 1) ≡ step .weight
   pub used : targetOf w r < w .session .used .states
   pub target : stateAt w (targetOf w r) ≡ step .to
 
@@ -192,7 +192,7 @@ answeredWeight zero′ (refused n) = zero′
 -- the exact weight of a list of records from state n on: the product of the stored weights, and of the final weight at its end
 abbrev pub recordsWeight : (k : Kind) → Lent → World → ℕ → List ℕ → semiring k .Element
 recordsWeight k l w n [] = exact k (answeredWeight (zeroOf k) (finalWeightOf l (w .session) (w .memory) n .answer))
-recordsWeight k l w n (r ∷ rs) = semiring k .times (exact k (trField (w .memory .trs) (r - 1) 2)) (recordsWeight k l w (targetOf w r) rs)
+recordsWeight k l w n (r ∷ rs) = semiring k .times (exact k (weightAt (w .memory .trs) (r - 1))) (recordsWeight k l w (targetOf w r) rs)
 
 -- 3c: "accepting paths (final weight not zero) correspond one to one, paired as in document 01, with all pairs of accepting paths whose inner labels (outputs of the first,
 -- inputs of the second) agree, epsilons left out, and weigh the product of both."
@@ -203,8 +203,8 @@ pub record Paths (l : Lent) (c : Composition) (pick : Bool → Bool → MoveKind
       ≡ semiring (c .kind) .times (pathWeight (semiring (c .kind)) (exact (c .kind)) (c .operand1 .machine) (t .s1) (pairOfRecords c w rs .0))
       (pathWeight (semiring (c .kind)) (exact (c .kind)) (c .operand2 .machine) (t .s2) (pairOfRecords c w rs .1))
   -- the composed input labels are the first path's, the output labels the second's, epsilons left out
-  pub inputs : (rs : List ℕ) → AcceptingRecords l w rs → word (map (λ r. trField (w .memory .trs) (r - 1) 0) rs) ≡ word (map (c .operand1 .machine .input) (pairOfRecords c w rs .0))
-  pub outputs : (rs : List ℕ) → AcceptingRecords l w rs → word (map (λ r. trField (w .memory .trs) (r - 1) 1) rs) ≡ word (map (c .operand2 .machine .output) (pairOfRecords c w rs .1))
+  pub inputs : (rs : List ℕ) → AcceptingRecords l w rs → word (map (λ r. inputAt (w .memory .trs) (r - 1)) rs) ≡ word (map (c .operand1 .machine .input) (pairOfRecords c w rs .0))
+  pub outputs : (rs : List ℕ) → AcceptingRecords l w rs → word (map (λ r. outputAt (w .memory .trs) (r - 1)) rs) ≡ word (map (c .operand2 .machine .output) (pairOfRecords c w rs .1))
 
 -- 3c: "with no sigma label set, once all found states are expanded and no found state's final weight would be refused"
 pub record Finished (s : Settings) (l : Lent) (w : World) : Type 0 where
