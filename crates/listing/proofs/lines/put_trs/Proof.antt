@@ -39,7 +39,7 @@ loop-again c =
       s ∙ p .inv .1,
       omega (arith, t, w .1, p .inv .2),
       rest-on (trLinesFrom (a .records .now) 0 k) (trLinesFrom (a .records .now) (p .i) k) (trLineAt (a .records .now) (p .i) ∷ []) (trLinesFrom (a .records .now) (p .i + 1) k) (p .inv .3) (trs-turn (a .records .now) (p .i) k t)
-          (same-text (tr-line-bytes (a .records .now) (p .i) (trMeans (c .before .before .before .stored-tr .result)) (c .before .before .before .stored-tr .ensures)) (w .0)),
+          (same-text (tr-line-bytes (a .records .now) (p .i) (trMeans (c .before .before .before .before .before .before .before .stored-tr .result)) (c .before .before .before .before .before .before .before .stored-tr .ensures)) (w .0)),
     )
 
 returns : tie.Need-returns Inv-loop μ-loop
@@ -58,13 +58,6 @@ put-trs-spec =
     Inv-loop
     μ-loop
     loop-holds
-    (λ c. search needs)
-    (λ c κs. search needs)
-    (λ c. search needs)
-    (λ c κs. search needs)
-    (λ c. search needs)
-    (λ c κs. search needs)
-    (λ c. search needs)
     (λ c κs. search needs)
     put-tr-requires
     (λ c. search needs)
