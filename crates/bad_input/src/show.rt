@@ -2,14 +2,14 @@
 use compose_filters::Facts;
 use compose_filters::Filtered;
 use compose_filters::MoveKind;
-use compose_fst_op::Chosen;
-use compose_fst_op::Side;
 use fst::Label;
 use fst::MatchType;
 use fst::NO_LABEL;
 use fst::StartState;
 use fst::StateId;
 use fst::Tr;
+use match_type::Chosen;
+use match_type::Side;
 use semirings::Product;
 
 const MAX: u32 = 4294967295;
@@ -142,7 +142,7 @@ fn side(m: &[u32], sigma1: Label, sigma2: Label) {
     if !fst_properties::well_formed(m) {
         return;
     }
-    chosen(compose_fst_op::match_type(m, m, sigma1, sigma2));
+    chosen(match_type::match_type(m, m, sigma1, sigma2));
 }
 
 fn sides(m: &[u32]) {

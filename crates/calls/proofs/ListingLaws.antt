@@ -6,16 +6,16 @@ use lib.ListN.{length}
 use borrow.Author.Tests.{le-leb, lt-leb}
 use Rattle.words.specs.Labels.{MAX}
 use Rattle.calls.specs.Store.{roomOf, stateRoom, trRoom}
-use Rattle.calls.specs.Listing.{refusedLine, machineLine, emptyMemory}
+use Rattle.calls.specs.Listing.{refusedLine, machineMost, machineLine, emptyMemory}
 use Rattle.calls.proofs.Cases.{Case, printing, Holds, AllHold, each-holds}
 use Rattle.calls.proofs.StarCases.{plain, example1, example2}
 
 -- "A machine line above 4096 words .. is malformed": one of 4096 words is taken as it is, a longer one stands for no words
-pub line-taken : (m : List ℕ) → length m ≤ 4096 → machineLine m ≡ m
-line-taken m h = rw (le-leb (length m) 4096 h)
+pub line-taken : (m : List ℕ) → length m ≤ machineMost → machineLine m ≡ m
+line-taken m h = rw (le-leb (length m) machineMost h)
 
-pub line-too-long : (m : List ℕ) → 4096 < length m → machineLine m ≡ []
-line-too-long m h = rw (lt-leb (length m) 4096 h)
+pub line-too-long : (m : List ℕ) → machineMost < length m → machineLine m ≡ []
+line-too-long m h = rw (lt-leb (length m) machineMost h)
 
 -- "room is 1024 records of each sort and 64 heads"
 pub rooms : (length (emptyMemory .heads) ≡ 64) × (stateRoom emptyMemory ≡ 1024) × (trRoom emptyMemory ≡ 1024)

@@ -7,9 +7,10 @@ use lib.Dec.{eqb, leb}
 use lib.ListN.{length, getD, replicate}
 use Rattle.lists.specs.Lists.{interval}
 use Rattle.words.specs.Labels.{Checked, good, refused, andThen, collect}
+use Rattle.words.specs.Matches.{Tr}
 use Rattle.words.specs.Steps.{Triple}
 use Rattle.words.specs.Settings.{Settings, Lent}
-use Rattle.calls.specs.Store.{Memory, stateSize, trSize, tripleAt, trField}
+use Rattle.calls.specs.Store.{Memory, stateSize, trSize, tripleAt, trAt}
 use Rattle.calls.specs.Checks.{Session}
 use Rattle.calls.specs.Calls.{openOf, runOf, finalWeightOf, recordsOf}
 
@@ -21,13 +22,19 @@ pub data Line : Type 0 where
   endLine : ℕ → ℕ → Line
   refusedLine : ℕ → Line
 
--- "kind, filter, sigma 1, mode 1, sigma 2, mode 2"
+-- "kind, filter, sigma 1, mode 1, sigma 2, mode 2": so many words
+abbrev pub settingsSize : ℕ
+settingsSize = 6
+
 abbrev pub settingsOf : List ℕ → Settings
 settingsOf w = record { kind = getD w 0 0; filter = getD w 1 0; sigma1 = getD w 2 0; mode1 = getD w 3 0; sigma2 = getD w 4 0; mode2 = getD w 5 0 }
 
 -- "A machine line above 4096 words .. is malformed": it stands for no words, which are malformed
+abbrev pub machineMost : ℕ
+machineMost = 4096
+
 abbrev pub machineLine : List ℕ → List ℕ
-machineLine m = cond (leb (length m) 4096) m []
+machineLine m = cond (leb (length m) machineMost) m []
 
 -- "both machines as decimal words, one line each, without allowed lists"
 abbrev pub lentOf : List ℕ → List ℕ → Lent
@@ -41,9 +48,12 @@ emptyMemory = record { heads = replicate 64 0; states = replicate (stateSize * 1
 abbrev pub noSession : Settings → Session
 noSession s = record { settings = s; side = 0; used = record { states = 0; trs = 0 } }
 
+abbrev pub lineOf : Tr → Line
+lineOf t = trLine (t .input) (t .output) (t .weight) (t .target)
+
 -- the transition records that were handed back
 unfoldable pub trLines : List ℕ → List Line
-trLines words = map (λ i. trLine (trField words i 0) (trField words i 1) (trField words i 2) (trField words i 3)) (interval 0 (length words / trSize))
+trLines words = map (λ i. lineOf (trAt words i)) (interval 0 (length words / trSize))
 
 -- a state and its transitions
 abbrev pub stateLines : Lent → Session → Memory → ℕ → Option ℕ → List Line
@@ -74,7 +84,7 @@ printed (refused n) = refusedLine n ∷ []
 
 -- "a settings line not of six such words is refused 1"; a line that is not of decimal words up to MAX counts as one without words. With any machines and allowed lists lent.
 abbrev pub listingOn : List ℕ → Lent → List Line
-listingOn w l = printed (cond (eqb (length w) 6) (composed (settingsOf w) l) (refused 1))
+listingOn w l = printed (cond (eqb (length w) settingsSize) (composed (settingsOf w) l) (refused 1))
 
 -- "`composed` reads settings .. and both machines as decimal words, one line each, without allowed lists"
 unfoldable pub listing : List ℕ → List ℕ → List ℕ → List Line

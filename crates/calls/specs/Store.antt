@@ -1,13 +1,13 @@
 -- 01, "Session and memory": memory, its records, the chains of states.
-use mathlib.Core.Bool.{Bool, _&&_}
 use mathlib.Core.List.{List, [], _∷_, _++_}
 use mathlib.Core.Option.{Option}
 use Prim.Native.Nat.{ℕ, _+_, _*_, _/_, _%_, min}
-use lib.Dec.{eqb}
 use lib.ListN.{length, getD, set}
 use Rattle.lists.specs.Lists.{put, first, linked}
 use Rattle.words.specs.Machines.{limit}
+use Rattle.words.specs.Matches.{Tr}
 use Rattle.words.specs.Steps.{Triple, Step}
+unfoldable pub use Rattle.words.specs.Steps.{sameTriple}
 
 -- "Memory is three slices: heads, states, transitions."
 pub record Memory : Type 0 where
@@ -41,7 +41,8 @@ stateRoom m = roomOf stateSize (m .states)
 unfoldable pub trRoom : Memory → ℕ
 trRoom m = roomOf trSize (m .trs)
 
--- "A state record is s1 × 65536 + s2, f, expanded (0 or 1), first transition, next; record n + 1 belongs to state n." Word k of the record of state n.
+-- "A state record is s1 × 65536 + s2, f, expanded (0 or 1), first transition, next; record n + 1 belongs to state n." Word k of the record of state n; the number of
+-- each word stands in its reader below, and nowhere else.
 unfoldable pub stateField : List ℕ → ℕ → ℕ → ℕ
 stateField states n k = getD states (stateSize * n + k) 0
 
@@ -51,8 +52,12 @@ tripleWords t = (t .s1 * 65536 + t .s2) ∷ t .f ∷ []
 unfoldable pub tripleAt : List ℕ → ℕ → Triple
 tripleAt states n = record { s1 = stateField states n 0 / 65536; s2 = stateField states n 0 % 65536; f = stateField states n 1 }
 
+-- the place of "expanded"; that of the first transition is the next
+abbrev pub expandedPlace : ℕ
+expandedPlace = 2
+
 unfoldable pub expandedAt : List ℕ → ℕ → ℕ
-expandedAt states n = stateField states n 2
+expandedAt states n = stateField states n expandedPlace
 
 unfoldable pub firstAt : List ℕ → ℕ → ℕ
 firstAt states n = stateField states n 3
@@ -64,11 +69,24 @@ nextAt states n = stateField states n 4
 unfoldable pub trField : List ℕ → ℕ → ℕ → ℕ
 trField trs i k = getD trs (trSize * i + k) 0
 
+abbrev pub inputAt : List ℕ → ℕ → ℕ
+inputAt trs i = trField trs i 0
+
+abbrev pub outputAt : List ℕ → ℕ → ℕ
+outputAt trs i = trField trs i 1
+
+abbrev pub weightAt : List ℕ → ℕ → ℕ
+weightAt trs i = trField trs i 2
+
 unfoldable pub targetAt : List ℕ → ℕ → ℕ
 targetAt trs i = trField trs i 3
 
 unfoldable pub trNextAt : List ℕ → ℕ → ℕ
 trNextAt trs i = trField trs i 4
+
+-- the transition that record i + 1 holds
+abbrev pub trAt : List ℕ → ℕ → Tr
+trAt trs i = record { input = inputAt trs i; output = outputAt trs i; weight = weightAt trs i; target = targetAt trs i }
 
 -- "Its chain starts at head (s1 + 31 × s2 + f) mod the number of heads": that head's place
 unfoldable pub slot : List ℕ → Triple → ℕ
@@ -81,9 +99,6 @@ headOf heads t = getD heads (slot heads t) 0
 -- "newest first; 0 ends it": the states of a triple's chain; no chain is longer than the used states, as each next is below its own number
 unfoldable pub chainOf : Store → Triple → List ℕ
 chainOf d t = linked (nextAt (d .memory .states)) (d .used .states) (headOf (d .memory .heads) t)
-
-unfoldable pub sameTriple : Triple → Triple → Bool
-sameTriple a b = eqb (a .s1) (b .s1) && (eqb (a .s2) (b .s2) && eqb (a .f) (b .f))
 
 -- "the first with the triple is the state"
 unfoldable pub find : Store → Triple → Option ℕ
@@ -118,7 +133,7 @@ append d st target next = record {
 -- state n is expanded, its list begins with record `first`
 unfoldable pub mark : Store → ℕ → ℕ → Store
 mark d n first = record {
-  memory = record { heads = d .memory .heads; states = put (d .memory .states) (stateSize * n + 2) (1 ∷ first ∷ []); trs = d .memory .trs };
+  memory = record { heads = d .memory .heads; states = put (d .memory .states) (stateSize * n + expandedPlace) (1 ∷ first ∷ []); trs = d .memory .trs };
   used = d .used;
 }
 

@@ -1,111 +1,21 @@
-// The choice of the side (compose_fst_op.rs, `match_type`), with refusals 4 to 7 in their order.
-ghost use mathlib.Core.Path.{_≡_};
-ghost use mathlib.Core.Bool.{true, false, not, _&&_, _||_};
-ghost use lib.Dec.{eqb};
-ghost use Rattle.words.specs.Labels.{epsLabel, noLabel};
-ghost use Rattle.words.specs.Matches.{inputs, outputs};
-ghost use Rattle.words.specs.Machines.{sideMark, sorted as sortedOf, machineOf, wellFormed};
-ghost use Rattle.words.specs.Sides.{sideBy, sideOf};
-ghost use Rattle.fst.specs.Meaning.{onOf, asOperand};
-ghost use Rattle.compose_fst_op.specs.Chosen.{chosenMeans};
-use fst::EPS_LABEL;
-use fst::Label;
-use fst::MatchType;
-use fst::NO_LABEL;
-use fst::side_mark;
-use fst_properties::sorted;
+// A composition (compose_fst_op.rs): its settings and side, its start, and the final weight of a composed state. The machines are lent; no memory is known here.
+mod finals;
+mod start;
 
-// One direction in every state, or both.
-pub enum Side {
-    Only(MatchType),
-    Both,
-}
+pub use finals::FinalWeight;
+pub use finals::compute_final_weight;
+use match_type::Side;
+use matchers::Sigma;
+pub use start::ComposeStart;
+pub use start::compute_start;
 
-// The side, or the number of the refusal.
-pub enum Chosen {
-    By(Side),
-    Refused(u32),
-}
-
-fn has_eps(a: Label, b: Label) -> bool
-    ensures { λ r. ⌜ r ≡ (eqb (a .0) epsLabel || eqb (b .0) epsLabel) ⌝ }
-{
-    if a.0 == EPS_LABEL.0 {
-        return true;
-    }
-    b.0 == EPS_LABEL.0
-}
-
-// Whether a side of a well-formed machine is sorted. A mark of 1 or 2 is true of it: the lists are looked at where the mark is 0.
-fn known_sorted(m: &[u32], on: MatchType) -> bool
-    requires { ⌜ wellFormed (now m) ≡ true ⌝ }
-    ensures { λ r. ⌜ r ≡ sortedOf (onOf on) (machineOf (now (m .entry))) ⌝ }
-{
-    let mark = side_mark(m, on);
-    match mark {
-        1 => true,
-        2 => false,
-        _ => sorted(m, on),
-    }
-}
-
-// A sigma label is set, and the side on which the machine is matched is not sorted.
-fn lacks_order(m: &[u32], on: MatchType, sigma: Label) -> bool
-    requires { ⌜ wellFormed (now m) ≡ true ⌝ }
-    ensures { λ r. ⌜ r ≡ (not (eqb (sigma .0) noLabel) && not (sortedOf (onOf on) (machineOf (now (m .entry))))) ⌝ }
-{
-    if sigma.0 == NO_LABEL.0 {
-        return false;
-    }
-    !known_sorted(m, on)
-}
-
-// By the lists, machine 1 first; else refusal 7.
-fn side_by_lists(m1: &[u32], m2: &[u32]) -> Chosen
-    requires { ⌜ (wellFormed (now m1) ≡ true) × (wellFormed (now m2) ≡ true) ⌝ }
-    ensures { λ r. ⌜ chosenMeans r ≡ sideBy false false (sortedOf outputs (machineOf (now (m1 .entry)))) (sortedOf inputs (machineOf (now (m2 .entry)))) ⌝ }
-{
-    if known_sorted(m1, MatchType::MatchOutput) {
-        return Chosen::By(Side::Only(MatchType::MatchOutput));
-    }
-    if known_sorted(m2, MatchType::MatchInput) {
-        return Chosen::By(Side::Only(MatchType::MatchInput));
-    }
-    Chosen::Refused(7)
-}
-
-// By the marks; where none is 1, by the lists.
-fn side_by_marks(m1: &[u32], m2: &[u32]) -> Chosen
-    requires { ⌜ (wellFormed (now m1) ≡ true) × (wellFormed (now m2) ≡ true) ⌝ }
-    ensures { λ r. ⌜ chosenMeans r ≡ sideBy (eqb (sideMark outputs (now (m1 .entry))) 1) (eqb (sideMark inputs (now (m2 .entry))) 1) (sortedOf outputs (machineOf (now (m1 .entry)))) (sortedOf inputs (machineOf (now (m2 .entry)))) ⌝ }
-{
-    let mark1 = side_mark(m1, MatchType::MatchOutput);
-    let mark2 = side_mark(m2, MatchType::MatchInput);
-    if mark1 == 1 {
-        if mark2 == 1 {
-            return Chosen::By(Side::Both);
-        }
-        return Chosen::By(Side::Only(MatchType::MatchOutput));
-    }
-    if mark2 == 1 {
-        return Chosen::By(Side::Only(MatchType::MatchInput));
-    }
-    side_by_lists(m1, m2)
-}
-
-// The side of a composition of well-formed machines. Machine 1 is matched on outputs, 2 on inputs; a sigma label NO_LABEL means none.
-pub fn match_type(m1: &[u32], m2: &[u32], sigma1: Label, sigma2: Label) -> Chosen
-    requires { ⌜ (wellFormed (now m1) ≡ true) × (wellFormed (now m2) ≡ true) ⌝ }
-    ensures { λ r. ⌜ chosenMeans r ≡ sideOf (asOperand outputs (now (m1 .entry)) (sigma1 .0)) (asOperand inputs (now (m2 .entry)) (sigma2 .0)) ⌝ }
-{
-    if has_eps(sigma1, sigma2) {
-        return Chosen::Refused(4);
-    }
-    if lacks_order(m1, MatchType::MatchOutput, sigma1) {
-        return Chosen::Refused(5);
-    }
-    if lacks_order(m2, MatchType::MatchInput, sigma2) {
-        return Chosen::Refused(6);
-    }
-    side_by_marks(m1, m2)
+// The settings of a composition and its side. The machines and their allowed lists are lent beside them.
+pub struct ComposeFstOpOptions {
+    // 0: cost; 1: count.
+    pub kind: u32,
+    // 0: sequence; 1: alternate; 2: match.
+    pub filter: u32,
+    pub side: Side,
+    pub sigma1: Sigma,
+    pub sigma2: Sigma,
 }

@@ -14,11 +14,11 @@ use Rattle.fst.specs.declared.MatchType.the-variants.{MatchInput, MatchOutput}
 use Rattle.matchers.specs.declared.Cursor.{Cursor}
 use Rattle.matchers.specs.Meaning.{Item, lookupItems}
 use Rattle.matchers.specs.Cursors.{itemsLeft}
-use Rattle.compose_moves.specs.Composing.{settingsOf, lentOf}
+use Rattle.compose_fst_op.specs.Composing.{settingsOf, lentOf}
 use Rattle.compose_moves.specs.Walks.{Walk, walkMeans, walkedState, lookedState, walkedSide, nextEdge, trSteps, trsSteps, walkLeft, Asked, ends, refuses, asked, isDone, alongMeans}
 use Rattle.compose_moves.specs.Cursors.{walkIn, presentIn, stepsLeft, nextMeans, fixedBy, resumed}
 use Rattle.compose_moves.proofs.Edges.{after-taken}
-use Rattle.compose_moves.specs.declared.ComposeFstOpOptions.{ComposeFstOpOptions}
+use Rattle.compose_fst_op.specs.declared.ComposeFstOpOptions.{ComposeFstOpOptions}
 use Rattle.compose_moves.specs.declared.MoveCursor.{MoveCursor}
 use Rattle.compose_moves.specs.declared.walks.Along.{Along}
 use Rattle.compose_moves.specs.declared.walks.Along.the-variants.{Step as Onward, Done, Refused}

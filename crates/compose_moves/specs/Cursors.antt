@@ -11,12 +11,12 @@ use Rattle.words.specs.Settings.{Settings, Lent, operand1, operand2}
 use Rattle.words.specs.Steps.{Step}
 use Rattle.fst.specs.Meaning.{onOf}
 use Rattle.compose_filters.specs.Meaning.{factsMean}
-use Rattle.store_records.specs.Meaning.{tupleMeans}
+use Rattle.compose_state_tuple.specs.Meaning.{tupleMeans}
 use Rattle.compose_moves.specs.Moves.{Present, composeTrMeans}
 use Rattle.compose_moves.specs.Walks.{Walk, walkLeft, Asked, gives, ends, refuses, asked}
 use Rattle.matchers.specs.declared.Cursor.{Cursor}
 use Rattle.matchers.specs.declared.sigma_matcher.Sigma.{Sigma}
-use Rattle.compose_moves.specs.declared.ComposeFstOpOptions.{ComposeFstOpOptions}
+use Rattle.compose_fst_op.specs.declared.ComposeFstOpOptions.{ComposeFstOpOptions}
 use Rattle.compose_moves.specs.declared.moves.Walk.{Walk as Fixed}
 use Rattle.compose_moves.specs.declared.walks.Along.{Along}
 use Rattle.compose_moves.specs.declared.walks.Along.the-variants.{Step as Onward, Done as AtEnd, Refused as Stopped}

@@ -1,5 +1,4 @@
--- What the settings and the answers of the code stand for, what two matches make, and what a cursor has still to give.
-pub mod Composing
+-- What the answers of the code stand for, what two matches make, and what a cursor has still to give.
 pub mod Moves
 pub mod Walks
 pub mod Cursors

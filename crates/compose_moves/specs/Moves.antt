@@ -12,7 +12,7 @@ use Rattle.words.specs.Filters.{filterOf}
 use Rattle.words.specs.Steps.{Triple, Step, weighed}
 use Rattle.matchers.specs.Meaning.{Item, theLoop, whole}
 use Rattle.compose_filters.specs.Meaning.{factsMean}
-use Rattle.store_records.specs.Meaning.{tupleMeans}
+use Rattle.compose_state_tuple.specs.Meaning.{tupleMeans}
 use Rattle.compose_moves.specs.declared.moves.ComposeTr.{ComposeTr}
 use Rattle.compose_moves.specs.declared.moves.Made.{Made}
 use Rattle.compose_moves.specs.declared.moves.Made.the-variants.{Step as AStep, Dropped, Refused}

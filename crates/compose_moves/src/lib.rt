@@ -1,5 +1,4 @@
-// The moves of a composed state, one at each asking (compose_fst_op.rs, `ordered_expand` and what it calls), and its final weight. A cursor keeps places only; no move is stored.
-mod finals;
+// The moves of a composed state, one at each asking (compose_fst_op.rs, `ordered_expand` and what it calls). A cursor keeps places only; no move is stored, and no memory is known here.
 mod moves;
 mod walks;
 
@@ -9,17 +8,16 @@ ghost use Prim.Native.Nat.{ℕ};
 ghost use Rattle.words.specs.Labels.{noLabel};
 ghost use Rattle.words.specs.Steps.{stepsAt};
 ghost use Rattle.fst.specs.Meaning.{onOf};
-ghost use Rattle.store_records.specs.Meaning.{tupleMeans};
+ghost use Rattle.compose_state_tuple.specs.Meaning.{tupleMeans};
 ghost use Rattle.matchers.specs.Meaning.{sortedItems};
 ghost use Rattle.matchers.specs.Cursors.{itemsLeft};
-ghost use Rattle.compose_moves.specs.Composing.{settingsOf, lentOf, composing};
+ghost use Rattle.compose_fst_op.specs.Composing.{settingsOf, lentOf, composing};
 ghost use Rattle.compose_moves.specs.Walks.{lookedState, lookedWords, asked};
 ghost use Rattle.compose_moves.specs.Cursors.{fixedBy, resumed, stepsLeft, startMeans, nextMeans};
 use compose_filters::Facts;
 use compose_filters::facts_at;
-use compose_fst_op::Side;
-pub use finals::FinalWeight;
-pub use finals::compute_final_weight;
+use compose_fst_op::ComposeFstOpOptions;
+use compose_state_tuple::ComposeStateTuple;
 use fst::MatchType;
 use fst::NO_LABEL;
 use match_input::Direction;
@@ -29,20 +27,8 @@ use matchers::Sigma;
 use matchers::sorted_iter;
 pub use moves::ComposeTr;
 use moves::Walk;
-use store_records::ComposeStateTuple;
 use walks::Along;
 use walks::ordered_expand;
-
-// The settings of a composition and its side. The machines and their allowed lists are lent beside them.
-pub struct ComposeFstOpOptions {
-    // 0: cost; 1: count.
-    pub kind: u32,
-    // 0: sequence; 1: alternate; 2: match.
-    pub filter: u32,
-    pub side: Side,
-    pub sigma1: Sigma,
-    pub sigma2: Sigma,
-}
 
 // How far the moves of a composed state are given.
 pub struct MoveCursor {

@@ -10,6 +10,7 @@ use compose_filters::Facts;
 use compose_filters::Filtered;
 use compose_filters::MoveKind;
 use compose_filters::filter_tr;
+use compose_state_tuple::ComposeStateTuple;
 use fst::EPS_LABEL;
 use fst::Label;
 use fst::MatchType;
@@ -20,7 +21,6 @@ use matchers::Sigma;
 use semirings::Product;
 use semirings::one;
 use semirings::times;
-use store_records::ComposeStateTuple;
 
 // A composed transition. Its target is not numbered yet.
 pub struct ComposeTr {

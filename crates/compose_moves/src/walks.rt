@@ -3,13 +3,14 @@ ghost use mathlib.Core.Path.{_≡_};
 ghost use mathlib.Core.List.{List};
 ghost use Prim.Native.Nat.{ℕ};
 ghost use Rattle.fst.specs.Meaning.{onOf};
-ghost use Rattle.store_records.specs.Meaning.{tupleMeans};
+ghost use Rattle.compose_state_tuple.specs.Meaning.{tupleMeans};
 ghost use Rattle.matchers.specs.Meaning.{matchMeans};
 ghost use Rattle.compose_moves.specs.Walks.{walkMeans, walkedState, lookedState, walkedSide, edgeItem, edgeAfter, walkLeft, fromTr, asked, ends, isDone, alongMeans, edgeAnswer};
 use crate::moves::ComposeTr;
 use crate::moves::Made;
 use crate::moves::Walk;
 use crate::moves::pair_step;
+use compose_state_tuple::ComposeStateTuple;
 use fst::MatchType;
 use fst::StateId;
 use fst::first_tr;
@@ -22,7 +23,6 @@ use matchers::SigmaIter;
 use matchers::Step;
 use matchers::ask;
 use matchers::sigma_iter;
-use store_records::ComposeStateTuple;
 
 // The next composed transition, with the walked record and the matches left of it; the end; or the number of a refusal.
 pub enum Along {

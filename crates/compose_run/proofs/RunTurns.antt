@@ -16,7 +16,7 @@ use Rattle.calls.specs.Calls.{Outcome, settle, expansion, expandOf, onward, end
 use Rattle.calls.proofs.RunLaws.{expand-under}
 use Rattle.calls.proofs.ExpandKept.{expand-kept}
 use Rattle.store_records.specs.declared.Used.{Used}
-use Rattle.compose_moves.specs.declared.ComposeFstOpOptions.{ComposeFstOpOptions}
+use Rattle.compose_fst_op.specs.declared.ComposeFstOpOptions.{ComposeFstOpOptions}
 use Rattle.compose_store.specs.Meaning.{sessionOf}
 use Rattle.compose_run.specs.declared.Ran.{Ran}
 use Rattle.compose_run.specs.declared.Ran.the-variants.{Done, Refused}

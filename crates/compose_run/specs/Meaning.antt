@@ -1,21 +1,11 @@
--- What the start and a run of the code stand for in the definitions of `words` and `calls`.
-use mathlib.Core.Option.{Option, none, some}
+-- What a run of the code stands for in the definitions of `calls`.
 use Rattle.words.specs.Labels.{Checked, good, refused}
-use Rattle.words.specs.Steps.{Triple}
 use Rattle.calls.specs.Store.{Memory, Part}
 use Rattle.calls.specs.Calls.{Outcome}
-use Rattle.store_records.specs.Meaning.{tupleMeans}
-use Rattle.compose_moves.specs.declared.ComposeFstOpOptions.{ComposeFstOpOptions}
+use Rattle.compose_fst_op.specs.declared.ComposeFstOpOptions.{ComposeFstOpOptions}
 use Rattle.compose_store.specs.Meaning.{sessionOf}
-use Rattle.compose_run.specs.declared.ComposeStart.{ComposeStart}
-use Rattle.compose_run.specs.declared.ComposeStart.the-variants.{At, Missing}
 use Rattle.compose_run.specs.declared.Ran.{Ran}
 use Rattle.compose_run.specs.declared.Ran.the-variants.{Done, Refused}
-
--- "state 0, if both machines have a start"
-abbrev pub startMeans : ComposeStart → Option Triple
-startMeans (At t) = some (tupleMeans t)
-startMeans Missing = none
 
 -- what a run leaves, with memory at its exit: "A run refused at a state returns the session of the expansions kept."
 abbrev pub ranLeft : ComposeFstOpOptions → Memory → Ran → Outcome (Unit {0})

@@ -1,52 +1,27 @@
-// What a lazy composition does below the checks of a session: its start (`compute_start` of the Rust), the expansion of a found state, and `compute`, which expands in number order.
+// What a lazy composition does below the checks of a session: the expansion of a found state, and `compute`, which expands in number order.
 ghost use mathlib.Core.Path.{_≡_};
 ghost use Prim.Native.Nat.{_<_};
 ghost use Rattle.words.specs.Labels.{good};
-ghost use Rattle.words.specs.Machines.{machineOf};
-ghost use Rattle.words.specs.Steps.{startOf};
 ghost use Rattle.calls.specs.Store.{stateRoom};
 ghost use Rattle.calls.specs.Checks.{entered};
 ghost use Rattle.calls.specs.Calls.{expandOf, runFrom};
-ghost use Rattle.compose_moves.specs.Composing.{lentOf, composing};
+ghost use Rattle.compose_fst_op.specs.Composing.{lentOf, composing};
 ghost use Rattle.store_records.specs.Meaning.{memoryOf};
 ghost use Rattle.compose_store.specs.Meaning.{sessionOf, leftBy};
-ghost use Rattle.compose_run.specs.Meaning.{startMeans, ranLeft, turnOf};
-use compose_moves::ComposeFstOpOptions;
+ghost use Rattle.compose_run.specs.Meaning.{ranLeft, turnOf};
+use compose_fst_op::ComposeFstOpOptions;
 use compose_store::Expanded;
 use compose_store::expand_state;
-use fst::StartState;
 use fst::StateId;
-use fst::start;
-use store_records::ComposeStateTuple;
 use store_records::Used;
 use store_records::is_expanded;
-use store_records::part_of;
 use store_records::state_room;
-
-// The state where the composition starts, if both machines have a start.
-pub enum ComposeStart {
-    At(ComposeStateTuple),
-    Missing,
-}
+use tr_lists::part_of;
 
 // The used counts after all expansions, or those of the expansions before the refused one, with the number of its refusal.
 pub enum Ran {
     Done(Used),
     Refused(u32, Used),
-}
-
-pub fn compute_start(m1: &[u32], m2: &[u32]) -> ComposeStart
-    ensures { λ r. ⌜ startMeans r ≡ startOf (machineOf (now (m1 .entry)) .start) (machineOf (now (m2 .entry)) .start) ⌝ }
-{
-    let start1 = start(m1);
-    let start2 = start(m2);
-    match start1 {
-        StartState::Missing => ComposeStart::Missing,
-        StartState::At(s1) => match start2 {
-            StartState::Missing => ComposeStart::Missing,
-            StartState::At(s2) => ComposeStart::At(ComposeStateTuple { fs: 0, s1, s2 }),
-        },
-    }
 }
 
 // The list of a found state, where the checks 1 to 9 pass: as stored, with the used counts as they are, or expanded.

@@ -13,9 +13,9 @@ use Rattle.calls.specs.Forms.{fits, headsOk, tripleOk, expandedOk, stateFormOk,
 use Rattle.calls.specs.Checks.{sideFor, sessionOk, entered}
 use Rattle.calls.proofs.StarCases.{example1, example2}
 use Rattle.fst.specs.declared.MatchType.the-variants.{MatchOutput}
-use Rattle.compose_fst_op.specs.declared.Side.the-variants.{Only}
-use Rattle.compose_moves.specs.Composing.{lentOf, composing}
-use Rattle.compose_moves.specs.declared.ComposeFstOpOptions.{ComposeFstOpOptions}
+use Rattle.match_type.specs.declared.Side.the-variants.{Only}
+use Rattle.compose_fst_op.specs.Composing.{lentOf, composing}
+use Rattle.compose_fst_op.specs.declared.ComposeFstOpOptions.{ComposeFstOpOptions}
 use Rattle.store_records.specs.Meaning.{memoryOf}
 use Rattle.compose_store.specs.Meaning.{sessionOf}
 

@@ -8,10 +8,11 @@ use Rattle.calls.specs.Store.{Memory, Part as Run}
 use Rattle.calls.specs.Checks.{Session, sideNumber}
 use Rattle.calls.specs.Calls.{Reached as Place, Outcome}
 use Rattle.store_records.specs.declared.Used.{Used}
-use Rattle.store_records.specs.Meaning.{partMeans, stored, usedMeans}
-use Rattle.compose_fst_op.specs.Chosen.{sideMeans}
-use Rattle.compose_moves.specs.Composing.{settingsOf}
-use Rattle.compose_moves.specs.declared.ComposeFstOpOptions.{ComposeFstOpOptions}
+use Rattle.store_records.specs.Meaning.{stored, usedMeans}
+use Rattle.tr_lists.specs.Meaning.{partMeans}
+use Rattle.match_type.specs.Chosen.{sideMeans}
+use Rattle.compose_fst_op.specs.Composing.{settingsOf}
+use Rattle.compose_fst_op.specs.declared.ComposeFstOpOptions.{ComposeFstOpOptions}
 use Rattle.compose_moves.specs.declared.NextStep.{NextStep}
 use Rattle.compose_moves.specs.declared.NextStep.the-variants.{Step as AStep, Done, Refused as Stop}
 use Rattle.compose_store.specs.declared.Reached.{Reached}

@@ -6,9 +6,9 @@ use Rattle.words.specs.Steps.{Step}
 use Rattle.calls.specs.Store.{Store}
 use Rattle.store_records.specs.declared.Used.{Used}
 use Rattle.store_records.specs.Meaning.{stored}
-use Rattle.compose_moves.specs.Composing.{settingsOf, lentOf}
+use Rattle.compose_fst_op.specs.Composing.{settingsOf, lentOf}
 use Rattle.compose_moves.specs.Cursors.{stepsLeft}
-use Rattle.compose_moves.specs.declared.ComposeFstOpOptions.{ComposeFstOpOptions}
+use Rattle.compose_fst_op.specs.declared.ComposeFstOpOptions.{ComposeFstOpOptions}
 use Rattle.compose_moves.specs.declared.MoveCursor.{MoveCursor}
 use Rattle.compose_weigh.specs.declared.Weighed.{Weighed}
 use Rattle.compose_weigh.specs.declared.Weighed.the-variants.{Clear, Refused}

@@ -9,9 +9,11 @@ ghost use Rattle.composed.specs.Read.{handedOn, readsOn, Reads, Prints};
 use libc::STDIN_FILENO;
 use libc::STDOUT_FILENO;
 use listing::answer;
+use listing_read::MACHINE_WORDS;
 use listing_read::Reader;
 use listing_read::new_reader;
 use listing_read::read_chunk;
+use session_checks::SETTINGS_WORDS;
 
 // More reads than can be made: at a thousand million a second they take 584 years.
 const MOST_CHUNKS: u64 = 18446744073709551615;
@@ -76,9 +78,9 @@ fn composed(out: &mut [u8; 131200]) -> usize
     ensures { λ n. ⌜ Prints (now (out .entry)) (now (out .exit)) n ⌝ }
     ensures counts { λ n. ⌜ Counts n (now (out .exit)) ⌝ }
 {
-    let mut settings = [0u32; 6];
-    let mut first = [0u32; 4096];
-    let mut second = [0u32; 4096];
+    let mut settings = [0u32; SETTINGS_WORDS];
+    let mut first = [0u32; MACHINE_WORDS];
+    let mut second = [0u32; MACHINE_WORDS];
     let r = read_lines(&mut settings, &mut first, &mut second);
     answer(r, &mut settings, &mut first, &mut second, out)
 }

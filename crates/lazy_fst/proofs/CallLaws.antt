@@ -15,10 +15,10 @@ use Rattle.calls.specs.Store.{Memory, tripleAt, expandedAt, partAt}
 use Rattle.calls.specs.Checks.{Session, sideNumber, storeOf, entered, enteredAt, Passes}
 use Rattle.calls.specs.Calls.{settle, unchanged, wordsOf, placeOf, expandOf, finalWeightOf, recordsOf, recordsPlace}
 use Rattle.calls.proofs.ExpandKept.{entered-is}
-use Rattle.compose_fst_op.specs.Chosen.{sideMeans}
-use Rattle.compose_fst_op.specs.declared.Side.{Side as Direction}
-use Rattle.compose_fst_op.specs.declared.Chosen.{Chosen}
-use Rattle.compose_fst_op.specs.declared.Chosen.the-variants.{By}
+use Rattle.match_type.specs.Chosen.{sideMeans}
+use Rattle.match_type.specs.declared.Side.{Side as Direction}
+use Rattle.match_type.specs.declared.Chosen.{Chosen}
+use Rattle.match_type.specs.declared.Chosen.the-variants.{By}
 use Rattle.compose_store.specs.Meaning.{sessionOf}
 use Rattle.store_records.specs.Meaning.{usedMeans}
 use Rattle.session_checks.specs.Meaning.{settingsMeans, enteredMeans, sideNumbered}

@@ -10,10 +10,10 @@ use Rattle.calls.specs.Store.{Memory, Part as Run}
 use Rattle.calls.specs.Checks.{Session as Opened, sideNumber}
 use Rattle.calls.specs.Calls.{Outcome, settle, begun, opened}
 use Rattle.matchers.specs.Meaning.{allowedOf}
-use Rattle.store_records.specs.Meaning.{partMeans}
+use Rattle.tr_lists.specs.Meaning.{partMeans}
 use Rattle.session_checks.specs.Meaning.{settingsMeans, lentOf, sessionOf}
-use Rattle.compose_fst_op.specs.declared.Side.{Side as Direction}
-use Rattle.compose_moves.specs.declared.ComposeFstOpOptions.{ComposeFstOpOptions}
+use Rattle.match_type.specs.declared.Side.{Side as Direction}
+use Rattle.compose_fst_op.specs.declared.ComposeFstOpOptions.{ComposeFstOpOptions}
 use Rattle.session_checks.specs.declared.Settings.{Settings as Six}
 use Rattle.lazy_fst.specs.declared.Session.{Session}
 use Rattle.lazy_fst.specs.declared.Listed.{Listed}

@@ -12,15 +12,15 @@ ghost use Rattle.session_checks.specs.Meaning.{settingsMeans};
 ghost use Rattle.lazy_fst.specs.Meaning.{lentWith, sessionMeans, left, partLeft, weightLeft};
 use answers::options_of;
 use answers::run_answer;
-use compose_fst_op::Chosen;
 use compose_run::compute;
 use fst::StateId;
+use match_type::Chosen;
 use opening::begin;
 use session_checks::Settings;
 use session_checks::enter;
 use session_checks::side_for;
-use store_records::Part;
 use store_records::Used;
+use tr_lists::Part;
 
 // What a call takes and hands back.
 pub struct Session {

@@ -17,8 +17,8 @@ use compose_run::expand_found;
 use fst::StateId;
 use session_checks::side_of;
 use store_records::is_expanded;
-use store_records::part_of;
-use store_records::tr_part;
+use tr_lists::part_of;
+use tr_lists::tr_part;
 
 impl Session {
     // Expands state n; an expanded one is answered as stored.

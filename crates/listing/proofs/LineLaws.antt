@@ -4,13 +4,14 @@ use mathlib.Core.List.{List, [], _∷_, _++_, map, flatMap, append-assoc}
 use Prim.Native.Nat.{ℕ, _+_, _-_, _*_, _/_, _≤_, _<_}
 use native.Mathlib.Nat.{add-zero, sub-zero}
 use native.Mathlib.Omega.{arith}
-use lib.ListN.{length, getD, length-append}
+use lib.ListN.{length, length-append}
 use Rattle.lists.specs.Lists.{interval}
 use Rattle.lists.proofs.Put.{put-none}
+use Rattle.words.specs.Matches.{Tr}
 use Rattle.words.specs.Settings.{Lent}
-use Rattle.calls.specs.Store.{Memory, trField}
+use Rattle.calls.specs.Store.{Memory, trAt}
 use Rattle.calls.specs.Checks.{Session}
-use Rattle.calls.specs.Listing.{Line, trLine, trLines}
+use Rattle.calls.specs.Listing.{Line, lineOf, trLines}
 use Rattle.listing_text.specs.Printing.{lineBytes, bytesOf}
 use Rattle.listing_write.specs.Written.{Written}
 use Rattle.listing_write.proofs.WrittenLaws.{then, same-text}
@@ -54,7 +55,7 @@ rest-done {out = out} {to = to} whole rest h e = h out to (same-text (sym (ap by
 
 -- the lines of the records from i on, of k in all
 abbrev pub trLineAt : List ℕ → ℕ → Line
-trLineAt words i = trLine (trField words i 0) (trField words i 1) (trField words i 2) (trField words i 3)
+trLineAt words i = lineOf (trAt words i)
 
 unfoldable pub trLinesFrom : List ℕ → ℕ → ℕ → List Line
 trLinesFrom words i k = map (trLineAt words) (interval i (k - i))
@@ -71,12 +72,9 @@ pub trs-all : (words : List ℕ) → trLinesFrom words 0 (length words / 5) ≡ 
 unfolding trLinesFrom trLines
 trs-all words = ap (λ (j : ℕ). map (trLineAt words) (interval 0 j)) (sub-zero (length words / 5))
 
--- a line of the words that were read
-pub tr-line-bytes : (words : List ℕ) (i a b c d : ℕ) → a ≡ getD words (5 * i) 0 → b ≡ getD words (5 * i + 1) 0 → c ≡ getD words (5 * i + 2) 0 → d ≡ getD words (5 * i + 3) 0
-    → lineBytes (trLine a b c d) ≡ bytesOf (trLineAt words i ∷ [])
-unfolding trField
-tr-line-bytes words i a b c d p q r t =
-    (λ k. lineBytes (trLine ((p ∙ ap (λ (j : ℕ). getD words j 0) (sym (add-zero (5 * i)))) k) (q k) (r k) (t k))) ∙ sym (bytes-one (trLineAt words i))
+-- the line of a record that was read
+pub tr-line-bytes : (words : List ℕ) (i : ℕ) (t : Tr) → t ≡ trAt words i → lineBytes (lineOf t) ≡ bytesOf (trLineAt words i ∷ [])
+tr-line-bytes words i t e = ap (λ (u : Tr). lineBytes (lineOf u)) e ∙ sym (bytes-one (trLineAt words i))
 
 module _ (l : Lent) (s : Session) (m : Memory) where
   pub states-turn : (n k : ℕ) → n < k → linesFrom l s m n (k - n) ≡ linesAt l s m n ++ linesFrom l s m (n + 1) (k - (n + 1))

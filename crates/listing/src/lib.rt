@@ -16,10 +16,22 @@ use lazy_fst::Listed;
 use listing_read::Reader;
 use listing_read::line_words;
 use listing_write::put_refused;
+use session_checks::SETTINGS_WORDS;
 use session_checks::read_settings;
 pub use stages::no_session;
 use stages::opened;
+use store_records::STATE_SIZE;
+use store_records::TR_SIZE;
 pub use weights::found;
+
+// "room is 1024 records of each sort and 64 heads"
+pub const HEADS: usize = 64;
+
+const ROOM: usize = 1024;
+
+pub const STATE_WORDS: usize = STATE_SIZE * ROOM;
+
+pub const TR_WORDS: usize = TR_SIZE * ROOM;
 
 // The listing of the machines under the settings of six words, with the allowed lists that are lent: its bytes stand at the start of `out`, and the answer is their number.
 pub fn listing(
@@ -34,13 +46,13 @@ pub fn listing(
     ensures { λ r. ⌜ Written (now (out .entry)) 0 (bytesOf (listingOn (now (words .entry)) (lentWith (now (m1 .entry)) (now (m2 .entry)) (now (allowed1 .entry)) (now (allowed2 .entry)) listed))) (now (out .exit)) r ⌝ }
     ensures counts { λ r. ⌜ Counts r (now (out .exit)) ⌝ }
 {
-    if words.len() != 6 {
+    if words.len() != SETTINGS_WORDS {
         return put_refused(out, 0, 1);
     }
     let settings = read_settings(words);
-    let mut heads = [0u32; 64];
-    let mut states = [0u32; 5120];
-    let mut trs = [0u32; 5120];
+    let mut heads = [0u32; HEADS];
+    let mut states = [0u32; STATE_WORDS];
+    let mut trs = [0u32; TR_WORDS];
     opened(
         settings,
         m1,

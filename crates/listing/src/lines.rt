@@ -5,14 +5,15 @@ ghost use lib.ListN.{length};
 ghost use Rattle.calls.specs.Store.{Memory, trSize};
 ghost use Rattle.calls.specs.Checks.{Passes};
 ghost use Rattle.calls.specs.Listing.{stateLine, sideLine, endLine, trLines};
-ghost use Rattle.store_records.specs.Meaning.{tupleMeans, memoryOf};
+ghost use Rattle.compose_state_tuple.specs.Meaning.{tupleMeans};
+ghost use Rattle.store_records.specs.Meaning.{memoryOf};
 ghost use Rattle.lazy_fst.specs.Meaning.{lentWith, sessionMeans, weightLeft};
 ghost use Rattle.listing_text.specs.Printing.{lineBytes, bytesOf};
 ghost use Rattle.listing_write.specs.Written.{Written};
 ghost use Rattle.listing.specs.Stages.{givenWeight, linesAt, linesFrom, Room};
 use crate::weights::found;
+use compose_state_tuple::ComposeStateTuple;
 use fst::StateId;
-use fst::word;
 use lazy_fst::Listed;
 use lazy_fst::Session;
 use lazy_fst::WeightAnswer;
@@ -20,8 +21,9 @@ use listing_write::put_end;
 use listing_write::put_side;
 use listing_write::put_state;
 use listing_write::put_tr;
-use store_records::ComposeStateTuple;
+use store_records::TR_SIZE;
 use store_records::get_tuple;
+use store_records::stored_tr;
 
 // A line for each of the records that were handed back.
 pub fn put_trs(out: &mut [u8], to: usize, records: &[u32]) -> usize
@@ -29,16 +31,15 @@ pub fn put_trs(out: &mut [u8], to: usize, records: &[u32]) -> usize
     ensures { λ r. ⌜ Written (now (out .entry)) to (bytesOf (trLines (now (records .entry)))) (now (out .exit)) r ⌝ }
     ensures near { λ r. ⌜ r ≤ to + 64 * (length (now (records .entry)) / trSize) ⌝ }
 {
-    let count = records.len() / 5;
+    let count = records.len() / TR_SIZE;
     let mut at = to;
     let mut i: usize = 0;
     while i < count {
-        let k = 5 * i;
-        let input = word(records, k);
-        let output = word(records, k + 1);
-        let weight = word(records, k + 2);
-        let target = word(records, k + 3);
-        at = put_tr(out, at, input, output, weight, target);
+        let tr = stored_tr(records, i);
+        let input = tr.ilabel;
+        let output = tr.olabel;
+        let target = tr.nextstate;
+        at = put_tr(out, at, input.0, output.0, tr.weight, target.0);
         i += 1;
     }
     at

@@ -10,6 +10,9 @@ pub use line::line_words;
 pub use line::new_line;
 pub use line::step_byte;
 
+// "A machine line above 4096 words .. is malformed": more words of a line are not stored.
+pub const MACHINE_WORDS: usize = 4096;
+
 // How far the reading of the input is: the number of the line that is being read, and the three lines.
 pub struct Reader {
     pub at: u32,

@@ -8,7 +8,7 @@ use lib.ListN.{length}
 use lib.Dec.{leb}
 use borrow.Author.Tests.{leb-false, le-leb, ne-eqb}
 use mathlib.Core.Option.{none}
-use Rattle.calls.specs.Listing.{lentOf, listingOn, listing}
+use Rattle.calls.specs.Listing.{settingsSize, machineMost, lentOf, listingOn, listing}
 use Rattle.listing_text.specs.Reading.{lineAt, Scan, reading, notWords, start, ended, steps, kept, wordsOf}
 use Rattle.listing_text.specs.Chunks.{unread, readBytes, within, inRooms, lineWords, listingRooms}
 use Rattle.listing_text.specs.Printing.{bytesOf, printedBytes}
@@ -32,23 +32,23 @@ line-words : (room : ℕ) (line : List ℕ) → lineWords room (within room (ste
 line-words room line = ap kept (within-ended room (steps start line)) ∙ kept-within room (ended (steps start line))
 
 -- a settings line of more than six words is refused like one without words
-listing-rooms : (w m1 m2 : List ℕ) → listingOn (atMost 6 w) (lentOf m1 m2) ≡ listing w m1 m2
+listing-rooms : (w m1 m2 : List ℕ) → listingOn (atMost settingsSize w) (lentOf m1 m2) ≡ listing w m1 m2
 unfolding listing
-listing-rooms w m1 m2 = go (leb (length w) 6) refl
+listing-rooms w m1 m2 = go (leb (length w) settingsSize) refl
   where
-    go : (x : Bool) → leb (length w) 6 ≡ x → listingOn (cond x w []) (lentOf m1 m2) ≡ listing w m1 m2
+    go : (x : Bool) → leb (length w) settingsSize ≡ x → listingOn (cond x w []) (lentOf m1 m2) ≡ listing w m1 m2
     go true e = refl
     go false e =
-        let h : 6 < length w = leb-false (length w) 6 e in
-        rw (ne-eqb (length w) 6 (λ (p : length w ≡ 6). absurd (omega (arith, p)))) refl
+        let h : settingsSize < length w = leb-false (length w) settingsSize e in
+        rw (ne-eqb (length w) settingsSize (λ (p : length w ≡ settingsSize). absurd (omega (arith, p)))) refl
 
 -- what the words that are left when the input has ended print
 pub same-listing : (input : List ℕ) → endedBytes listingRooms (inRooms listingRooms (readBytes unread input)) ≡ printedBytes input
 unfolding printedBytes
 same-listing input =
     let h = three-lines start start start input in
-    let A = ap (λ (s : Scan). lineWords 6 (within 6 s)) (h .0) ∙ line-words 6 (lineAt 0 input) in
-    let B = ap (λ (s : Scan). lineWords 4096 (within 4096 s)) (h .1) ∙ line-words 4096 (lineAt 1 input) in
-    let C = ap (λ (s : Scan). lineWords 4096 (within 4096 s)) (h .2) ∙ line-words 4096 (lineAt 2 input) in
+    let A = ap (λ (s : Scan). lineWords settingsSize (within settingsSize s)) (h .0) ∙ line-words settingsSize (lineAt 0 input) in
+    let B = ap (λ (s : Scan). lineWords machineMost (within machineMost s)) (h .1) ∙ line-words machineMost (lineAt 1 input) in
+    let C = ap (λ (s : Scan). lineWords machineMost (within machineMost s)) (h .2) ∙ line-words machineMost (lineAt 2 input) in
     (λ k. bytesOf (listingOn (A k) (record { m1 = B k; m2 = C k; allowed1 = none; allowed2 = none })))
     ∙ ap bytesOf (listing-rooms (wordsOf (lineAt 0 input)) (wordsOf (lineAt 1 input)) (wordsOf (lineAt 2 input)))

@@ -4,6 +4,7 @@ use mathlib.Core.List.{List, [], _∷_}
 use Prim.Native.Nat.{ℕ, _+_}
 use lib.Dec.{eqb, leb, ltb}
 use lib.ListN.{length}
+use Rattle.calls.specs.Listing.{settingsSize, machineMost}
 use Rattle.listing_text.specs.Reading.{lineFeed, Scan, reading, notWords, start, ended, step, kept}
 
 -- how far the reading of the input is: the number of the line that is being read, and the readings of the three lines
@@ -54,4 +55,4 @@ lineWords room s = kept (within room (ended s))
 
 -- "A machine line above 4096 words .. is malformed, a settings line not of six such words is refused 1": no more words of a line matter
 abbrev pub listingRooms : Rooms
-listingRooms = record { settings = 6; first = 4096; second = 4096 }
+listingRooms = record { settings = settingsSize; first = machineMost; second = machineMost }

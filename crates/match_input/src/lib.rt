@@ -6,14 +6,14 @@ ghost use Rattle.words.specs.Matches.{inputs, outputs};
 ghost use Rattle.words.specs.Machines.{listOf};
 ghost use Rattle.words.specs.Sides.{both, directionAt};
 ghost use Rattle.fst.specs.Meaning.{asOperand};
-ghost use Rattle.compose_fst_op.specs.Chosen.{sideMeans};
+ghost use Rattle.match_type.specs.Chosen.{sideMeans};
 ghost use Rattle.match_input.specs.Direction.{directionMeans};
-use compose_fst_op::Side;
 use fst::Label;
 use fst::MatchType;
 use fst::StateId;
 use fst::first_tr;
 use fst::next_tr;
+use match_type::Side;
 use matchers::has_sigma;
 
 // The side that is matched, or the number of the refusal.

@@ -18,20 +18,20 @@ use Rattle.words.specs.Labels.{good, refused}
 use Rattle.words.specs.Matches.{MatchType}
 use Rattle.words.specs.Steps.{Composition}
 use Rattle.words.specs.Settings.{Lent}
-use Rattle.words.specs.AsPapers.{exact, TooLarge, composedOf, directionOf, WalkedSigma, matchesOf, inputBy, outputBy, weightOf}
+use Rattle.words.specs.AsPapers.{exact, TooLarge, composedOf, directionOf, WalkedSigma, matchesOf, inputBy, outputBy, weightOf as weightBy}
 use Rattle.calls.specs.Store.{Part, stateRoom, trRoom}
 use Rattle.calls.specs.Sequences.{World}
 use Rattle.readings.specs.Correspondence.{OneToOne}
-use Rattle.readings.specs.Worlds.{finalIn, UsedState, Expanded, stateAt, fieldOf, targetOf}
+use Rattle.readings.specs.Worlds.{finalIn, UsedState, Expanded, stateAt, inputOf, outputOf, weightOf, targetOf}
 use Rattle.readings.specs.StorePaths.{machine1, machine2, AcceptingRecords, movesIn, movesOfRecords, recordsOfMoves, pairOfRecords, recordsOfPair, recordsWeight}
 
 -- Record r is the papers' composed transition (e1, e2) from s, with the next filter state g. d is the direction at s: it tells which transition may serve as sigma.
 pub record IsTransition (c : Composition) (w : World) (d : MatchType) (s : Triple) (m : Edges) (g r : ℕ) : Type 0 where
   -- "machine 1's input, machine 2's output (both after any rewriting)"
-  pub input : fieldOf w r 0 ≡ inputBy c (matchesOf d (c .operand1) (c .operand2) m)
-  pub output : fieldOf w r 1 ≡ outputBy c (matchesOf d (c .operand1) (c .operand2) m)
+  pub input : inputOf w r ≡ inputBy c (matchesOf d (c .operand1) (c .operand2) m)
+  pub output : outputOf w r ≡ outputBy c (matchesOf d (c .operand1) (c .operand2) m)
   -- ARS, w[e1] ⊗ w[e2], exact
-  pub weight : exact (c .kind) (fieldOf w r 2) ≡ weightOf c m
+  pub weight : exact (c .kind) (weightOf w r) ≡ weightBy c m
   -- ARS, (n[e1], n[e2], g), which is found
   pub target : stateAt w (targetOf w r) ≡ reached (composedOf c) s m g
   pub found : UsedState w (targetOf w r)
@@ -55,7 +55,7 @@ pub data RefusedFor (c : Composition) (w : World) (n k : ℕ) : Type 0 where
   walked-sigma : k ≡ 11 → (d : MatchType) → directionOf c (stateAt w n) ≡ good d
       → WalkedSigma d (c .operand1) (c .operand2) (stateAt w n .s1) (stateAt w n .s2) → RefusedFor c w n k
   -- "weight too large", of a kept move of the papers
-  too-large : k ≡ 12 → (m : Edges) (g : ℕ) → KeptMove (composedOf c) (stateAt w n) m g → TooLarge (c .kind) (weightOf c m) → RefusedFor c w n k
+  too-large : k ≡ 12 → (m : Edges) (g : ℕ) → KeptMove (composedOf c) (stateAt w n) m g → TooLarge (c .kind) (weightBy c m) → RefusedFor c w n k
   -- "a record .. is lacking": there are not as many unused records, of one sort, as there are kept moves
   no-room : k ≡ 13 → (trRoom (w .memory) < w .session .used .trs + length (movesIn c w n)) ⊎ (stateRoom (w .memory) < w .session .used .states + length (movesIn c w n))
       → RefusedFor c w n k
@@ -72,13 +72,9 @@ pub record PapersPaths (l : Lent) (c : Composition) (w : World) : Type 0 where
       → recordsWeight (c .kind) l w 0 rs
       ≡ movesWeight (semiring (c .kind)) (exact (c .kind)) (composedOf c) (stateAt w 0 .s1) (stateAt w 0 .s2) (movesOfRecords c w 0 rs)
 
--- the word of a list of records, ε left out: field 0 has the inputs, field 1 the outputs
-abbrev pub wordOn : ℕ → World → List ℕ → List ℕ
-wordOn field w rs = word (map (λ r. fieldOf w r field) rs)
-
--- the accepting paths x:y of the store
+-- the accepting paths x:y of the store, ε left out
 abbrev pub ReadsAs : Lent → World → List ℕ → List ℕ → List ℕ → Type 0
-ReadsAs l w x y rs = AcceptingRecords l w rs × (wordOn 0 w rs ≡ x) × (wordOn 1 w rs ≡ y)
+ReadsAs l w x y rs = AcceptingRecords l w rs × (word (map (inputOf w) rs) ≡ x) × (word (map (outputOf w) rs) ≡ y)
 
 -- MPR's equation, of the store. The machines are T1 and T2.
 pub record ByWords (l : Lent) (c : Composition) (pick : Bool → Bool → MoveKind) (w : World) (x y : List ℕ) : Type 0 where

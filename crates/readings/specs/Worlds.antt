@@ -10,7 +10,7 @@ use Rattle.papers.specs.Composition.{Triple}
 use Rattle.words.specs.Labels.{Checked, good, refused}
 use Rattle.words.specs.Steps.{Composition, Step, stepsAt, startAt}
 use Rattle.words.specs.Settings.{Settings, Lent}
-use Rattle.calls.specs.Store.{Part, partAt, tripleAt, expandedAt, trField, targetAt}
+use Rattle.calls.specs.Store.{Part, partAt, tripleAt, expandedAt, inputAt, outputAt, weightAt, targetAt}
 use Rattle.calls.specs.Checks.{storeOf, entered}
 use Rattle.calls.specs.Calls.{Outcome, wordsOf, openOf, expandOf, finalWeightOf, runOf, recordsOf}
 use Rattle.calls.specs.Sequences.{World, Call, opening, expand, finalWeight, records, run, callOf}
@@ -77,18 +77,15 @@ recordsIn w n = interval (partIn w n .first) (partIn w n .count)
 abbrev pub wordsIn : World → ℕ → List ℕ
 wordsIn w n = wordsOf (w .memory .trs) (partIn w n)
 
--- word k of transition record r, and the four that are spoken of: "machine 1's input, machine 2's output .. the product of their weights and the state reached"
-abbrev pub fieldOf : World → ℕ → ℕ → ℕ
-fieldOf w r k = trField (w .memory .trs) (r - 1) k
-
+-- of transition record r: "machine 1's input, machine 2's output .. the product of their weights and the state reached"; records count from 1
 abbrev pub inputOf : World → ℕ → ℕ
-inputOf w r = fieldOf w r 0
+inputOf w r = inputAt (w .memory .trs) (r - 1)
 
 abbrev pub outputOf : World → ℕ → ℕ
-outputOf w r = fieldOf w r 1
+outputOf w r = outputAt (w .memory .trs) (r - 1)
 
 abbrev pub weightOf : World → ℕ → ℕ
-weightOf w r = fieldOf w r 2
+weightOf w r = weightAt (w .memory .trs) (r - 1)
 
 abbrev pub targetOf : World → ℕ → ℕ
 targetOf w r = targetAt (w .memory .trs) (r - 1)

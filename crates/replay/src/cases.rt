@@ -9,12 +9,17 @@ use lazy_fst::Listed;
 use libc::STDOUT_FILENO;
 use listing::listing;
 use listing_read::LineReader;
+use listing_read::MACHINE_WORDS;
 use listing_read::new_line;
 use listing_read::step_byte;
 use store_records::store;
 
-// The words of a line.
-const ROOM: usize = 4096;
+// The lines of a case, and the words that there is room for in each.
+pub const LINES: usize = 6;
+
+const ROOM: usize = MACHINE_WORDS;
+
+pub const WORDS: usize = LINES * ROOM;
 
 // The end of a line that is not of words.
 const NO_WORDS: u32 = 4294967295;

@@ -4,6 +4,8 @@
 mod cases;
 mod order;
 
+use cases::LINES;
+use cases::WORDS;
 use cases::finish;
 use cases::new_place;
 use cases::read_bytes;
@@ -26,8 +28,8 @@ fn read_cases(words: &mut [u32], ends: &mut [u32], chunk: &mut [u8]) {
 }
 
 fn main() {
-    let mut words = [0u32; 24576];
-    let mut ends = [0u32; 6];
+    let mut words = [0u32; WORDS];
+    let mut ends = [0u32; LINES];
     let mut chunk = io::large_buffer();
     read_cases(&mut words, &mut ends, &mut chunk);
 }

@@ -1,14 +1,18 @@
 // Expansions in any order: the side; for each number `e n` and its transitions, or the refusal; at the end the found states and the counts.
 ghost use Prim.Native.Nat.{_/_, _<_, _≤_};
 ghost use lib.ListN.{length};
+ghost use Rattle.calls.specs.Store.{trSize};
+use compose_state_tuple::ComposeStateTuple;
 use fst::StateId;
-use fst::word;
 use lazy_fst::Answer;
 use lazy_fst::Listed;
 use lazy_fst::PartAnswer;
 use lazy_fst::Session;
 use lazy_fst::WeightAnswer;
 use libc::STDOUT_FILENO;
+use listing::HEADS;
+use listing::STATE_WORDS;
+use listing::TR_WORDS;
 use listing::found;
 use listing::no_session;
 use listing_write::put_end;
@@ -16,10 +20,12 @@ use listing_write::put_refused;
 use listing_write::put_side;
 use listing_write::put_state;
 use listing_write::put_tr;
+use session_checks::SETTINGS_WORDS;
 use session_checks::Settings;
 use session_checks::read_settings;
-use store_records::ComposeStateTuple;
+use store_records::TR_SIZE;
 use store_records::get_tuple;
+use store_records::stored_tr;
 
 // The first n bytes of a line.
 fn show(line: &[u8], n: usize) {
@@ -36,21 +42,20 @@ fn print_refused(line: &mut [u8], k: u32)
 }
 
 fn print_tr(line: &mut [u8], records: &[u32], i: usize)
-    requires { ⌜ (64 ≤ length (now line)) × (i < length (now records) / 5) ⌝ }
+    requires { ⌜ (64 ≤ length (now line)) × (i < length (now records) / trSize) ⌝ }
 {
-    let k = 5 * i;
-    let input = word(records, k);
-    let output = word(records, k + 1);
-    let weight = word(records, k + 2);
-    let target = word(records, k + 3);
-    let n = put_tr(line, 0, input, output, weight, target);
+    let tr = stored_tr(records, i);
+    let input = tr.ilabel;
+    let output = tr.olabel;
+    let target = tr.nextstate;
+    let n = put_tr(line, 0, input.0, output.0, tr.weight, target.0);
     show(line, n);
 }
 
 fn print_records(line: &mut [u8], records: &[u32])
     requires { ⌜ 64 ≤ length (now line) ⌝ }
 {
-    let count = records.len() / 5;
+    let count = records.len() / TR_SIZE;
     let mut i: usize = 0;
     while i < count {
         print_tr(line, records, i);
@@ -311,13 +316,13 @@ pub fn print_order(
     listed: Listed,
 ) {
     let mut line = [0u8; 64];
-    if words.len() != 6 {
+    if words.len() != SETTINGS_WORDS {
         print_refused(&mut line, 1);
         return;
     }
-    let mut heads = [0u32; 64];
-    let mut states = [0u32; 5120];
-    let mut trs = [0u32; 5120];
+    let mut heads = [0u32; HEADS];
+    let mut states = [0u32; STATE_WORDS];
+    let mut trs = [0u32; TR_WORDS];
     print_in(
         order,
         read_settings(words),

@@ -10,7 +10,7 @@ use Rattle.calls.specs.Store.{Memory, Part, trSize, roomOf, firstAt}
 use Rattle.calls.specs.Checks.{Session}
 use Rattle.calls.specs.Calls.{Outcome, openOf, expandOf, finalWeightOf, runOf, recordsOf}
 use Rattle.calls.specs.Sequences.{Said, refusal, accepted, part, weight, saidOf}
-use Rattle.calls.specs.Listing.{settingsOf}
+use Rattle.calls.specs.Listing.{settingsSize, settingsOf}
 use Rattle.lazy_fst.specs.Meaning.{lentWith}
 use Rattle.lazy_fst.specs.declared.Listed.{Listed}
 
@@ -28,7 +28,7 @@ sessionAt w = record { settings = settingsOf w; side = getD w 6 0; used = record
 
 -- the lengths of settings, session and answer
 abbrev pub six : List ℕ → Bool
-six w = eqb (length w) 6
+six w = eqb (length w) settingsSize
 
 abbrev pub nine : List ℕ → Bool
 nine w = eqb (length w) 9

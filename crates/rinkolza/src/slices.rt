@@ -11,8 +11,6 @@ use lazy_fst::Session;
 use session_checks::read_settings;
 use store_records::Used;
 
-pub const SETTINGS_WORDS: usize = 6;
-
 pub const SESSION_WORDS: usize = 9;
 
 pub const ANSWER_WORDS: usize = 2;

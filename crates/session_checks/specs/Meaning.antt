@@ -8,9 +8,9 @@ use Rattle.words.specs.Sides.{Side, only, both}
 use Rattle.words.specs.Steps.{Composition}
 use Rattle.words.specs.Settings.{Settings as Six, Lent, compositionOf}
 use Rattle.calls.specs.Checks.{Session}
-use Rattle.compose_fst_op.specs.Chosen.{sideMeans}
-use Rattle.compose_fst_op.specs.declared.Chosen.{Chosen}
-use Rattle.compose_fst_op.specs.declared.Chosen.the-variants.{By, Refused}
+use Rattle.match_type.specs.Chosen.{sideMeans}
+use Rattle.match_type.specs.declared.Chosen.{Chosen}
+use Rattle.match_type.specs.declared.Chosen.the-variants.{By, Refused}
 use Rattle.store_records.specs.declared.Used.{Used}
 use Rattle.store_records.specs.Meaning.{usedMeans}
 use Rattle.session_checks.specs.declared.Settings.{Settings}

@@ -6,17 +6,17 @@ ghost use Prim.Native.Nat.{ℕ};
 ghost use Rattle.words.specs.Settings.{Settings as Six, settingsOk};
 ghost use Rattle.calls.specs.Listing.{settingsOf};
 ghost use Rattle.calls.specs.Checks.{sideNumber, sideFor, sessionOk, entered};
-ghost use Rattle.compose_fst_op.specs.Chosen.{sideMeans, chosenMeans};
+ghost use Rattle.match_type.specs.Chosen.{sideMeans, chosenMeans};
 ghost use Rattle.store_records.specs.Meaning.{memoryOf};
 ghost use Rattle.session_checks.specs.Meaning.{settingsMeans, lentOf, sessionOf, enteredMeans, sideNumbered};
-use compose_fst_op::Chosen;
-use compose_fst_op::Side;
-use compose_fst_op::match_type;
 use fst::Label;
 use fst::MatchType;
 use fst::num_states;
 use fst::word;
 use fst_properties::well_formed;
+use match_type::Chosen;
+use match_type::Side;
+use match_type::match_type;
 use store_form::fits;
 use store_form::form_ok;
 use store_records::Used;
@@ -32,6 +32,9 @@ pub struct Settings {
     pub sigma2: Label,
     pub mode2: u32,
 }
+
+// The words of the settings.
+pub const SETTINGS_WORDS: usize = 6;
 
 // The six settings from words, in their order.
 pub fn read_settings(words: &[u32]) -> Settings

@@ -4,15 +4,16 @@ ghost use mathlib.Core.List.{List, map};
 ghost use Prim.Native.Nat.{ℕ, _+_, _<_};
 ghost use Rattle.lists.specs.Lists.{first, linked};
 ghost use Rattle.calls.specs.Store.{roomOf, stateSize, tripleAt, nextAt, slot as slotOf, sameTriple, find, add};
-ghost use Rattle.store_records.specs.Meaning.{tupleMeans, Packs, stored};
+ghost use Rattle.compose_state_tuple.specs.Meaning.{tupleMeans};
+ghost use Rattle.store_records.specs.Meaning.{Packs, stored};
 ghost use Rattle.state_table.specs.Meaning.{foundMeans};
+use compose_state_tuple::ComposeStateTuple;
+use compose_state_tuple::same_tuple;
 use fst::StateId;
 use fst::word;
-use store_records::ComposeStateTuple;
 use store_records::get_tuple;
 use store_records::next_of;
 use store_records::push_state;
-use store_records::same_tuple;
 use store_records::store;
 
 // A state of the table, or none with the triple.

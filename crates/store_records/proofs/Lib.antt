@@ -1,3 +1,1 @@
-pub mod PartLaws
 pub mod RestLaws
-pub mod PartRest

@@ -2,23 +2,13 @@
 use mathlib.Core.List.{List}
 use Prim.Native.Nat.{ℕ, _<_}
 use Rattle.words.specs.Steps.{Triple, Step}
-use Rattle.calls.specs.Store.{Memory, Used as Counts, Store, Part as Run}
+use Rattle.calls.specs.Store.{Memory, Used as Counts, Store}
 use Rattle.fst.specs.declared.tr.Tr.{Tr}
 use Rattle.store_records.specs.declared.Used.{Used}
-use Rattle.store_records.specs.declared.compose_state_tuple.ComposeStateTuple.{ComposeStateTuple}
-use Rattle.store_records.specs.declared.tr_records.Part.{Part}
-
--- (s1, s2, f)
-abbrev pub tupleMeans : ComposeStateTuple → Triple
-tupleMeans t = record { s1 = t .s1 .0; s2 = t .s2 .0; f = t .fs }
 
 -- The pair goes into one word, "s1 × 65536 + s2". The states of a machine all do: there are at most 65535.
 abbrev pub Packs : Triple → Type 0
 Packs t = (t .s1 < 65536) × (t .s2 < 65536)
-
--- the first record and the number of records of a state's list
-abbrev pub partMeans : Part → Run
-partMeans p = record { first = p .first; count = p .count }
 
 -- A composed transition that leads to a triple. Its record holds the number of that state, and not the triple.
 abbrev pub stepMeans : Tr → Triple → Step

@@ -1,12 +1,11 @@
 // Records in lent memory: their room, the reading of their words on every memory, and the writing of one record.
-mod compose_state_tuple;
 mod lent;
 mod state_records;
 mod tr_records;
 
-pub use compose_state_tuple::ComposeStateTuple;
-pub use compose_state_tuple::same_tuple;
+pub use lent::least;
 pub use lent::store;
+pub use state_records::STATE_SIZE;
 pub use state_records::expanded_word;
 pub use state_records::first_of;
 pub use state_records::get_tuple;
@@ -15,12 +14,11 @@ pub use state_records::mark_expanded;
 pub use state_records::next_of;
 pub use state_records::push_state;
 pub use state_records::state_room;
-pub use tr_records::Part;
-pub use tr_records::part_of;
+pub use tr_records::TR_SIZE;
 pub use tr_records::push_tr;
+pub use tr_records::stored_tr;
 pub use tr_records::target_of;
 pub use tr_records::tr_next;
-pub use tr_records::tr_part;
 pub use tr_records::tr_room;
 
 // How many records of each sort are in use.

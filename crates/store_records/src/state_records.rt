@@ -6,15 +6,27 @@ ghost use lib.Dec.{eqb};
 ghost use lib.ListN.{length};
 ghost use Rattle.lists.specs.Lists.{put};
 ghost use Rattle.calls.specs.Store.{roomOf, stateSize, stateField, tripleAt, expandedAt, firstAt, nextAt, stateRecord, mark};
-ghost use Rattle.store_records.specs.Meaning.{tupleMeans, Packs, stored};
-use crate::ComposeStateTuple;
+ghost use Rattle.compose_state_tuple.specs.Meaning.{tupleMeans};
+ghost use Rattle.store_records.specs.Meaning.{Packs, stored};
 use crate::lent::LIMIT;
 use crate::lent::least;
 use crate::lent::store;
+use compose_state_tuple::ComposeStateTuple;
 use fst::StateId;
 use fst::word;
 
-const STATE_SIZE: usize = 5;
+// The words of a state record, and the place of each.
+pub const STATE_SIZE: usize = 5;
+
+const STATE_PAIR: usize = 0;
+
+const STATE_F: usize = 1;
+
+const STATE_EXPANDED: usize = 2;
+
+const STATE_FIRST: usize = 3;
+
+const STATE_NEXT: usize = 4;
 
 // How many state records there is room for.
 pub fn state_room(states: &[u32]) -> u32
@@ -24,18 +36,19 @@ pub fn state_room(states: &[u32]) -> u32
 }
 
 // Word k of the record of state n.
-fn state_word(states: &[u32], n: StateId, k: u32) -> u32
+fn state_word(states: &[u32], n: StateId, k: usize) -> u32
+    requires { ⌜ k < stateSize ⌝ }
     ensures { λ r. ⌜ r ≡ stateField (now (states .entry)) (n .0) k ⌝ }
 {
-    word(states, STATE_SIZE * (n.0 as usize) + (k as usize))
+    word(states, STATE_SIZE * (n.0 as usize) + k)
 }
 
 pub fn get_tuple(states: &[u32], n: StateId) -> ComposeStateTuple
     ensures { λ r. ⌜ tupleMeans r ≡ tripleAt (now (states .entry)) (n .0) ⌝ }
 {
-    let pair = state_word(states, n, 0);
+    let pair = state_word(states, n, STATE_PAIR);
     ComposeStateTuple {
-        fs: state_word(states, n, 1),
+        fs: state_word(states, n, STATE_F),
         s1: StateId(pair / 65536),
         s2: StateId(pair % 65536),
     }
@@ -44,7 +57,7 @@ pub fn get_tuple(states: &[u32], n: StateId) -> ComposeStateTuple
 pub fn expanded_word(states: &[u32], n: StateId) -> u32
     ensures { λ r. ⌜ r ≡ expandedAt (now (states .entry)) (n .0) ⌝ }
 {
-    state_word(states, n, 2)
+    state_word(states, n, STATE_EXPANDED)
 }
 
 pub fn is_expanded(states: &[u32], n: StateId) -> bool
@@ -57,14 +70,14 @@ pub fn is_expanded(states: &[u32], n: StateId) -> bool
 pub fn first_of(states: &[u32], n: StateId) -> u32
     ensures { λ r. ⌜ r ≡ firstAt (now (states .entry)) (n .0) ⌝ }
 {
-    state_word(states, n, 3)
+    state_word(states, n, STATE_FIRST)
 }
 
 // The record after it in its chain; 0: none.
 pub fn next_of(states: &[u32], n: StateId) -> u32
     ensures { λ r. ⌜ r ≡ nextAt (now (states .entry)) (n .0) ⌝ }
 {
-    state_word(states, n, 4)
+    state_word(states, n, STATE_NEXT)
 }
 
 // The record of a state just found, at the front of a lent tail.
@@ -72,11 +85,11 @@ fn write_state(tail: &mut [u32], tuple: ComposeStateTuple, next: u32)
     requires { ⌜ (stateSize ≤ length (now tail)) × Packs (tupleMeans tuple) ⌝ }
     ensures { λ _. ⌜ now (tail .exit) ≡ put (now (tail .entry)) 0 (stateRecord (tupleMeans tuple) next) ⌝ }
 {
-    tail[0] = tuple.s1.0 * 65536 + tuple.s2.0;
-    tail[1] = tuple.fs;
-    tail[2] = 0;
-    tail[3] = 0;
-    tail[4] = next;
+    tail[STATE_PAIR] = tuple.s1.0 * 65536 + tuple.s2.0;
+    tail[STATE_F] = tuple.fs;
+    tail[STATE_EXPANDED] = 0;
+    tail[STATE_FIRST] = 0;
+    tail[STATE_NEXT] = next;
 }
 
 // The same in the first unused record.
@@ -92,7 +105,7 @@ pub fn push_state(states: &mut [u32], used: u32, tuple: ComposeStateTuple, next:
 pub fn mark_expanded(states: &mut [u32], n: StateId, first: u32)
     ensures { λ _. ⌜ ((heads trs : List ℕ) (u k : ℕ) → stored heads (now (states .exit)) trs u k ≡ mark (stored heads (now (states .entry)) trs u k) (n .0) first) ⌝ }
 {
-    let at = STATE_SIZE * (n.0 as usize) + 2;
-    store(states, at, 1);
-    store(states, at + 1, first);
+    let at = STATE_SIZE * (n.0 as usize);
+    store(states, at + STATE_EXPANDED, 1);
+    store(states, at + STATE_FIRST, first);
 }

@@ -1,5 +1,5 @@
 -- 01, "Choosing the side", second paragraph: the kept moves of a composed state in their order; and its final weight.
-use mathlib.Core.Bool.{_&&_, cond}
+use mathlib.Core.Bool.{Bool, _&&_, cond}
 use mathlib.Core.List.{List, [], _∷_, map, flatMap}
 use mathlib.Core.Option.{Option, none, some}
 use Prim.Native.Nat.{ℕ}
@@ -13,6 +13,9 @@ use Rattle.words.specs.Sides.{Side, directionAt}
 use Rattle.words.specs.Filters.{factsAt}
 -- a composed state (compose_state_tuple.rs)
 pub use Rattle.papers.specs.Composition.{Triple}
+
+unfoldable pub sameTriple : Triple → Triple → Bool
+sameTriple a b = eqb (a .s1) (b .s1) && (eqb (a .s2) (b .s2) && eqb (a .f) (b .f))
 
 -- what stays the same through a composition
 pub record Composition : Type 0 where

@@ -3,9 +3,9 @@ use denote.Ref.{now}
 use mathlib.Core.Path.{sym, _∙_}
 use Rattle.words.specs.Filters.{noneAt, allAt}
 use Rattle.match_input.proofs.DirectionLaws.{direction-of-call}
-use Rattle.compose_fst_op.specs.Chosen.{sideMeans}
-use Rattle.store_records.specs.Meaning.{tupleMeans}
-use Rattle.compose_moves.specs.Composing.{settingsOf, lentOf}
+use Rattle.match_type.specs.Chosen.{sideMeans}
+use Rattle.compose_state_tuple.specs.Meaning.{tupleMeans}
+use Rattle.compose_fst_op.specs.Composing.{settingsOf, lentOf}
 use Rattle.compose_moves.specs.Cursors.{stepsLeft}
 use Rattle.compose_moves.proofs.Starts.{no-steps, all-steps}
 use borrow.Author.Needs.{needs}

@@ -9,7 +9,7 @@ use Rattle.calls.specs.Store.{roomOf, stateRoom}
 use Rattle.calls.specs.Checks.{entered}
 use Rattle.calls.specs.Calls.{runFrom}
 use Rattle.calls.proofs.RecordLaws.{room-words}
-use Rattle.compose_moves.specs.Composing.{lentOf, composing}
+use Rattle.compose_fst_op.specs.Composing.{lentOf, composing}
 use Rattle.store_records.specs.Meaning.{memoryOf}
 use Rattle.compose_store.specs.Meaning.{sessionOf}
 use Rattle.compose_run.proofs.RunTurns.{run-ends, run-over, new-kept, new-turn, refused-turn}

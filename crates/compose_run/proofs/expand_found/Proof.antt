@@ -1,8 +1,9 @@
 -- A state expanded before is answered as stored; else it is expanded.
 use mathlib.Core.Path.{sym, _∙_}
 use denote.Ref.{now}
-use Rattle.store_records.specs.Meaning.{partMeans, memoryOf}
-use Rattle.compose_moves.specs.Composing.{lentOf}
+use Rattle.store_records.specs.Meaning.{memoryOf}
+use Rattle.tr_lists.specs.Meaning.{partMeans}
+use Rattle.compose_fst_op.specs.Composing.{lentOf}
 use Rattle.compose_store.specs.Meaning.{sessionOf}
 use Rattle.compose_run.proofs.RunTurns.{expand-listed, expand-new}
 use borrow.Author.Needs.{needs}

@@ -3,8 +3,9 @@ use mathlib.Core.Path.{sym, _∙_, ap}
 use mathlib.Core.Bool.{true}
 use Rattle.calls.specs.Calls.{storeSteps}
 use Rattle.calls.proofs.StepsStay.{steps-stay}
-use Rattle.store_records.specs.Meaning.{partMeans, stored, memoryOf}
-use Rattle.compose_moves.specs.Composing.{settingsOf, lentOf}
+use Rattle.store_records.specs.Meaning.{stored, memoryOf}
+use Rattle.tr_lists.specs.Meaning.{partMeans}
+use Rattle.compose_fst_op.specs.Composing.{settingsOf, lentOf}
 use Rattle.compose_moves.specs.Cursors.{stepsLeft}
 use Rattle.compose_weigh.specs.Weigh.{weighOf}
 use Rattle.compose_store.specs.Meaning.{sessionOf}

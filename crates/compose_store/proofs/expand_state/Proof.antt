@@ -1,7 +1,7 @@
 -- The cursor's steps are those of the state, and the checks 1 to 8 make their weighing exact.
 use mathlib.Core.Path.{sym, _∙_, ap}
 use Rattle.words.specs.Steps.{stepsAt}
-use Rattle.compose_moves.specs.Composing.{settingsOf, lentOf, composing}
+use Rattle.compose_fst_op.specs.Composing.{settingsOf, lentOf, composing}
 use Rattle.compose_moves.specs.Cursors.{stepsLeft}
 use Rattle.store_records.specs.Meaning.{memoryOf}
 use Rattle.compose_store.specs.Meaning.{sessionOf}

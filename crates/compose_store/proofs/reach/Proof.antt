@@ -5,7 +5,8 @@ use native.Mathlib.Omega.{arith}
 use Rattle.words.specs.Labels.{good}
 use Rattle.calls.specs.Store.{Store, stateRoom}
 use Rattle.calls.proofs.RecordLaws.{room-words}
-use Rattle.store_records.specs.Meaning.{tupleMeans, stored}
+use Rattle.compose_state_tuple.specs.Meaning.{tupleMeans}
+use Rattle.store_records.specs.Meaning.{stored}
 use Rattle.compose_store.proofs.StoreLaws.{new-room, reach-found, reach-new}
 use borrow.Author.Needs.{needs}
 use Rattle.compose_store.proofs.reach.Statement.{statement}

@@ -5,7 +5,8 @@ use Rattle.words.specs.Labels.{good}
 use Rattle.calls.specs.Store.{trRoom, append}
 use Rattle.calls.specs.Calls.{nextFor}
 use Rattle.calls.proofs.RecordLaws.{room-words}
-use Rattle.store_records.specs.Meaning.{tupleMeans, stored}
+use Rattle.compose_state_tuple.specs.Meaning.{tupleMeans}
+use Rattle.store_records.specs.Meaning.{stored}
 use Rattle.compose_moves.specs.Moves.{composeTrMeans}
 use Rattle.compose_store.specs.Meaning.{reachedMeans}
 use Rattle.compose_store.proofs.StoreLaws.{reach-any, step-room, step-is}

@@ -6,7 +6,7 @@ use lib.ListN.{length}
 use Rattle.words.specs.Labels.{good}
 use Rattle.calls.specs.Calls.{nextFor, storeStep, storeSteps}
 use Rattle.store_records.specs.Meaning.{stored}
-use Rattle.compose_moves.specs.Composing.{settingsOf, lentOf}
+use Rattle.compose_fst_op.specs.Composing.{settingsOf, lentOf}
 use Rattle.compose_moves.specs.Cursors.{stepsLeft, nextMeans}
 use Rattle.compose_moves.specs.Moves.{composeTrMeans}
 use Rattle.compose_store.specs.Meaning.{Accepted, Narrow}

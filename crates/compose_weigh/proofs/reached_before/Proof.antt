@@ -1,8 +1,8 @@
 -- The steps from here on, within what is left of the count, reach the triple just where all from the start do.
 use mathlib.Core.Path.{_≡_, sym, _∙_}
 use Prim.Native.Nat.{_≤_}
-use Rattle.store_records.specs.Meaning.{tupleMeans}
-use Rattle.compose_moves.specs.Composing.{settingsOf, lentOf}
+use Rattle.compose_state_tuple.specs.Meaning.{tupleMeans}
+use Rattle.compose_fst_op.specs.Composing.{settingsOf, lentOf}
 use Rattle.compose_moves.specs.Cursors.{stepsLeft}
 use Rattle.compose_moves.specs.Moves.{composeTrMeans}
 use Rattle.compose_weigh.specs.Weigh.{reachedWithin}

@@ -3,7 +3,7 @@ use mathlib.Core.Path.{sym}
 use Rattle.words.specs.Labels.{good, refused}
 use Rattle.words.proofs.CheckedLaws.{good≢refused, refused-is}
 use Rattle.store_records.specs.Meaning.{stored}
-use Rattle.compose_moves.specs.Composing.{settingsOf, lentOf}
+use Rattle.compose_fst_op.specs.Composing.{settingsOf, lentOf}
 use Rattle.compose_moves.specs.Cursors.{stepsLeft}
 use Rattle.compose_weigh.proofs.QuickLaws.{quick}
 use borrow.Author.Needs.{needs}

@@ -4,7 +4,7 @@ use Prim.Native.Nat.{_+_, _-_, _^_, _<_}
 use Rattle.words.specs.Labels.{good, refused}
 use Rattle.calls.specs.Store.{stateRoom, trRoom}
 use Rattle.store_records.specs.Meaning.{stored}
-use Rattle.compose_moves.specs.Composing.{settingsOf, lentOf}
+use Rattle.compose_fst_op.specs.Composing.{settingsOf, lentOf}
 use Rattle.compose_moves.specs.Cursors.{stepsLeft}
 use Rattle.compose_moves.specs.Moves.{composeTrMeans}
 use Rattle.compose_weigh.specs.Weigh.{weighFrom, weighOf}

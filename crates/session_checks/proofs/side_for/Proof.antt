@@ -1,7 +1,7 @@
 -- The refusals in the order of `sideFor`, then the rule.
 use Rattle.fst.proofs.Tests.{fails, holds}
 use Rattle.calls.specs.Checks.{sideFor}
-use Rattle.compose_fst_op.proofs.SideLaws.{side-of-call}
+use Rattle.match_type.proofs.SideLaws.{side-of-call}
 use Rattle.session_checks.specs.Meaning.{settingsMeans, lentOf}
 use denote.Ref.{now}
 use borrow.Author.Needs.{needs}

@@ -5,7 +5,7 @@ use native.Mathlib.Omega.{arith}
 use denote.Ref.{now}
 use Rattle.lists.specs.Lists.{first, linked}
 use Rattle.calls.specs.Store.{tripleAt, nextAt, sameTriple}
-use Rattle.store_records.specs.Meaning.{tupleMeans}
+use Rattle.compose_state_tuple.specs.Meaning.{tupleMeans}
 use Rattle.lists.proofs.Links.{linked-zero, linked-none}
 use Rattle.state_table.proofs.ChainTurns.{first-turn}
 use borrow.Author.Needs.{needs}

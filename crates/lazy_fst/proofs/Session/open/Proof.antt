@@ -5,7 +5,7 @@ use denote.Ref.{now}
 use Rattle.calls.specs.Calls.{openOf}
 use Rattle.calls.proofs.ExpandKept.{sided}
 use Rattle.matchers.specs.Meaning.{allowedOf}
-use Rattle.compose_fst_op.specs.Chosen.{chosenMeans}
+use Rattle.match_type.specs.Chosen.{chosenMeans}
 use Rattle.session_checks.specs.Meaning.{settingsMeans, lentOf}
 use borrow.Author.Needs.{needs}
 use Rattle.lazy_fst.proofs.Session.open.Statement.{statement}

@@ -2,7 +2,8 @@
 use mathlib.Core.Path.{ap}
 use Rattle.words.specs.Labels.{good, refused}
 use Rattle.calls.specs.Checks.{Session}
-use Rattle.store_records.specs.Meaning.{partMeans, usedMeans}
+use Rattle.store_records.specs.Meaning.{usedMeans}
+use Rattle.tr_lists.specs.Meaning.{partMeans}
 use borrow.Author.Needs.{needs}
 use Rattle.lazy_fst.proofs.answers.part_answer.Statement.{statement}
 use Rattle.lazy_fst.proofs.answers.part_answer.Tie as tie

@@ -11,7 +11,7 @@ use Rattle.words.specs.Sides.{nonEmpty}
 use Rattle.words.specs.Steps.{startAt}
 use Rattle.calls.specs.Store.{roomOf, stateSize, stateRoom}
 use Rattle.calls.specs.Calls.{begun, cleared}
-use Rattle.compose_run.specs.Meaning.{startMeans}
+use Rattle.compose_fst_op.specs.Composing.{startMeans}
 use Rattle.lazy_fst.proofs.OpeningLaws.{start-packs}
 use borrow.Author.Needs.{needs}
 use Rattle.lazy_fst.proofs.opening.begin.Statement.{statement}

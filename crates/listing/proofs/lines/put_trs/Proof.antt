@@ -5,6 +5,7 @@ use Prim.Native.Nat.{_+_, _-_, _*_, _/_, _≤_}
 use native.Mathlib.Omega.{arith}
 use lib.ListN.{length}
 use borrow.Author.Needs.{needs}
+use Rattle.fst.specs.Meaning.{trMeans}
 use Rattle.listing_text.specs.Printing.{bytesOf}
 use Rattle.listing_write.proofs.WrittenLaws.{same-text}
 use Rattle.listing.proofs.LineLaws.{Rest, rest-on, rest-done, trLineAt, trLinesFrom, trs-turn, trs-done, trs-all, tr-line-bytes}
@@ -38,7 +39,7 @@ loop-again c =
       s ∙ p .inv .1,
       omega (arith, t, w .1, p .inv .2),
       rest-on (trLinesFrom (a .records .now) 0 k) (trLinesFrom (a .records .now) (p .i) k) (trLineAt (a .records .now) (p .i) ∷ []) (trLinesFrom (a .records .now) (p .i + 1) k) (p .inv .3) (trs-turn (a .records .now) (p .i) k t)
-          (same-text (tr-line-bytes (a .records .now) (p .i) (c .before .before .before .before .before .before .before .word .result) (c .before .before .before .before .before .before .word2 .result) (c .before .before .before .before .before .word3 .result) (c .before .before .before .before .word4 .result) (c .before .before .before .before .before .before .before .word .ensures) (c .before .before .before .before .before .before .word2 .ensures) (c .before .before .before .before .before .word3 .ensures) (c .before .before .before .before .word4 .ensures)) (w .0)),
+          (same-text (tr-line-bytes (a .records .now) (p .i) (trMeans (c .before .before .before .before .before .before .before .stored-tr .result)) (c .before .before .before .before .before .before .before .stored-tr .ensures)) (w .0)),
     )
 
 returns : tie.Need-returns Inv-loop μ-loop
@@ -57,13 +58,6 @@ put-trs-spec =
     Inv-loop
     μ-loop
     loop-holds
-    (λ c. search needs)
-    (λ c κs. search needs)
-    (λ c. search needs)
-    (λ c κs. search needs)
-    (λ c. search needs)
-    (λ c κs. search needs)
-    (λ c. search needs)
     (λ c κs. search needs)
     put-tr-requires
     (λ c. search needs)

@@ -1,5 +1,7 @@
 -- Two words, one after the other.
-use native.Mathlib.Numerals.{add-one}
+use mathlib.Core.Path.{_≡_, refl}
+use Prim.Native.Nat.{suc, _+_, _*_}
+use native.Mathlib.Omega.{arith}
 use Rattle.lists.specs.Lists.{put}
 use Rattle.calls.specs.Store.{mark}
 use borrow.Author.Needs.{needs}
@@ -8,7 +10,10 @@ use Rattle.store_records.proofs.state_records.mark_expanded.Tie as tie
 
 returns : tie.Need-returns
 unfolding mark put
-returns c = λ heads trs u k. rw (c .before .before .store2 .ensures, c .before .before .before .before .before .before .store .ensures, add-one)
+returns c =
+    let n = c .before .before .before .before .before .before .before .before .before .before .args .n .0 in
+    let e : 5 * n + 3 ≡ suc (5 * n + 2) = omega arith in
+    λ heads trs u k. rw (c .before .before .store2 .ensures, c .before .before .before .before .before .before .store .ensures, e)
 
 pub mark-expanded-spec : {M : Type 1} → statement M
 mark-expanded-spec =

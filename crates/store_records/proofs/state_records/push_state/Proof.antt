@@ -4,7 +4,7 @@ use native.Mathlib.Omega.{arith}
 use Rattle.lists.proofs.Put.{put-back}
 use Rattle.calls.proofs.RecordLaws.{room-words}
 use Rattle.calls.specs.Store.{stateRecord}
-use Rattle.store_records.specs.Meaning.{tupleMeans}
+use Rattle.compose_state_tuple.specs.Meaning.{tupleMeans}
 use borrow.Author.Needs.{needs}
 use Rattle.store_records.proofs.state_records.push_state.Statement.{statement}
 use Rattle.store_records.proofs.state_records.push_state.Tie as tie

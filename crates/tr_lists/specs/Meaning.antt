@@ -1,0 +1,7 @@
+-- What a stored list of the code stands for.
+use Rattle.calls.specs.Store.{Part as Run}
+use Rattle.tr_lists.specs.declared.Part.{Part}
+
+-- the first record and the number of records of a state's list
+abbrev pub partMeans : Part → Run
+partMeans p = record { first = p .first; count = p .count }
