@@ -1,7 +1,7 @@
 -- A closed instance, so that the claim is seen to speak of something: 01's listing in memory full of words without meaning, with a refused opening, an expansion, a run, handing back
 -- and a final weight. In a memory of one state record less the run is refused by 13, and there the answers part.
 use mathlib.Core.Path.{_≡_, refl, sym, _∙_, subst}
-use mathlib.Core.List.{List, [], _∷_}
+use mathlib.Core.List.{List, [], _∷_, List·Memᴰ as In}
 use mathlib.Core.Logic.{inl}
 use mathlib.Core.Option.{some}
 use Prim.Native.Nat.{ℕ}
@@ -29,7 +29,6 @@ use Rattle.readings.specs.Listed.{pickOf}
 use Rattle.readings.specs.Demands.{Demand3}
 use Rattle.readings.proofs.Openings.{opens}
 use Rattle.readings.proofs.StoreWalks.{finishedTest, test-finished}
-use Rattle.readings.proofs.LargerMemory.{larger}
 use Rattle.readings.proofs.Demands.{demand-3}
 
 abbrev pub both : Lent
@@ -112,11 +111,17 @@ rule = refl
 abbrev pub c : Composition
 c = compositionOf set both (only outputs)
 
--- the claim holds of this list
+-- the claim holds of this list, in both memories
+claims : (m : Memory) → openOf set both got m .answer ≡ good tt → OpeningsRefused both (from m) calls → Demand3 set both m c (from m) calls
+claims m e refusing =
+    let r = demand-3 set both got m e in
+    subst (λ x. Demand3 set both m (compositionOf set both x) (from m) calls) (good-is (sym (r .1) ∙ rule)) (r .2 calls refusing)
+
 pub claimed : Demand3 set both large c (from large) calls
-claimed =
-    let r = demand-3 set both got large opens-large in
-    subst (λ x. Demand3 set both large (compositionOf set both x) (from large) calls) (good-is (sym (r .1) ∙ rule)) (r .2 calls refused-large)
+claimed = claims large opens-large refused-large
+
+pub claimed-small : Demand3 set both small c (from small) calls
+claimed-small = claims small opens-small refused-small
 
 -- its world at the end is sound
 pub sound-there : Sound both c (after both (from large) calls)
@@ -163,7 +168,11 @@ pub same-there : SameUntil saidSmall said
 same-there =
     subst (λ x. SameUntil x said) replies-small
     (subst (SameUntil (replies both (from small) calls)) replies-large
-    (larger set both got got small large (record { heads = omega arith; states = omega arith; trs = omega arith }) opens-small (only outputs) rule calls refused-small .same))
+    (claimed-small .larger got large (record { heads = omega arith; states = omega arith; trs = omega arith }) .same))
+
+-- none of its answers is an 8
+pub eight-there : (t : Session) → In (answered (refusal 8) t) saidSmall → ⊥
+eight-there t i = claimed-small .eight (answered (refusal 8) t) (subst (λ x. In (answered (refusal 8) t) x) (sym replies-small) i) t refl
 
 -- a memory without heads is shorter: its opening is refused
 abbrev headless : Memory
