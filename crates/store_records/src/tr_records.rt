@@ -8,9 +8,9 @@ ghost use Rattle.words.specs.Steps.{Triple};
 ghost use Rattle.calls.specs.Store.{roomOf, trSize, targetAt, trNextAt, trRecord, append, partAt};
 ghost use Rattle.calls.specs.Calls.{wordsOf};
 ghost use Rattle.store_records.specs.Meaning.{partMeans, stepMeans, stored};
-use crate::lent::LIMIT;
 use crate::lent::least;
 use crate::state_records::first_of;
+use fst::LIMIT;
 use fst::StateId;
 use fst::Tr;
 use fst::word;
@@ -27,7 +27,7 @@ pub struct Part {
 pub fn tr_room(trs: &[u32]) -> u32
     ensures { λ r. ⌜ r ≡ roomOf trSize (now (trs .entry)) ⌝ }
 {
-    least(LIMIT, trs.len() / TR_SIZE) as u32
+    least(LIMIT as usize, trs.len() / TR_SIZE) as u32
 }
 
 // The target of the record at place i.
