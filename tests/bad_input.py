@@ -50,12 +50,13 @@ def machine(m):
     w = Words(m)
     line("p", w.well_formed(), w.sorted(0), w.sorted(1), w.acceptor())
     start = w.word(2)
-    line("h", w.word(2 ** 64 - 1), w.S, w.T, start, w.word(3), w.word(4), w.word(5), *([1, start - 1] if start else [0]))
+    line("h", w.word(2 ** 64 - 1), w.S, w.T, start, w.word(3), w.word(4), w.word(3), w.word(4), w.word(5), *([1, start - 1] if start else [0]))
     for s in (0, MAX):
         line("s", w.state(s, 0), w.state(s, MAX), w.first(s), len(w.list(s)), w.state(s, 1) == 1, w.state(s, 2),
              w.none(0, s), w.none(1, s), w.all(0, s), w.all(1, s))
     for t in (0, 1, MAX):
-        line("r", w.tr(t, 4), w.tr(t, MAX), w.next(t), w.tr(t, 0), w.tr(t, 1), *(w.tr(t, k) for k in range(4)))
+        transition = [w.tr(t, k) for k in range(4)]
+        line("r", w.tr(t, 4), w.tr(t, MAX), w.next(t), *([w.tr(t, 0)] * 2 + transition), *([w.tr(t, 1)] * 2 + transition))
     line("f", w.none(1, MAX), w.all(1, MAX), w.none(0, 0), w.all(0, 0))
     line("m", *([side(w, MAX, MAX), side(w, 7, MAX), side(w, MAX, 7), side(w, 7, 0)] if w.well_formed() else []))
 

@@ -54,6 +54,8 @@ fn start(m: &[u32]) {
 fn marks(m: &[u32]) {
     put(fst::side_mark(m, MatchType::MatchInput));
     put(fst::side_mark(m, MatchType::MatchOutput));
+    put(fst::inner_mark(m, MatchType::MatchInput));
+    put(fst::inner_mark(m, MatchType::MatchOutput));
     put(fst::acceptor_mark(m));
 }
 
@@ -102,14 +104,20 @@ fn transition(tr: Tr) {
     put(tr.nextstate.0);
 }
 
+// Record t in a machine that is matched on a side.
+fn matched(m: &[u32], on: MatchType, t: u32) {
+    label(fst::label_on(m, on, t));
+    label(fst::inner_label(m, on, t));
+    transition(fst::get_tr(m, on, t));
+}
+
 fn record(m: &[u32], t: u32) {
     io::write_all(1, b"r");
     put(fst::tr_word(m, t, 4));
     put(fst::tr_word(m, t, MAX));
     put(fst::next_tr(m, t));
-    label(fst::label_on(m, MatchType::MatchInput, t));
-    label(fst::label_on(m, MatchType::MatchOutput, t));
-    transition(fst::get_tr(m, t));
+    matched(m, MatchType::MatchInput, t);
+    matched(m, MatchType::MatchOutput, t);
     end();
 }
 

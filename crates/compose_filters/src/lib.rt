@@ -13,8 +13,8 @@ use fst::EPS_LABEL;
 use fst::MatchType;
 use fst::StateId;
 use fst::first_tr;
+use fst::inner_label;
 use fst::is_final;
-use fst::label_on;
 use fst::next_tr;
 
 // The row of the table: which of the machines moves, and by what label.
@@ -39,11 +39,11 @@ pub enum Filtered {
     Dropped,
 }
 
-// Whether record t has the label epsilon on a side, or, where wanted is false, has not.
+// Whether record t has the inner label epsilon, or, where wanted is false, has not.
 fn eps_is(m: &[u32], on: MatchType, t: u32, wanted: bool) -> bool
     ensures { λ r. ⌜ r ≡ wantedEps wanted (onOf on) (now (m .entry)) t ⌝ }
 {
-    let label = label_on(m, on, t);
+    let label = inner_label(m, on, t);
     let eps = label.0 == EPS_LABEL.0;
     if wanted { eps } else { !eps }
 }

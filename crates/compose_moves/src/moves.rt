@@ -64,7 +64,7 @@ fn into_tr(item: IterItemMatcher, kind: u32, s: StateId) -> Tr
     }
 }
 
-// The row of the filters' table, by machine 1's match and machine 2's.
+// The row of the filters' table, by machine 1's match and machine 2's. The label that it looks at is an inner one: `get_tr` has read it by `inner_label`.
 fn move_kind(first: IterItemMatcher, second: IterItemMatcher) -> MoveKind
     ensures { λ r. ⌜ moveMeans r ≡ rowOf (matchMeans first) (matchMeans second) ⌝ }
 {

@@ -15,7 +15,7 @@ use fst::MatchType;
 use fst::StateId;
 use fst::first_tr;
 use fst::get_tr;
-use fst::label_on;
+use fst::inner_label;
 use fst::next_tr;
 use matchers::Cursor;
 use matchers::IterItemMatcher;
@@ -31,14 +31,14 @@ pub enum Along {
     Refused(u32),
 }
 
-// The walked edge as a match; 0: the machine rests.
-fn edge_item(mw: &[u32], t: u32) -> IterItemMatcher
+// The walked edge as a match, of a machine that is matched on a side; 0: the machine rests.
+fn edge_item(mw: &[u32], on: MatchType, t: u32) -> IterItemMatcher
     ensures { λ r. ⌜ matchMeans r ≡ edgeItem (now (mw .entry)) t ⌝ }
 {
     if t == 0 {
         return IterItemMatcher::EpsLoop;
     }
-    IterItemMatcher::Tr(get_tr(mw, t))
+    IterItemMatcher::Tr(get_tr(mw, on, t))
 }
 
 fn walked_state(on: MatchType, tuple: ComposeStateTuple) -> StateId
@@ -93,7 +93,8 @@ fn is_done(along: Along) -> bool
 fn match_tr_selected(mw: &[u32], mm: &[u32], walk: Walk, t: u32, matches: Cursor) -> Along
     ensures { λ r. ⌜ ((am : List ℕ) → edgeAnswer (walkMeans walk (now (mw .entry)) (now (mm .entry)) am) t r ≡ asked (walkLeft (walkMeans walk (now (mw .entry)) (now (mm .entry)) am) t matches)) ⌝ }
 {
-    let edge = edge_item(mw, t);
+    let on = walk.on;
+    let edge = edge_item(mw, walked_side(on), t);
     let mut left = matches;
     loop {
         let step = ask(mm, left);
@@ -122,7 +123,7 @@ fn match_tr(mw: &[u32], mm: &[u32], am: &[u32], walk: Walk, t: u32) -> Along
     let on = walk.on;
     let tuple = walk.tuple;
     let sigma = walk.sigma;
-    let label = label_on(mw, walked_side(on), t);
+    let label = inner_label(mw, walked_side(on), t);
     let found = sigma_iter(mm, on, sigma, am, looked_state(on, tuple), label);
     match found {
         SigmaIter::At(matches) => match_tr_selected(mw, mm, walk, t, matches),

@@ -4,11 +4,22 @@ ghost use lib.ListN.{length, getD};
 ghost use Rattle.words.specs.Machines.{stateCount, trCount, startWord, sideMark, acceptorMark, stateWord, trWord, firstOf, nextOf, listOf, machineOf};
 ghost use Rattle.words.specs.Matches.{labelOn, trOf};
 ghost use Rattle.fst.specs.Meaning.{onOf, startMeans, trMeans};
+use crate::FINAL;
+use crate::FINAL_WEIGHT;
+use crate::FIRST;
+use crate::HEADER_WORDS;
+use crate::INPUT;
 use crate::Label;
 use crate::MatchType;
+use crate::NEXT;
+use crate::OUTPUT;
+use crate::STATE_WORDS;
 use crate::StartState;
 use crate::StateId;
+use crate::TARGET;
+use crate::TR_WORDS;
 use crate::Tr;
+use crate::WEIGHT;
 
 // Word i, and 0 past the end.
 pub fn word(m: &[u32], i: usize) -> u32
@@ -47,7 +58,7 @@ pub fn start(m: &[u32]) -> StartState
     StartState::At(StateId(n - 1))
 }
 
-// The mark of a side. Every look at a side mark goes through here.
+// The mark of a side as it is lent: what the check of a machine holds to the fact.
 pub fn side_mark(m: &[u32], on: MatchType) -> u32
     ensures { λ r. ⌜ r ≡ sideMark (onOf on) (now (m .entry)) ⌝ }
 {
@@ -55,6 +66,13 @@ pub fn side_mark(m: &[u32], on: MatchType) -> u32
         MatchType::MatchInput => word(m, 3),
         MatchType::MatchOutput => word(m, 4),
     }
+}
+
+// The mark of the side on which a machine is matched: what the choice of the side goes by.
+pub fn inner_mark(m: &[u32], on: MatchType) -> u32
+    ensures { λ r. ⌜ r ≡ sideMark (onOf on) (now (m .entry)) ⌝ }
+{
+    side_mark(m, on)
 }
 
 pub fn acceptor_mark(m: &[u32]) -> u32
@@ -67,7 +85,10 @@ pub fn acceptor_mark(m: &[u32]) -> u32
 pub fn state_word(m: &[u32], s: StateId, k: u32) -> u32
     ensures { λ r. ⌜ r ≡ stateWord (now (m .entry)) (s .0) k ⌝ }
 {
-    word(m, 6 + 3 * (s.0 as usize) + (k as usize))
+    word(
+        m,
+        HEADER_WORDS + STATE_WORDS * (s.0 as usize) + (k as usize),
+    )
 }
 
 // Word k of the transition record t; records count from 1.
@@ -75,14 +96,20 @@ pub fn tr_word(m: &[u32], t: u32, k: u32) -> u32
     ensures { λ r. ⌜ r ≡ trWord (now (m .entry)) t k ⌝ }
 {
     let n = num_states(m);
-    word(m, 1 + 3 * (n as usize) + 5 * (t as usize) + (k as usize))
+    word(
+        m,
+        HEADER_WORDS - TR_WORDS
+            + STATE_WORDS * (n as usize)
+            + TR_WORDS * (t as usize)
+            + (k as usize),
+    )
 }
 
 // The first record of a state's list; 0: the list is empty.
 pub fn first_tr(m: &[u32], s: StateId) -> u32
     ensures { λ r. ⌜ r ≡ firstOf (now (m .entry)) (s .0) ⌝ }
 {
-    let first = state_word(m, s, 0);
+    let first = state_word(m, s, FIRST);
     if first <= num_records(m) { first } else { 0 }
 }
 
@@ -90,7 +117,7 @@ pub fn first_tr(m: &[u32], s: StateId) -> u32
 pub fn next_tr(m: &[u32], t: u32) -> u32
     ensures { λ r. ⌜ r ≡ nextOf (now (m .entry)) t ⌝ }
 {
-    let next = tr_word(m, t, 4);
+    let next = tr_word(m, t, NEXT);
     if t < next {
         if next <= num_records(m) {
             return next;
@@ -99,25 +126,43 @@ pub fn next_tr(m: &[u32], t: u32) -> u32
     0
 }
 
-// The label of record t on a side. Every look at an inner label goes through here.
+// The label of record t on a side as it is lent: for the check of a record, and for the outer label of a transition.
 pub fn label_on(m: &[u32], on: MatchType, t: u32) -> Label
     ensures { λ r. ⌜ r .0 ≡ labelOn (onOf on) (machineOf (now (m .entry))) t ⌝ }
 {
     match on {
-        MatchType::MatchInput => Label(tr_word(m, t, 0)),
-        MatchType::MatchOutput => Label(tr_word(m, t, 1)),
+        MatchType::MatchInput => Label(tr_word(m, t, INPUT)),
+        MatchType::MatchOutput => Label(tr_word(m, t, OUTPUT)),
     }
 }
 
-// The transition of record t.
-pub fn get_tr(m: &[u32], t: u32) -> Tr
+// The label of record t on the side on which the machine is matched. Sortedness, the facts of the filters, the walk and the look-up see labels through here alone.
+pub fn inner_label(m: &[u32], on: MatchType, t: u32) -> Label
+    ensures { λ r. ⌜ r .0 ≡ labelOn (onOf on) (machineOf (now (m .entry))) t ⌝ }
+{
+    label_on(m, on, t)
+}
+
+// The transition of record t in a machine that is matched on a side.
+pub fn get_tr(m: &[u32], on: MatchType, t: u32) -> Tr
     ensures { λ r. ⌜ trMeans r ≡ trOf (machineOf (now (m .entry))) t ⌝ }
 {
-    Tr {
-        ilabel: label_on(m, MatchType::MatchInput, t),
-        olabel: label_on(m, MatchType::MatchOutput, t),
-        weight: tr_word(m, t, 2),
-        nextstate: StateId(tr_word(m, t, 3)),
+    let inner = inner_label(m, on, t);
+    let weight = tr_word(m, t, WEIGHT);
+    let nextstate = StateId(tr_word(m, t, TARGET));
+    match on {
+        MatchType::MatchInput => Tr {
+            ilabel: inner,
+            olabel: label_on(m, MatchType::MatchOutput, t),
+            weight,
+            nextstate,
+        },
+        MatchType::MatchOutput => Tr {
+            ilabel: label_on(m, MatchType::MatchInput, t),
+            olabel: inner,
+            weight,
+            nextstate,
+        },
     }
 }
 
@@ -125,13 +170,13 @@ pub fn get_tr(m: &[u32], t: u32) -> Tr
 pub fn is_final(m: &[u32], s: StateId) -> bool
     ensures { λ r. ⌜ r ≡ machineOf (now (m .entry)) .isFinal (s .0) ⌝ }
 {
-    state_word(m, s, 1) == 1
+    state_word(m, s, FINAL) == 1
 }
 
 pub fn final_weight(m: &[u32], s: StateId) -> u32
     ensures { λ r. ⌜ r ≡ machineOf (now (m .entry)) .finalWeight (s .0) ⌝ }
 {
-    state_word(m, s, 2)
+    state_word(m, s, FINAL_WEIGHT)
 }
 
 // The length of a state's list.

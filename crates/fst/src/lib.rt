@@ -6,6 +6,8 @@ pub use fst_traits::acceptor_mark;
 pub use fst_traits::final_weight;
 pub use fst_traits::first_tr;
 pub use fst_traits::get_tr;
+pub use fst_traits::inner_label;
+pub use fst_traits::inner_mark;
 pub use fst_traits::is_final;
 pub use fst_traits::label_on;
 pub use fst_traits::next_tr;
@@ -25,6 +27,34 @@ pub struct Label(pub u32);
 
 // The number of a state.
 pub struct StateId(pub u32);
+
+// The largest number of states, of transitions, and of records of each sort.
+pub const LIMIT: u32 = 65535;
+
+// The words of a machine's header, of a state's record, and of a transition's record.
+pub const HEADER_WORDS: usize = 6;
+
+pub const STATE_WORDS: usize = 3;
+
+pub const TR_WORDS: usize = 5;
+
+// The words of a state's record by their place.
+pub const FIRST: u32 = 0;
+
+pub const FINAL: u32 = 1;
+
+pub const FINAL_WEIGHT: u32 = 2;
+
+// The words of a transition's record by their place.
+pub const INPUT: u32 = 0;
+
+pub const OUTPUT: u32 = 1;
+
+pub const WEIGHT: u32 = 2;
+
+pub const TARGET: u32 = 3;
+
+pub const NEXT: u32 = 4;
 
 pub const EPS_LABEL: Label = Label(0);
 

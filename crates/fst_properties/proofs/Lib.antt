@@ -1,1 +1,3 @@
 pub mod Falls
+pub mod Bits
+pub mod Walked

@@ -1,1 +1,2 @@
 pub mod RecordTests
+pub mod Seen

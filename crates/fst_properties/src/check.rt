@@ -8,17 +8,21 @@ use crate::properties::acceptor;
 use crate::properties::sorted;
 use crate::records::RecordTest;
 use crate::records::all_records;
+use fst::FINAL;
+use fst::FINAL_WEIGHT;
+use fst::FIRST;
+use fst::HEADER_WORDS;
+use fst::LIMIT;
 use fst::MatchType;
+use fst::STATE_WORDS;
 use fst::StateId;
+use fst::TR_WORDS;
 use fst::acceptor_mark;
 use fst::num_records;
 use fst::num_states;
 use fst::side_mark;
 use fst::start_word;
 use fst::state_word;
-
-// The largest number of states, and of transition records.
-const LIMIT: u32 = 65535;
 
 fn size_ok(m: &[u32]) -> bool
     ensures { λ r. ⌜ r ≡ sizeOk (now (m .entry)) ⌝ }
@@ -31,7 +35,7 @@ fn size_ok(m: &[u32]) -> bool
     if LIMIT < t {
         return false;
     }
-    m.len() == 6 + 3 * (s as usize) + 5 * (t as usize)
+    m.len() == HEADER_WORDS + STATE_WORDS * (s as usize) + TR_WORDS * (t as usize)
 }
 
 fn start_ok(m: &[u32]) -> bool
@@ -44,12 +48,12 @@ fn start_ok(m: &[u32]) -> bool
 fn state_ok(m: &[u32], s: StateId) -> bool
     ensures { λ r. ⌜ r ≡ stateOk (now (m .entry)) (s .0) ⌝ }
 {
-    if num_records(m) < state_word(m, s, 0) {
+    if num_records(m) < state_word(m, s, FIRST) {
         return false;
     }
-    let is_final = state_word(m, s, 1);
+    let is_final = state_word(m, s, FINAL);
     match is_final {
-        0 => state_word(m, s, 2) == 0,
+        0 => state_word(m, s, FINAL_WEIGHT) == 0,
         1 => true,
         _ => false,
     }

@@ -2,6 +2,7 @@
 mod check;
 mod properties;
 mod records;
+mod seen;
 
 pub use check::well_formed;
 pub use properties::acceptor;

@@ -5,11 +5,15 @@ ghost use Rattle.words.specs.Machines.{sorted as sortedOf, acceptor as acceptor
 ghost use Rattle.fst.specs.Meaning.{onOf};
 use crate::records::RecordTest;
 use crate::records::all_records;
+use crate::seen::is_seen;
+use crate::seen::see;
 use fst::EPS_LABEL;
 use fst::MatchType;
+use fst::STATE_WORDS;
 use fst::StateId;
+use fst::TR_WORDS;
 use fst::first_tr;
-use fst::label_on;
+use fst::inner_label;
 use fst::next_tr;
 use fst::num_records;
 use fst::num_states;
@@ -21,22 +25,28 @@ fn least(n: u32, room: usize) -> u32
     if (n as usize) <= room { n } else { room as u32 }
 }
 
-// Walks the list of each state. Left by the label at the first label that falls.
+// Walks the list of each state, down to a record that an earlier walk has seen: from there on no label falls. So each of the first 65536 records is walked once.
+// Left by the label at the first label that falls.
 fn lists_sorted(m: &[u32], on: MatchType) -> bool
     ensures { λ r. ⌜ r ≡ sortedOf (onOf on) (machineOf (now (m .entry))) ⌝ }
 {
-    let n = least(num_states(m), m.len() / 3);
+    let n = least(num_states(m), m.len() / STATE_WORDS);
+    let mut seen = [0u32; 2048];
     let mut ok = true;
     let mut s: u32 = 0;
     'states: while s < n {
         let mut low = EPS_LABEL;
         let mut t = first_tr(m, StateId(s));
-        while t != 0 {
-            let label = label_on(m, on, t);
+        'list: while t != 0 {
+            let label = inner_label(m, on, t);
             if label.0 < low.0 {
                 ok = false;
                 break 'states;
             }
+            if is_seen(&seen, t) {
+                break 'list;
+            }
+            see(&mut seen, t);
             low = label;
             t = next_tr(m, t);
         }
@@ -49,7 +59,7 @@ fn lists_sorted(m: &[u32], on: MatchType) -> bool
 pub fn sorted(m: &[u32], on: MatchType) -> bool
     ensures { λ r. ⌜ r ≡ sortedOf (onOf on) (machineOf (now (m .entry))) ⌝ }
 {
-    let n = least(num_records(m), m.len() / 5);
+    let n = least(num_records(m), m.len() / TR_WORDS);
     if all_records(m, RecordTest::Rises(on), n) {
         return true;
     }
@@ -60,6 +70,6 @@ pub fn sorted(m: &[u32], on: MatchType) -> bool
 pub fn acceptor(m: &[u32]) -> bool
     ensures { λ r. ⌜ r ≡ acceptorOf (now (m .entry)) ⌝ }
 {
-    let n = least(num_records(m), m.len() / 5);
+    let n = least(num_records(m), m.len() / TR_WORDS);
     all_records(m, RecordTest::SameLabels, n)
 }

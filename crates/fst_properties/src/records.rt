@@ -6,7 +6,10 @@ ghost use Rattle.words.specs.Machines.{trWord, nextOk, trOk};
 ghost use Rattle.fst.specs.Meaning.{onOf};
 ghost use Rattle.fst_properties.specs.RecordTests.{rises as risesOf, testOf};
 use fst::MatchType;
+use fst::NEXT;
 use fst::NO_LABEL;
+use fst::TARGET;
+use fst::inner_label;
 use fst::label_on;
 use fst::next_tr;
 use fst::num_records;
@@ -24,7 +27,7 @@ pub enum RecordTest {
 fn next_ok(m: &[u32], t: u32) -> bool
     ensures { λ r. ⌜ r ≡ nextOk (now (m .entry)) t ⌝ }
 {
-    let next = tr_word(m, t, 4);
+    let next = tr_word(m, t, NEXT);
     if next == 0 {
         return true;
     }
@@ -38,13 +41,15 @@ fn next_ok(m: &[u32], t: u32) -> bool
 fn tr_ok(m: &[u32], t: u32) -> bool
     ensures { λ r. ⌜ r ≡ trOk (now (m .entry)) t ⌝ }
 {
-    if NO_LABEL.0 <= tr_word(m, t, 0) {
+    let ilabel = label_on(m, MatchType::MatchInput, t);
+    if NO_LABEL.0 <= ilabel.0 {
         return false;
     }
-    if NO_LABEL.0 <= tr_word(m, t, 1) {
+    let olabel = label_on(m, MatchType::MatchOutput, t);
+    if NO_LABEL.0 <= olabel.0 {
         return false;
     }
-    if num_states(m) <= tr_word(m, t, 3) {
+    if num_states(m) <= tr_word(m, t, TARGET) {
         return false;
     }
     next_ok(m, t)
@@ -53,7 +58,9 @@ fn tr_ok(m: &[u32], t: u32) -> bool
 fn same_labels(m: &[u32], t: u32) -> bool
     ensures { λ r. ⌜ r ≡ eqb (trWord (now (m .entry)) t 0) (trWord (now (m .entry)) t 1) ⌝ }
 {
-    tr_word(m, t, 0) == tr_word(m, t, 1)
+    let ilabel = label_on(m, MatchType::MatchInput, t);
+    let olabel = label_on(m, MatchType::MatchOutput, t);
+    ilabel.0 == olabel.0
 }
 
 fn rises(m: &[u32], on: MatchType, t: u32) -> bool
@@ -63,8 +70,8 @@ fn rises(m: &[u32], on: MatchType, t: u32) -> bool
     if next == 0 {
         return true;
     }
-    let low = label_on(m, on, t);
-    let high = label_on(m, on, next);
+    let low = inner_label(m, on, t);
+    let high = inner_label(m, on, next);
     low.0 <= high.0
 }
 

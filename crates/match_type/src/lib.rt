@@ -12,7 +12,7 @@ use fst::EPS_LABEL;
 use fst::Label;
 use fst::MatchType;
 use fst::NO_LABEL;
-use fst::side_mark;
+use fst::inner_mark;
 use fst_properties::sorted;
 
 // One direction in every state, or both.
@@ -41,7 +41,7 @@ fn known_sorted(m: &[u32], on: MatchType) -> bool
     requires { ⌜ wellFormed (now m) ≡ true ⌝ }
     ensures { λ r. ⌜ r ≡ sortedOf (onOf on) (machineOf (now (m .entry))) ⌝ }
 {
-    let mark = side_mark(m, on);
+    let mark = inner_mark(m, on);
     match mark {
         1 => true,
         2 => false,
@@ -79,8 +79,8 @@ fn side_by_marks(m1: &[u32], m2: &[u32]) -> Chosen
     requires { ⌜ (wellFormed (now m1) ≡ true) × (wellFormed (now m2) ≡ true) ⌝ }
     ensures { λ r. ⌜ chosenMeans r ≡ sideBy (eqb (sideMark outputs (now (m1 .entry))) 1) (eqb (sideMark inputs (now (m2 .entry))) 1) (sortedOf outputs (machineOf (now (m1 .entry)))) (sortedOf inputs (machineOf (now (m2 .entry)))) ⌝ }
 {
-    let mark1 = side_mark(m1, MatchType::MatchOutput);
-    let mark2 = side_mark(m2, MatchType::MatchInput);
+    let mark1 = inner_mark(m1, MatchType::MatchOutput);
+    let mark2 = inner_mark(m2, MatchType::MatchInput);
     if mark1 == 1 {
         if mark2 == 1 {
             return Chosen::By(Side::Both);

@@ -12,7 +12,7 @@ use fst::MatchType;
 use fst::NO_LABEL;
 use fst::Tr;
 use fst::get_tr;
-use fst::label_on;
+use fst::inner_label;
 use fst::next_tr;
 use fst::num_records;
 pub use sigma_matcher::Sigma;
@@ -77,7 +77,7 @@ fn seek(m: &[u32], on: MatchType, label: Label, t: u32) -> u32
     }
     let mut at = t;
     while at != 0 {
-        let found = label_on(m, on, at);
+        let found = inner_label(m, on, at);
         if found.0 == label.0 {
             return at;
         }
@@ -156,7 +156,7 @@ fn rest_next(m: &[u32], cursor: Cursor) -> Step
     if t == 0 {
         return Step::End(moved(cursor, Phase::Rest, 0));
     }
-    let found = rewrite(cursor, get_tr(m, t));
+    let found = rewrite(cursor, get_tr(m, on, t));
     Step::Match(
         IterItemMatcher::Tr(found),
         moved(cursor, Phase::Rest, next_tr(m, t)),
@@ -173,7 +173,7 @@ fn own_next(m: &[u32], cursor: Cursor) -> Step
     if t == 0 {
         return rest_next(m, moved(cursor, Phase::Rest, cursor.rest));
     }
-    let found = get_tr(m, t);
+    let found = get_tr(m, on, t);
     Step::Match(
         IterItemMatcher::Tr(found),
         moved(cursor, Phase::Own, next_tr(m, t)),

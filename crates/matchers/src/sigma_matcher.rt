@@ -6,7 +6,7 @@ ghost use lib.Dec.{eqb};
 ghost use Rattle.words.specs.Labels.{epsLabel, noLabel};
 ghost use Rattle.words.specs.Machines.{acceptorMark};
 ghost use Rattle.words.specs.Sides.{nonEmpty};
-ghost use Rattle.words.specs.Sigmas.{has, isAllowed, rewritesBoth, sigmaTrs};
+ghost use Rattle.words.specs.Sigmas.{isAllowed, rewritesBoth, sigmaTrs};
 ghost use Rattle.words.specs.Settings.{operandOf};
 ghost use Rattle.fst.specs.Meaning.{onOf};
 ghost use Rattle.matchers.specs.Meaning.{allowedOf, lookupItems, standsFor};
@@ -49,18 +49,6 @@ fn is_sigma(sigma: Label, label: Label) -> bool
     label.0 == sigma.0
 }
 
-// x stands in the list.
-fn contains(list: &[u32], x: Label) -> bool
-    ensures { λ r. ⌜ r ≡ has (x .0) (now (list .entry)) ⌝ }
-{
-    for i in 0..list.len() {
-        if list[i] == x.0 {
-            return true;
-        }
-    }
-    false
-}
-
 // The list holds the label, or there is no list.
 fn is_match_label_allowed(listed: bool, allowed: &[u32], label: Label) -> bool
     ensures { λ r. ⌜ r ≡ isAllowed (allowedOf listed (now (allowed .entry))) (label .0) ⌝ }
@@ -68,7 +56,12 @@ fn is_match_label_allowed(listed: bool, allowed: &[u32], label: Label) -> bool
     if !listed {
         return true;
     }
-    contains(allowed, label)
+    for i in 0..allowed.len() {
+        if allowed[i] == label.0 {
+            return true;
+        }
+    }
+    false
 }
 
 // Sigma is set, and may stand for the label.

@@ -8,10 +8,10 @@ ghost use Rattle.lists.specs.Lists.{put};
 ghost use Rattle.calls.specs.Store.{roomOf, stateSize, stateField, tripleAt, expandedAt, firstAt, nextAt, stateRecord, mark};
 ghost use Rattle.compose_state_tuple.specs.Meaning.{tupleMeans};
 ghost use Rattle.store_records.specs.Meaning.{Packs, stored};
-use crate::lent::LIMIT;
 use crate::lent::least;
 use crate::lent::store;
 use compose_state_tuple::ComposeStateTuple;
+use fst::LIMIT;
 use fst::StateId;
 use fst::word;
 
@@ -32,7 +32,7 @@ const STATE_NEXT: usize = 4;
 pub fn state_room(states: &[u32]) -> u32
     ensures { λ r. ⌜ r ≡ roomOf stateSize (now (states .entry)) ⌝ }
 {
-    least(LIMIT, states.len() / STATE_SIZE) as u32
+    least(LIMIT as usize, states.len() / STATE_SIZE) as u32
 }
 
 // Word k of the record of state n.

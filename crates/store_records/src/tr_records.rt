@@ -8,8 +8,8 @@ ghost use Rattle.words.specs.Steps.{Triple};
 ghost use Rattle.calls.specs.Store.{roomOf, trSize, targetAt, trNextAt, trAt, trRecord, append};
 ghost use Rattle.fst.specs.Meaning.{trMeans};
 ghost use Rattle.store_records.specs.Meaning.{stepMeans, stored};
-use crate::lent::LIMIT;
 use crate::lent::least;
+use fst::LIMIT;
 use fst::Label;
 use fst::StateId;
 use fst::Tr;
@@ -32,7 +32,7 @@ const TR_NEXT: usize = 4;
 pub fn tr_room(trs: &[u32]) -> u32
     ensures { λ r. ⌜ r ≡ roomOf trSize (now (trs .entry)) ⌝ }
 {
-    least(LIMIT, trs.len() / TR_SIZE) as u32
+    least(LIMIT as usize, trs.len() / TR_SIZE) as u32
 }
 
 // The target of the record at place i.

@@ -2,7 +2,7 @@
 use mathlib.Core.Bool.{Bool, true, false, not, _&&_, _||_, cond}
 use mathlib.Core.List.{List, [], _∷_, map}
 use mathlib.Core.Option.{Option, none, some}
-use Prim.Native.Nat.{ℕ, zero, suc, _+_, _*_}
+use Prim.Native.Nat.{ℕ, zero, suc, _+_, _-_, _*_}
 use lib.Dec.{eqb, ltb, leb}
 use lib.ListN.{length, getD}
 use Rattle.lists.specs.Lists.{every, interval}
@@ -13,6 +13,16 @@ use Rattle.words.specs.Matches.{MatchType, inputs, outputs, labelOn}
 -- "S and T are at most 65535"
 abbrev pub limit : ℕ
 limit = 65535
+
+-- "the length is exactly 6 + 3S + 5T": the words of the header, of a state's record, of a transition's record
+abbrev pub headerWords : ℕ
+headerWords = 6
+
+abbrev pub stateWords : ℕ
+stateWords = 3
+
+abbrev pub trWords : ℕ
+trWords = 5
 
 -- "Header: state count S, transition count T, start plus one (0: no start), input mark, output mark, acceptor mark."
 unfoldable pub stateCount : List ℕ → ℕ
@@ -33,11 +43,12 @@ acceptorMark m = getD m 5 0
 
 -- "Then S records: first transition (0: none), final 0 or 1, final weight (0 if not final)." Word k of the record of state s.
 unfoldable pub stateWord : List ℕ → ℕ → ℕ → ℕ
-stateWord m s k = getD m (6 + 3 * s + k) 0
+stateWord m s k = getD m (headerWords + stateWords * s + k) 0
 
--- "Then T records: input, output, weight, target state, next. Transitions count from 1". Word k of record t: the record begins at 6 + 3 S + 5 (t - 1).
+-- "Then T records: input, output, weight, target state, next. Transitions count from 1". Word k of record t: the record begins where
+-- t - 1 records have gone before it.
 unfoldable pub trWord : List ℕ → ℕ → ℕ → ℕ
-trWord m t k = getD m (1 + 3 * stateCount m + 5 * t + k) 0
+trWord m t k = getD m (headerWords - trWords + stateWords * stateCount m + trWords * t + k) 0
 
 -- "a first at most T"
 unfoldable pub firstOk : List ℕ → ℕ → Bool
@@ -137,7 +148,7 @@ marksOk m =
 
 -- "S and T are at most 65535 and the length is exactly 6 + 3S + 5T."
 unfoldable pub sizeOk : List ℕ → Bool
-sizeOk m = leb (stateCount m) limit && (leb (trCount m) limit && eqb (length m) (6 + 3 * stateCount m + 5 * trCount m))
+sizeOk m = leb (stateCount m) limit && (leb (trCount m) limit && eqb (length m) (headerWords + stateWords * stateCount m + trWords * trCount m))
 
 -- "Start plus one is at most S, a first at most T, a target below S. Anything else, a label MAX or a false mark included, is malformed."
 unfoldable pub wellFormed : List ℕ → Bool

@@ -13,13 +13,13 @@ returns : tie.Need-returns
 returns c =
     let x = c .before .before .before .args in
     let e = form (now (x .m)) (c .before .before .before .pre) .mark (onOf (x .on)) in
-    sym (rw (← c .before .side-mark .ensures, c .match .keys1) at e)
+    sym (rw (← c .before .inner-mark .ensures, c .match .keys1) at e)
 
 returns-2 : tie.Need-returns-2
 returns-2 c =
     let x = c .before .before .before .args in
     let e = form (now (x .m)) (c .before .before .before .pre) .mark (onOf (x .on)) in
-    sym (not-true (sorted (onOf (x .on)) (machineOf (now (x .m)))) (rw (← c .before .side-mark .ensures, c .match .keys2) at e))
+    sym (not-true (sorted (onOf (x .on)) (machineOf (now (x .m)))) (rw (← c .before .inner-mark .ensures, c .match .keys2) at e))
 
 pub known-sorted-spec : {M : Type 1} → statement M
 known-sorted-spec = tie.close (tie.spec (λ c κs. search needs) (λ c κs. search needs) returns returns-2 (λ c. search needs))

@@ -5,16 +5,16 @@ use Rattle.match_type.proofs.side_by_marks.Statement.{statement}
 use Rattle.match_type.proofs.side_by_marks.Tie as tie
 
 returns : tie.Need-returns
-returns c = rw (← c .before .before .before .side-mark .ensures, ← c .before .before .side-mark2 .ensures, eq-eqb _ _ (c .before .if1 .taken), eq-eqb _ _ (c .if2 .taken))
+returns c = rw (← c .before .before .before .inner-mark .ensures, ← c .before .before .inner-mark2 .ensures, eq-eqb _ _ (c .before .if1 .taken), eq-eqb _ _ (c .if2 .taken))
 
 returns-2 : tie.Need-returns-2
-returns-2 c = rw (← c .before .before .before .side-mark .ensures, ← c .before .before .side-mark2 .ensures, eq-eqb _ _ (c .before .if1 .taken), ne-eqb _ _ (c .if2 .left))
+returns-2 c = rw (← c .before .before .before .inner-mark .ensures, ← c .before .before .inner-mark2 .ensures, eq-eqb _ _ (c .before .if1 .taken), ne-eqb _ _ (c .if2 .left))
 
 returns-3 : tie.Need-returns-3
-returns-3 c = rw (← c .before .before .before .side-mark .ensures, ← c .before .before .side-mark2 .ensures, ne-eqb _ _ (c .before .if1 .left), eq-eqb _ _ (c .if3 .taken))
+returns-3 c = rw (← c .before .before .before .inner-mark .ensures, ← c .before .before .inner-mark2 .ensures, ne-eqb _ _ (c .before .if1 .left), eq-eqb _ _ (c .if3 .taken))
 
 returns-4 : tie.Need-returns-4
-returns-4 c = rw (← c .before .before .before .before .side-mark .ensures, ← c .before .before .before .side-mark2 .ensures, ne-eqb _ _ (c .before .before .if1 .left), ne-eqb _ _ (c .before .if3 .left)) (c .side-by-lists .ensures)
+returns-4 c = rw (← c .before .before .before .before .inner-mark .ensures, ← c .before .before .before .inner-mark2 .ensures, ne-eqb _ _ (c .before .before .if1 .left), ne-eqb _ _ (c .before .if3 .left)) (c .side-by-lists .ensures)
 
 pub side-by-marks-spec : {M : Type 1} → statement M
 side-by-marks-spec =

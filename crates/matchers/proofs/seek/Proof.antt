@@ -40,7 +40,7 @@ loop-holds c = (rw (← c .before .num-records .ensures) (c .if1 .left), refl)
 returns-2 : tie.Need-returns-2 Inv-loop μ-loop
 returns-2 c =
     let l = c .before .before .before .before .before .loop .inv in
-    rw (← l .1, turn (c .before .before .before .before), ← c .before .before .before .label-on .ensures, eq-eqb _ _ (c .if2 .taken))
+    rw (← l .1, turn (c .before .before .before .before), ← c .before .before .before .inner-label .ensures, eq-eqb _ _ (c .if2 .taken))
 
 loop-less : tie.Need-loop-less Inv-loop μ-loop
 loop-less c =
@@ -50,7 +50,7 @@ loop-less c =
 loop-again : tie.Need-loop-again Inv-loop μ-loop
 loop-again c =
     let l = c .before .before .before .before .before .before .loop .inv in
-    rw (c .next-tr .ensures) (link _ _ .inside, rw (turn (c .before .before .before .before .before), ← c .before .before .before .before .label-on .ensures, ne-eqb _ _ (c .before .if2 .left)) at (l .1))
+    rw (c .next-tr .ensures) (link _ _ .inside, rw (turn (c .before .before .before .before .before), ← c .before .before .before .before .inner-label .ensures, ne-eqb _ _ (c .before .if2 .left)) at (l .1))
 
 returns-3 : tie.Need-returns-3 Inv-loop μ-loop
 returns-3 c = rw (← c .before .loop .inv .1, with-end _ _ _ _ (c .loop-test .left))

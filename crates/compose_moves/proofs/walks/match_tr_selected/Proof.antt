@@ -19,11 +19,11 @@ abbrev μ-loop : tie.MeasureT-loop
 
 -- after a move is made: what is left is what it made, and then what the other matches make
 turn : (c : tie.After-pair-step Inv-loop μ-loop) →
-    let a = c .before .before .before .before .before .before .before .before .before .args in
+    let a = c .before .before .before .before .before .before .before .before .before .before .args in
     edgeMade (now (a .mw)) (a .walk) (a .t) (itemsLeft (now (a .mm)) (c .before .before .before .before .before .loop .left))
     ≡ madeMeans (c .pair-step .result) ++ edgeMade (now (a .mw)) (a .walk) (a .t) (itemsLeft (now (a .mm)) (c .before .before .step .given .0 .1 .0))
 turn c =
-    let a = c .before .before .before .before .before .before .before .before .before .args in
+    let a = c .before .before .before .before .before .before .before .before .before .before .args in
     made-turn (now (a .mw)) (now (a .mm)) (a .walk) (a .t) (c .before .before .before .before .before .loop .left) (c .before .before .step .given .0 .1 .0) (c .before .before .before .before .before .before .edge-item .result) (c .before .before .step .given .0 .0) (c .pair-step .result) (c .before .before .before .before .ask .result) (c .before .before .step .given .1) (c .before .before .before .before .ask .ensures) (c .before .before .before .before .before .before .edge-item .ensures) (c .pair-step .ensures)
 
 loop-holds : tie.Need-loop-holds Inv-loop μ-loop
@@ -31,23 +31,23 @@ loop-holds c = refl
 
 returns : tie.Need-returns Inv-loop μ-loop
 returns c =
-    let a = c .before .before .before .before .before .before .before .args in
+    let a = c .before .before .before .before .before .before .before .before .args in
     let empty = none-is (now (a .mm)) (itemsLeft (now (a .mm)) (c .before .before .before .loop .left)) _ (rw (c .enum-told .given .1) at (c .before .before .ask .ensures)) in
     λ am. edge-ends (now (a .mw)) (now (a .mm)) am (a .walk) (a .t) (a .matches) (sym (c .before .before .before .loop .inv) ∙ made-end (now (a .mw)) (a .walk) (a .t) (itemsLeft (now (a .mm)) (c .before .before .before .loop .left)) empty)
 
 returns-2 : tie.Need-returns-2 Inv-loop μ-loop
 returns-2 c =
-    let a = c .before .before .before .before .before .before .before .before .before .before .before .before .args in
+    let a = c .before .before .before .before .before .before .before .before .before .before .before .before .before .args in
     λ am. edge-gives (now (a .mw)) (now (a .mm)) am (a .walk) (a .t) (a .matches) (c .before .before .before .before .before .step .given .0 .1 .0) (composeTrMeans (c .before .made .given .0 .0)) (rw (c .before .made .given .1) at (sym (c .before .before .before .before .before .before .before .before .loop .inv) ∙ turn (c .before .before .before)))
 
 returns-3 : tie.Need-returns-3 Inv-loop μ-loop
 returns-3 c =
-    let a = c .before .before .before .before .before .before .before .before .before .before .before .before .args in
+    let a = c .before .before .before .before .before .before .before .before .before .before .before .before .before .args in
     λ am. edge-refuses (now (a .mw)) (now (a .mm)) am (a .walk) (a .t) (a .matches) (c .before .made2 .given .0 .0) _ (rw (c .before .made2 .given .1) at (sym (c .before .before .before .before .before .before .before .before .loop .inv) ∙ turn (c .before .before .before)))
 
 loop-less : tie.Need-loop-less Inv-loop μ-loop
 loop-less c =
-    let a = c .before .before .before .before .before .before .before .before .before .before .before .args in
+    let a = c .before .before .before .before .before .before .before .before .before .before .before .before .args in
     let e = ap length (found-is (now (a .mm)) (itemsLeft (now (a .mm)) (c .before .before .before .before .before .before .before .loop .left)) (c .before .before .before .before .step .given .0 .0) (c .before .before .before .before .step .given .0 .1 .0) (rw (c .before .before .before .before .step .given .1) at (c .before .before .before .before .before .before .ask .ensures))) in
     omega arith
 
@@ -60,6 +60,7 @@ match-tr-selected-spec =
     (tie.spec
     Inv-loop
     μ-loop
+    (λ c κs. search needs)
     (λ c κs. search needs)
     loop-holds
     (λ c κs. search needs)

@@ -1,12 +1,28 @@
--- Each field is read by its own function.
+-- By cases of the side: each field is read by its own function.
 use borrow.Author.Needs.{needs}
 use Rattle.fst.proofs.fst_traits.get_tr.Statement.{statement}
 use Rattle.fst.proofs.fst_traits.get_tr.Tie as tie
 
 returns : tie.Need-returns
-returns c = simp (c .before .before .before .label-on .ensures, c .before .before .label-on2 .ensures, c .before .tr-word .ensures, c .tr-word2 .ensures)
+returns c =
+    let p = c .before .before .before in
+    rw (p .before .before .inner-label .ensures, c .before .enum-told .given .1) (simp (c .label-on .ensures, p .before .tr-word .ensures, p .tr-word2 .ensures))
+
+returns-2 : tie.Need-returns-2
+returns-2 c =
+    let p = c .before .before .before in
+    rw (p .before .before .inner-label .ensures, c .before .enum-told2 .given .1) (simp (c .label-on2 .ensures, p .before .tr-word .ensures, p .tr-word2 .ensures))
 
 pub get-tr-spec : {M : Type 1} → statement M
 get-tr-spec =
     tie.close
-    (tie.spec (λ c κs. search needs) (λ c κs. search needs) (λ c κs. search needs) (λ c κs. search needs) returns)
+    (tie.spec
+    (λ c κs. search needs)
+    (λ c κs. search needs)
+    (λ c κs. search needs)
+    (λ c. search needs)
+    (λ c κs. search needs)
+    (λ c. search needs)
+    (λ c κs. search needs)
+    returns
+    returns-2)

@@ -11,7 +11,7 @@ returns c = simp (← c .before .next-tr .ensures, eq-eqb _ _ (c .if1 .taken))
 
 returns-2 : tie.Need-returns-2
 unfolding rises
-returns-2 c = simp (← c .before .before .before .before .before .next-tr .ensures, ← c .before .before .before .label-on .ensures, ← c .before .before .label-on2 .ensures, ne-eqb _ _ (c .before .before .before .before .if1 .left))
+returns-2 c = simp (← c .before .before .before .before .before .next-tr .ensures, ← c .before .before .before .inner-label .ensures, ← c .before .before .inner-label2 .ensures, ne-eqb _ _ (c .before .before .before .before .if1 .left))
 
 pub rises-spec : {M : Type 1} → statement M
 rises-spec =

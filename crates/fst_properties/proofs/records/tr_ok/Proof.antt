@@ -11,31 +11,31 @@ use Rattle.fst_properties.proofs.records.tr_ok.Statement.{statement}
 use Rattle.fst_properties.proofs.records.tr_ok.Tie as tie
 
 -- what the tests that were passed say
-input : (c : tie.Else1) → let a = c .before .before .before .before .args in ltb (trWord (now (a .m)) (a .t) 0) noLabel ≡ true
-input c = rw (← c .before .before .tr-word .ensures) (lt-ltb _ _ (c .if1 .left))
+input : (c : tie.Else1) → let a = c .before .before .before .before .before .args in ltb (trWord (now (a .m)) (a .t) 0) noLabel ≡ true
+input c = rw (← c .before .before .before .label-on .ensures) (lt-ltb _ _ (c .if1 .left))
 
-output : (c : tie.Else2) → let a = c .before .before .before .before .before .before .before .args in ltb (trWord (now (a .m)) (a .t) 1) noLabel ≡ true
-output c = rw (← c .before .before .tr-word2 .ensures) (lt-ltb _ _ (c .if2 .left))
+output : (c : tie.Else2) → let a = c .before .before .before .before .before .before .before .before .before .args in ltb (trWord (now (a .m)) (a .t) 1) noLabel ≡ true
+output c = rw (← c .before .before .before .label-on2 .ensures) (lt-ltb _ _ (c .if2 .left))
 
 returns : tie.Need-returns
 unfolding trOk
-returns c = rw (← c .before .before .tr-word .ensures, le-ltb _ _ (c .if1 .taken))
+returns c = rw (← c .before .before .before .label-on .ensures, le-ltb _ _ (c .if1 .taken))
 
 returns-2 : tie.Need-returns-2
 unfolding trOk
-returns-2 c = rw (input (c .before .before .before), ← c .before .before .tr-word2 .ensures, le-ltb _ _ (c .if2 .taken))
+returns-2 c = rw (input (c .before .before .before .before), ← c .before .before .before .label-on2 .ensures, le-ltb _ _ (c .if2 .taken))
 
 returns-3 : tie.Need-returns-3
 unfolding trOk
 returns-3 c =
     let p = c .before .before .before in
-    rw (input (p .before .before .before), output p, ← c .before .before .num-states .ensures, ← c .before .tr-word3 .ensures, le-ltb _ _ (c .if3 .taken))
+    rw (input (p .before .before .before .before), output p, ← c .before .before .num-states .ensures, ← c .before .tr-word .ensures, le-ltb _ _ (c .if3 .taken))
 
 returns-4 : tie.Need-returns-4
 unfolding trOk
 returns-4 c =
     let p = c .before .before .before .before in
-    rw (input (p .before .before .before), output p, ← c .before .before .before .num-states .ensures, ← c .before .before .tr-word3 .ensures, lt-ltb _ _ (c .before .if3 .left))
+    rw (input (p .before .before .before .before), output p, ← c .before .before .before .num-states .ensures, ← c .before .before .tr-word .ensures, lt-ltb _ _ (c .before .if3 .left))
     (c .next-ok .ensures)
 
 pub tr-ok-spec : {M : Type 1} → statement M

@@ -9,4 +9,4 @@ unfolding roomOf
 returns c = c .least .ensures
 
 pub state-room-spec : {M : Type 1} → statement M
-state-room-spec = tie.close (tie.spec (λ c κs. search needs) (λ c. search needs) returns)
+state-room-spec = tie.close (tie.spec (λ c. search needs) (λ c κs. search needs) (λ c. search needs) returns)

@@ -9,4 +9,4 @@ unfolding roomOf
 returns c = c .least .ensures
 
 pub tr-room-spec : {M : Type 1} → statement M
-tr-room-spec = tie.close (tie.spec (λ c κs. search needs) (λ c. search needs) returns)
+tr-room-spec = tie.close (tie.spec (λ c. search needs) (λ c κs. search needs) (λ c. search needs) returns)
