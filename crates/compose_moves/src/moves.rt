@@ -14,6 +14,7 @@ use compose_state_tuple::ComposeStateTuple;
 use fst::EPS_LABEL;
 use fst::Label;
 use fst::MatchType;
+use fst::REFUSED_TOO_LARGE;
 use fst::StateId;
 use fst::Tr;
 use matchers::IterItemMatcher;
@@ -97,7 +98,7 @@ fn add_tr(kind: u32, tr1: Tr, tr2: Tr, fs: u32) -> Made
             weight,
             tuple: ComposeStateTuple { fs, s1, s2 },
         }),
-        Product::TooLarge => Made::Refused(12),
+        Product::TooLarge => Made::Refused(REFUSED_TOO_LARGE),
     }
 }
 

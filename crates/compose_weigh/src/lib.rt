@@ -12,6 +12,7 @@ use compose_moves::NextStep;
 use compose_moves::next_step;
 use compose_state_tuple::ComposeStateTuple;
 use compose_state_tuple::same_tuple;
+use fst::REFUSED_NO_ROOM;
 use state_table::Found;
 use state_table::find_id;
 use store_records::Used;
@@ -136,13 +137,13 @@ fn weigh_from(
             NextStep::Refused(n) => return Weighed::Refused(n),
             NextStep::Step(tr, after) => {
                 if tr_room(trs) <= used.trs + count {
-                    return Weighed::Refused(13);
+                    return Weighed::Refused(REFUSED_NO_ROOM);
                 }
                 let to = tr.tuple;
                 let new = is_new(m1, m2, a1, a2, heads, states, w, exact, count, to);
                 let counted = count_state(new, state_room(states), grown);
                 let Counted::States(n) = counted else {
-                    return Weighed::Refused(13);
+                    return Weighed::Refused(REFUSED_NO_ROOM);
                 };
                 grown = n;
                 count += 1;

@@ -1,5 +1,6 @@
 // Labels, state numbers and transitions (lib.rs, tr.rs), and the reading of a machine's words (fst_traits/fst.rs).
 mod fst_traits;
+mod refusals;
 mod tr;
 
 pub use fst_traits::acceptor_mark;
@@ -20,6 +21,19 @@ pub use fst_traits::start_word;
 pub use fst_traits::state_word;
 pub use fst_traits::tr_word;
 pub use fst_traits::word;
+pub use refusals::REFUSED_BOTH_MATCH;
+pub use refusals::REFUSED_MACHINE_1;
+pub use refusals::REFUSED_MACHINE_2;
+pub use refusals::REFUSED_NO_ROOM;
+pub use refusals::REFUSED_NO_SIDE;
+pub use refusals::REFUSED_NOT_FOUND;
+pub use refusals::REFUSED_SESSION;
+pub use refusals::REFUSED_SETTINGS;
+pub use refusals::REFUSED_SIGMA_EPS;
+pub use refusals::REFUSED_TOO_LARGE;
+pub use refusals::REFUSED_UNSORTED_1;
+pub use refusals::REFUSED_UNSORTED_2;
+pub use refusals::REFUSED_WALKED_SIGMA;
 pub use tr::Tr;
 
 // A label. It cannot be given where a state number is asked.

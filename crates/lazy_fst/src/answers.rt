@@ -22,6 +22,7 @@ use compose_fst_op::FinalWeight;
 use compose_fst_op::compute_final_weight;
 use compose_run::Ran;
 use compose_store::Expanded;
+use fst::REFUSED_TOO_LARGE;
 use fst::StateId;
 use match_type::Side;
 use matchers::Sigma;
@@ -66,7 +67,7 @@ pub fn final_of(
     match weight {
         FinalWeight::Weight(w) => WeightAnswer::Weight(w, session),
         FinalWeight::NotFinal => WeightAnswer::NotFinal(session),
-        FinalWeight::TooLarge => WeightAnswer::Refused(12, session),
+        FinalWeight::TooLarge => WeightAnswer::Refused(REFUSED_TOO_LARGE, session),
     }
 }
 

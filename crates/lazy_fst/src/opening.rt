@@ -16,6 +16,7 @@ use crate::Answer;
 use crate::Session;
 use compose_fst_op::ComposeStart;
 use compose_fst_op::compute_start;
+use fst::REFUSED_NO_ROOM;
 use match_type::Side;
 use session_checks::Settings;
 use session_checks::side_number;
@@ -66,7 +67,7 @@ pub fn begin(
         }
         ComposeStart::At(tuple) => {
             if lacks_room(heads, states) {
-                return Answer::Refused(13, got);
+                return Answer::Refused(REFUSED_NO_ROOM, got);
             }
             clear_heads(heads);
             add_state(heads, states, 0, tuple);

@@ -14,6 +14,7 @@ use crate::answers::final_of;
 use crate::answers::options_of;
 use crate::answers::part_answer;
 use compose_run::expand_found;
+use fst::REFUSED_NOT_FOUND;
 use fst::StateId;
 use session_checks::side_of;
 use store_records::is_expanded;
@@ -48,7 +49,7 @@ impl Session {
     {
         let used = self.used;
         if used.states <= n.0 {
-            return PartAnswer::Refused(9, self);
+            return PartAnswer::Refused(REFUSED_NOT_FOUND, self);
         }
         let options = options_of(self.settings, listed, side_of(self.side));
         let expanded = expand_found(
@@ -92,7 +93,7 @@ impl Session {
     {
         let used = self.used;
         if used.states <= n.0 {
-            return WeightAnswer::Refused(9, self);
+            return WeightAnswer::Refused(REFUSED_NOT_FOUND, self);
         }
         let options = options_of(self.settings, listed, side_of(self.side));
         final_of(self, options, m1, m2, states, n)

@@ -12,6 +12,7 @@ ghost use Rattle.listing_read.specs.Meaning.{inputOf, roomsOf};
 ghost use Rattle.listing_read.specs.Held.{held, heldEnded};
 ghost use Rattle.listing_write.specs.Written.{Written};
 ghost use Rattle.lazy_fst.specs.Meaning.{lentWith};
+use fst::REFUSED_SETTINGS;
 use lazy_fst::Listed;
 use listing_read::Reader;
 use listing_read::line_words;
@@ -47,7 +48,7 @@ pub fn listing(
     ensures counts { λ r. ⌜ Counts r (now (out .exit)) ⌝ }
 {
     if words.len() != SETTINGS_WORDS {
-        return put_refused(out, 0, 1);
+        return put_refused(out, 0, REFUSED_SETTINGS);
     }
     let settings = read_settings(words);
     let mut heads = [0u32; HEADS];

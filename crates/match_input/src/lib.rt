@@ -10,6 +10,7 @@ ghost use Rattle.match_type.specs.Chosen.{sideMeans};
 ghost use Rattle.match_input.specs.Direction.{directionMeans};
 use fst::Label;
 use fst::MatchType;
+use fst::REFUSED_BOTH_MATCH;
 use fst::StateId;
 use fst::first_tr;
 use fst::next_tr;
@@ -53,7 +54,7 @@ fn by_states(
     let sigma_at_2 = has_sigma(m2, MatchType::MatchInput, sigma2, s2);
     if sigma_at_1 {
         if sigma_at_2 {
-            return Direction::Refused(10);
+            return Direction::Refused(REFUSED_BOTH_MATCH);
         }
         return Direction::Match(MatchType::MatchOutput);
     }

@@ -12,6 +12,10 @@ use fst::EPS_LABEL;
 use fst::Label;
 use fst::MatchType;
 use fst::NO_LABEL;
+use fst::REFUSED_NO_SIDE;
+use fst::REFUSED_SIGMA_EPS;
+use fst::REFUSED_UNSORTED_1;
+use fst::REFUSED_UNSORTED_2;
 use fst::inner_mark;
 use fst_properties::sorted;
 
@@ -71,7 +75,7 @@ fn side_by_lists(m1: &[u32], m2: &[u32]) -> Chosen
     if known_sorted(m2, MatchType::MatchInput) {
         return Chosen::By(Side::Only(MatchType::MatchInput));
     }
-    Chosen::Refused(7)
+    Chosen::Refused(REFUSED_NO_SIDE)
 }
 
 // By the marks; where none is 1, by the lists.
@@ -99,13 +103,13 @@ pub fn match_type(m1: &[u32], m2: &[u32], sigma1: Label, sigma2: Label) -> Chose
     ensures { λ r. ⌜ chosenMeans r ≡ sideOf (asOperand outputs (now (m1 .entry)) (sigma1 .0)) (asOperand inputs (now (m2 .entry)) (sigma2 .0)) ⌝ }
 {
     if has_eps(sigma1, sigma2) {
-        return Chosen::Refused(4);
+        return Chosen::Refused(REFUSED_SIGMA_EPS);
     }
     if lacks_order(m1, MatchType::MatchOutput, sigma1) {
-        return Chosen::Refused(5);
+        return Chosen::Refused(REFUSED_UNSORTED_1);
     }
     if lacks_order(m2, MatchType::MatchInput, sigma2) {
-        return Chosen::Refused(6);
+        return Chosen::Refused(REFUSED_UNSORTED_2);
     }
     side_by_marks(m1, m2)
 }

@@ -19,6 +19,7 @@ use fst::EPS_LABEL;
 use fst::Label;
 use fst::MatchType;
 use fst::NO_LABEL;
+use fst::REFUSED_WALKED_SIGMA;
 use fst::StateId;
 use fst::acceptor_mark;
 use fst::first_tr;
@@ -129,7 +130,7 @@ pub fn sigma_iter(
 {
     let named = sigma.label;
     if is_sigma(named, label) {
-        return SigmaIter::Refused(11);
+        return SigmaIter::Refused(REFUSED_WALKED_SIGMA);
     }
     let first = first_tr(m, s);
     let tr = seek(m, on, looked(label), first);

@@ -3,6 +3,7 @@ ghost use Prim.Native.Nat.{_/_, _<_, _≤_};
 ghost use lib.ListN.{length};
 ghost use Rattle.calls.specs.Store.{trSize};
 use compose_state_tuple::ComposeStateTuple;
+use fst::REFUSED_SETTINGS;
 use fst::StateId;
 use lazy_fst::Answer;
 use lazy_fst::Listed;
@@ -317,7 +318,7 @@ pub fn print_order(
 ) {
     let mut line = [0u8; 64];
     if words.len() != SETTINGS_WORDS {
-        print_refused(&mut line, 1);
+        print_refused(&mut line, REFUSED_SETTINGS);
         return;
     }
     let mut heads = [0u32; HEADS];

@@ -10,6 +10,7 @@ use answers::leave;
 use answers::leave_handed;
 use answers::leave_part;
 use answers::leave_weight;
+use fst::REFUSED_SETTINGS;
 use fst::StateId;
 use session_checks::SETTINGS_WORDS;
 use session_checks::read_settings;
@@ -38,10 +39,10 @@ pub extern "C" fn rinkolza_open(
     ensures { λ r. ⌜ leaves r (now (session .exit)) [] (memoryOf (now (heads .exit)) (now (states .exit)) (now (trs .exit))) ≡ openWords (now (settings .entry)) (lentWords (now (m1 .entry)) (now (m2 .entry)) (now (allowed1 .entry)) has1 (now (allowed2 .entry)) has2) (now (session .entry)) (memoryOf (now (heads .entry)) (now (states .entry)) (now (trs .entry))) ⌝ }
 {
     if settings.len() != SETTINGS_WORDS {
-        return 1;
+        return REFUSED_SETTINGS;
     }
     if session.len() != SESSION_WORDS {
-        return 1;
+        return REFUSED_SETTINGS;
     }
     let given = read_session(session);
     let wanted = read_settings(settings);
@@ -79,7 +80,7 @@ pub extern "C" fn rinkolza_expand(
     ensures { λ r. ⌜ leaves r (now (session .exit)) (now (answer .exit)) (memoryOf (now (heads .exit)) (now (states .exit)) (now (trs .exit))) ≡ expandWords (lentWords (now (m1 .entry)) (now (m2 .entry)) (now (allowed1 .entry)) has1 (now (allowed2 .entry)) has2) (now (session .entry)) (now (answer .entry)) (memoryOf (now (heads .entry)) (now (states .entry)) (now (trs .entry))) n ⌝ }
 {
     if !sized(session, answer) {
-        return 1;
+        return REFUSED_SETTINGS;
     }
     let given = read_session(session);
     let listed = listed_by(has1, has2);
@@ -116,7 +117,7 @@ pub extern "C" fn rinkolza_final_weight(
     ensures { λ r. ⌜ leaves r (now (session .entry)) (now (answer .exit)) (memoryOf (now (heads .entry)) (now (states .entry)) (now (trs .entry))) ≡ finalWeightWords (lentWords (now (m1 .entry)) (now (m2 .entry)) (now (allowed1 .entry)) has1 (now (allowed2 .entry)) has2) (now (session .entry)) (now (answer .entry)) (memoryOf (now (heads .entry)) (now (states .entry)) (now (trs .entry))) n ⌝ }
 {
     if !sized(session, answer) {
-        return 1;
+        return REFUSED_SETTINGS;
     }
     let given = read_session(session);
     let listed = listed_by(has1, has2);
@@ -151,7 +152,7 @@ pub extern "C" fn rinkolza_run(
     ensures { λ r. ⌜ leaves r (now (session .exit)) [] (memoryOf (now (heads .exit)) (now (states .exit)) (now (trs .exit))) ≡ runWords (lentWords (now (m1 .entry)) (now (m2 .entry)) (now (allowed1 .entry)) has1 (now (allowed2 .entry)) has2) (now (session .entry)) (memoryOf (now (heads .entry)) (now (states .entry)) (now (trs .entry))) ⌝ }
 {
     if session.len() != SESSION_WORDS {
-        return 1;
+        return REFUSED_SETTINGS;
     }
     let given = read_session(session);
     let listed = listed_by(has1, has2);

@@ -11,6 +11,10 @@ ghost use Rattle.store_records.specs.Meaning.{memoryOf};
 ghost use Rattle.session_checks.specs.Meaning.{settingsMeans, lentOf, sessionOf, enteredMeans, sideNumbered};
 use fst::Label;
 use fst::MatchType;
+use fst::REFUSED_MACHINE_1;
+use fst::REFUSED_MACHINE_2;
+use fst::REFUSED_SESSION;
+use fst::REFUSED_SETTINGS;
 use fst::num_states;
 use fst::word;
 use fst_properties::well_formed;
@@ -101,13 +105,13 @@ pub fn side_for(settings: Settings, m1: &[u32], m2: &[u32]) -> Chosen
     ensures { λ r. ⌜ ((allowed1 allowed2 : Option (List ℕ)) → chosenMeans r ≡ sideFor (settingsMeans settings) (lentOf (now (m1 .entry)) (now (m2 .entry)) allowed1 allowed2)) ⌝ }
 {
     if !settings_ok(settings) {
-        return Chosen::Refused(1);
+        return Chosen::Refused(REFUSED_SETTINGS);
     }
     if !well_formed(m1) {
-        return Chosen::Refused(2);
+        return Chosen::Refused(REFUSED_MACHINE_1);
     }
     if !well_formed(m2) {
-        return Chosen::Refused(3);
+        return Chosen::Refused(REFUSED_MACHINE_2);
     }
     let sigma1 = settings.sigma1;
     let sigma2 = settings.sigma2;
@@ -154,7 +158,7 @@ pub fn enter(
         Chosen::Refused(k) => Chosen::Refused(k),
         Chosen::By(rule) => {
             if !session_ok(rule, side, used, m1, m2, heads, states, trs) {
-                return Chosen::Refused(8);
+                return Chosen::Refused(REFUSED_SESSION);
             }
             Chosen::By(rule)
         }
