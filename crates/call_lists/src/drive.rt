@@ -12,7 +12,7 @@ use crate::lines::words_of;
 use crate::show;
 use fst::Label;
 use fst::StateId;
-use lazy_fst::Listed;
+use lazy_fst::AllowedLists;
 use lazy_fst::Session;
 use session_checks::Settings;
 use store_records::Used;
@@ -86,8 +86,8 @@ fn session_at(words: &[u32], at: u32) -> Session {
     }
 }
 
-fn listed(lending: Lending) -> Listed {
-    Listed {
+fn listed(lending: Lending) -> AllowedLists {
+    AllowedLists {
         first: lending.listed1,
         second: lending.listed2,
     }

@@ -1,4 +1,4 @@
--- The form of a closed case: what `composed` prints for three lines of words, or what a list of calls returns and leaves.
+-- The form of a closed case: what `composedLines` prints for three lines of words, or what a list of calls returns and leaves.
 use mathlib.Core.Path.{_≡_, sym, subst}
 use mathlib.Core.List.{List, [], _∷_, flatMap, List·Memᴰ as In, List·Memᴰ·not-nil, List·Memᴰ·cases-cons}
 use mathlib.Core.Logic.{⊎-elim}
@@ -18,7 +18,7 @@ use Rattle.calls.specs.Forms.{fits, headsOk, tripleOk, expandedOk, state
 use Rattle.calls.specs.Checks.{sideFor, sessionOk, entered, enteredAt}
 use Rattle.calls.specs.Calls.{cleared, begun, openOf, reach, storeStep, storeSteps, expansion, expandOf, finalWeightOf, runFrom, runOf, recordsOf}
 use Rattle.calls.specs.Sequences.{World, Call, Reply, callOf, replies, after}
-use Rattle.calls.specs.Listing.{Line, trLines, composed, listing}
+use Rattle.calls.specs.Listing.{Line, trLines, composedLines, listing}
 
 pub data Case : Type 0 where
   -- settings, machine 1, machine 2: the lines printed
@@ -28,7 +28,7 @@ pub data Case : Type 0 where
 
 -- The case holds. Its own `unfolding` line opens all that the calls are made of: a closed case names `Holds` alone.
 unfoldable pub Holds : Case → Type 0
-unfolding callOf replies after listing composed trLines recordsOf runOf runFrom finalWeightOf expandOf expansion storeSteps storeStep reach openOf begun cleared enteredAt entered sessionOk sideFor formOk trFormOk stateFormOk expandedOk tripleOk headsOk fits partAt mark append add find sameTriple chainOf headOf slot trNextAt targetAt trField nextAt firstAt expandedAt tripleAt stateField trRoom stateRoom roomOf put first linked settingsOk wellFormed sizeOk stateOk trOk marksOk acceptor collect startAt finalAt isZero times stepsAt stepOf given keptAt keptAlong flatMap walk lookup has sigmaTrs restMatches labelled keepIf sortedMatches noneAt allAt every directionAt sideOf sorted noFall interval sideMark acceptorMark stateCount trCount startWord stateWord trWord firstOk nextOk firstOf nextOf listBy listFrom listOf
+unfolding callOf replies after listing composedLines trLines recordsOf runOf runFrom finalWeightOf expandOf expansion storeSteps storeStep reach openOf begun cleared enteredAt entered sessionOk sideFor formOk trFormOk stateFormOk expandedOk tripleOk headsOk fits partAt mark append add find sameTriple chainOf headOf slot trNextAt targetAt trField nextAt firstAt expandedAt tripleAt stateField trRoom stateRoom roomOf put first linked settingsOk wellFormed sizeOk stateOk trOk marksOk acceptor collect startAt finalAt isZero times stepsAt stepOf given keptAt keptAlong flatMap walk lookup has sigmaTrs restMatches labelled keepIf sortedMatches noneAt allAt every directionAt sideOf sorted noFall interval sideMark acceptorMark stateCount trCount startWord stateWord trWord firstOk nextOk firstOf nextOf listBy listFrom listOf
 Holds (printing w m1 m2 wants) = listing w m1 m2 ≡ wants
 Holds (calling l w cs rs left) = (replies l w cs ≡ rs) × (after l w cs ≡ left)
 

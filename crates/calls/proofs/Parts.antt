@@ -12,7 +12,7 @@ use Rattle.lists.proofs.Members.{in-interval, of-interval}
 use Rattle.lists.proofs.Rising.{Rises, risen-same, risen-within, part-same}
 use Rattle.words.specs.Steps.{Step}
 use Rattle.calls.specs.Store.{Used, Store, trRoom, firstAt, trField, trNextAt, mark, Part, partAt}
-use Rattle.calls.specs.Calls.{newPart, wordsOf}
+use Rattle.calls.specs.Calls.{newPart, wordsOfPart}
 use Rattle.calls.proofs.RecordLaws.{room-words}
 use Rattle.calls.proofs.StoreForms.{Form}
 use Rattle.calls.proofs.FormKept.{mark-first}
@@ -39,7 +39,7 @@ module _ {S1 S2 : ℕ} (d e : Store) (form : Form S1 S2 d (d .used .trs)) (more 
   unfolding partAt
   part-within = let r = risen-within (trNextAt (d .memory .trs)) (d .used .trs) (d .used .trs) (firstAt (d .memory .states) n) rises (form .state n used .first) in omega (arith, r)
 
-  pub words-alike : d .used .trs ≤ trRoom (e .memory) → ((i : ℕ) → i < 5 * d .used .trs → getD (e .memory .trs) i 0 ≡ getD (d .memory .trs) i 0) → wordsOf (e .memory .trs) (partAt d n) ≡ wordsOf (d .memory .trs) (partAt d n)
+  pub words-alike : d .used .trs ≤ trRoom (e .memory) → ((i : ℕ) → i < 5 * d .used .trs → getD (e .memory .trs) i 0 ≡ getD (d .memory .trs) i 0) → wordsOfPart (e .memory .trs) (partAt d n) ≡ wordsOfPart (d .memory .trs) (partAt d n)
   unfolding trRoom
   words-alike room same =
       let a = room-words (e .memory .trs) (d .used .trs) room in

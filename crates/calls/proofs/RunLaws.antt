@@ -9,12 +9,12 @@ use Rattle.words.specs.Settings.{Lent}
 use Rattle.words.proofs.CheckedLaws.{good≢refused}
 use Rattle.calls.specs.Store.{Memory, stateRoom, expandedAt, Part}
 use Rattle.calls.specs.Checks.{Session, entered, enteredAt, Passes}
-use Rattle.calls.specs.Calls.{Outcome, Done, settle, expandBy, expandOf, onward, ended, runBy, runFrom, runAfter, runOf}
+use Rattle.calls.specs.Calls.{Outcome, Done, settle, expandBy, expandOf, onward, runEnded, runBy, runFrom, runAfter, runOf}
 use Rattle.calls.proofs.ExpandKept.{expand-kept}
 
 -- a run that does not check
 unfoldable pub runUnder : Composition → ℕ → ℕ → Session → Memory → Outcome (Unit {0})
-runUnder c zero n s m = ended s m
+runUnder c zero n s m = runEnded s m
 runUnder c (suc k) n s m =
     let o = settle s m (expandBy c s m n (eqb (expandedAt (m .states) n) 1)) in runBy (leb (s .used .states) n) s m o (runUnder c k (suc n))
 

@@ -109,17 +109,17 @@ onward (good p) s m go = go s m
 onward (refused n) s m go = record { answer = refused n; session = s; memory = m }
 
 -- none is left
-abbrev pub ended : Session → Memory → Outcome (Unit {0})
-ended s m = settle s m (good (unchanged s m tt))
+abbrev pub runEnded : Session → Memory → Outcome (Unit {0})
+runEnded s m = settle s m (good (unchanged s m tt))
 
 -- state n and those after it, or none is left
 abbrev pub runBy : Bool → Session → Memory → Outcome Part → (Session → Memory → Outcome (Unit {0})) → Outcome (Unit {0})
-runBy true s m o go = ended s m
+runBy true s m o go = runEnded s m
 runBy false s m o go = onward (o .answer) (o .session) (o .memory) go
 
 -- "expand in number order until none is left or one is refused; each expansion before it stays": from state n on, at most k states
 unfoldable pub runFrom : Lent → ℕ → ℕ → Session → Memory → Outcome (Unit {0})
-runFrom l zero n s m = ended s m
+runFrom l zero n s m = runEnded s m
 runFrom l (suc k) n s m = let o = expandOf l s m n in runBy (leb (s .used .states) n) s m o (runFrom l k (suc n))
 
 -- "Later calls check 1 to 9 (run has no 9)". No more states are found than there is room for.
@@ -131,8 +131,8 @@ unfoldable pub runOf : Lent → Session → Memory → Outcome (Unit {0})
 runOf l s m = runAfter (entered l s m) l s m
 
 -- a state's records as a part of the transition slice
-abbrev pub wordsOf : List ℕ → Part → List ℕ
-wordsOf trs p = take (trSize * p .count) (drop (trSize * (p .first - 1)) trs)
+abbrev pub wordsOfPart : List ℕ → Part → List ℕ
+wordsOfPart trs p = take (trSize * p .count) (drop (trSize * (p .first - 1)) trs)
 
 -- "as that part of the lent slice": the word of the slice at which the part begins
 abbrev pub placeOf : List ℕ → Part → ℕ
@@ -141,7 +141,7 @@ placeOf trs p = min (trSize * (p .first - 1)) (length trs)
 -- "the state's records are handed back as that part of the lent slice, an empty part where n is not expanded or 1 to 9 would stand; that call returns the part alone"
 abbrev pub recordsBy : Checked Composition → Store → ℕ → List ℕ
 recordsBy (refused k) d n = []
-recordsBy (good c) d n = cond (eqb (expandedAt (d .memory .states) n) 1) (wordsOf (d .memory .trs) (partAt d n)) []
+recordsBy (good c) d n = cond (eqb (expandedAt (d .memory .states) n) 1) (wordsOfPart (d .memory .trs) (partAt d n)) []
 
 unfoldable pub recordsOf : Lent → Session → Memory → ℕ → List ℕ
 recordsOf l s m n = recordsBy (enteredAt l s m n) (storeOf s m) n

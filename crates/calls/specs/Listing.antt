@@ -1,4 +1,4 @@
--- 01, "The listing": what `composed` prints, from the words of its three lines.
+-- 01, "The listing": what `composedLines` prints, from the words of its three lines.
 use mathlib.Core.Bool.{cond}
 use mathlib.Core.List.{List, [], _∷_, _++_, map, flatMap}
 use mathlib.Core.Option.{Option, none}
@@ -37,8 +37,8 @@ abbrev pub machineLine : List ℕ → List ℕ
 machineLine m = cond (leb (length m) machineMost) m []
 
 -- "both machines as decimal words, one line each, without allowed lists"
-abbrev pub lentOf : List ℕ → List ℕ → Lent
-lentOf m1 m2 = record { m1 = machineLine m1; m2 = machineLine m2; allowed1 = none; allowed2 = none }
+abbrev pub lentLines : List ℕ → List ℕ → Lent
+lentLines m1 m2 = record { m1 = machineLine m1; m2 = machineLine m2; allowed1 = none; allowed2 = none }
 
 -- "room is 1024 records of each sort and 64 heads"
 abbrev pub emptyMemory : Memory
@@ -71,8 +71,8 @@ abbrev pub listed : Lent → Session → Memory → Checked (List Line)
 listed l s m = andThen (statesListed l s m) (λ ls. good (sideLine (s .side) ∷ joined ls ++ (endLine (s .used .states) (s .used .trs) ∷ [])))
 
 -- "It opens, runs, then takes final weights in number order"
-unfoldable pub composed : Settings → Lent → Checked (List Line)
-composed s l =
+unfoldable pub composedLines : Settings → Lent → Checked (List Line)
+composedLines s l =
     let o = openOf s l (noSession s) emptyMemory in
     let r = runOf l (o .session) (o .memory) in
     andThen (o .answer) (λ u. andThen (r .answer) (λ v. listed l (r .session) (r .memory)))
@@ -84,8 +84,8 @@ printed (refused n) = refusedLine n ∷ []
 
 -- "a settings line not of six such words is refused 1"; a line that is not of decimal words up to MAX counts as one without words. With any machines and allowed lists lent.
 abbrev pub listingOn : List ℕ → Lent → List Line
-listingOn w l = printed (cond (eqb (length w) settingsSize) (composed (settingsOf w) l) (refused 1))
+listingOn w l = printed (cond (eqb (length w) settingsSize) (composedLines (settingsOf w) l) (refused 1))
 
--- "`composed` reads settings .. and both machines as decimal words, one line each, without allowed lists"
+-- "`composedLines` reads settings .. and both machines as decimal words, one line each, without allowed lists"
 unfoldable pub listing : List ℕ → List ℕ → List ℕ → List Line
-listing w m1 m2 = listingOn w (lentOf m1 m2)
+listing w m1 m2 = listingOn w (lentLines m1 m2)

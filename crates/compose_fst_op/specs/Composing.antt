@@ -15,8 +15,8 @@ use Rattle.compose_fst_op.specs.declared.start.ComposeStart.{ComposeStar
 use Rattle.compose_fst_op.specs.declared.start.ComposeStart.the-variants.{At, Missing}
 
 -- "settings (kind, filter, sigma 1, mode 1, sigma 2, mode 2)"
-abbrev pub settingsOf : ComposeFstOpOptions → Settings
-settingsOf o = record {
+abbrev pub optionSettings : ComposeFstOpOptions → Settings
+optionSettings o = record {
   kind = o .kind;
   filter = o .filter;
   sigma1 = o .sigma1 .label .0;
@@ -31,12 +31,12 @@ lentOf o m1 m2 a1 a2 = record { m1 = m1; m2 = m2; allowed1 = allowedOf (o .sigma
 
 -- the composition of the two machines
 abbrev pub composing : ComposeFstOpOptions → (m1 m2 a1 a2 : List ℕ) → Composition
-composing o m1 m2 a1 a2 = compositionOf (settingsOf o) (lentOf o m1 m2 a1 a2) (sideMeans (o .side))
+composing o m1 m2 a1 a2 = compositionOf (optionSettings o) (lentOf o m1 m2 a1 a2) (sideMeans (o .side))
 
 -- "state 0, if both machines have a start"
-abbrev pub startMeans : ComposeStart → Option Triple
-startMeans (At t) = some (tupleMeans t)
-startMeans Missing = none
+abbrev pub composeStartMeans : ComposeStart → Option Triple
+composeStartMeans (At t) = some (tupleMeans t)
+composeStartMeans Missing = none
 
 -- the final weight; none: not final; refusal 12: "weight too large"
 abbrev pub finalMeans : FinalWeight → Checked (Option ℕ)

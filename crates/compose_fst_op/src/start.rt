@@ -2,7 +2,7 @@
 ghost use mathlib.Core.Path.{_≡_};
 ghost use Rattle.words.specs.Machines.{machineOf};
 ghost use Rattle.words.specs.Steps.{startOf};
-ghost use Rattle.compose_fst_op.specs.Composing.{startMeans};
+ghost use Rattle.compose_fst_op.specs.Composing.{composeStartMeans};
 use compose_state_tuple::ComposeStateTuple;
 use fst::StartState;
 use fst::start;
@@ -14,7 +14,7 @@ pub enum ComposeStart {
 }
 
 pub fn compute_start(m1: &[u32], m2: &[u32]) -> ComposeStart
-    ensures { λ r. ⌜ startMeans r ≡ startOf (machineOf (now (m1 .entry)) .start) (machineOf (now (m2 .entry)) .start) ⌝ }
+    ensures { λ r. ⌜ composeStartMeans r ≡ startOf (machineOf (now (m1 .entry)) .start) (machineOf (now (m2 .entry)) .start) ⌝ }
 {
     let start1 = start(m1);
     let start2 = start(m2);

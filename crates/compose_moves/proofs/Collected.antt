@@ -13,7 +13,7 @@ use Rattle.words.specs.Sides.{Side}
 use Rattle.words.specs.Steps.{Triple, Step, stepsAt}
 use Rattle.compose_moves.specs.Moves.{composeTrMeans}
 use Rattle.compose_moves.specs.Walks.{Asked, gives, ends, refuses, asked}
-use Rattle.compose_moves.specs.Cursors.{stepsLeft, startMeans, Answers, collected, collectedFrom}
+use Rattle.compose_moves.specs.Cursors.{stepsLeft, movesStartMeans, Answers, collected, collectedFrom}
 use Rattle.compose_moves.specs.declared.MoveCursor.{MoveCursor}
 use Rattle.compose_moves.specs.declared.MovesStart.{MovesStart}
 use Rattle.compose_moves.specs.declared.MovesStart.the-variants.{At, Refused as NoStart}
@@ -64,7 +64,7 @@ module _ (s : Settings) (l : Lent) (next : MoveCursor → NextStep) (answers : (
       go (Refused n) e more = rw (e, asked-refuses (stepsLeft s l c) n (rw e at (answers c)))
 
   -- From the start on: all composed transitions of the state in 01's order, or its first refusal. r is what `moves_start` answered: the premise is its contract.
-  pub from-start : (side : Side) (t : Triple) (r : MovesStart) → startMeans s l r ≡ stepsAt (compositionOf s l side) t → (k : ℕ) → length (stepsAt (compositionOf s l side) t) < k
+  pub from-start : (side : Side) (t : Triple) (r : MovesStart) → movesStartMeans s l r ≡ stepsAt (compositionOf s l side) t → (k : ℕ) → length (stepsAt (compositionOf s l side) t) < k
       → collectedFrom next k r ≡ some (collect (stepsAt (compositionOf s l side) t))
   unfolding collect
   from-start side t (At c) e k h = rw (← e) (all-collected k c (rw (← e) at h))

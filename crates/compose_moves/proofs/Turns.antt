@@ -14,7 +14,7 @@ use Rattle.fst.specs.declared.MatchType.the-variants.{MatchInput, MatchOutput}
 use Rattle.matchers.specs.declared.Cursor.{Cursor}
 use Rattle.matchers.specs.Meaning.{Item, lookupItems}
 use Rattle.matchers.specs.Cursors.{itemsLeft}
-use Rattle.compose_fst_op.specs.Composing.{settingsOf, lentOf}
+use Rattle.compose_fst_op.specs.Composing.{optionSettings, lentOf}
 use Rattle.compose_moves.specs.Walks.{Walk, walkMeans, walkedState, lookedState, walkedSide, nextEdge, trSteps, trsSteps, walkLeft, Asked, ends, refuses, asked, isDone, alongMeans}
 use Rattle.compose_moves.specs.Cursors.{walkIn, presentIn, stepsLeft, nextMeans, fixedBy, resumed}
 use Rattle.compose_moves.proofs.Edges.{after-taken}
@@ -77,7 +77,7 @@ resumed-is s l c (Refused n) = refl
 -- direction input walks machine 1, direction output machine 2
 module _ (o : ComposeFstOpOptions) (m1 m2 a1 a2 : List ℕ) (c : MoveCursor) where
   abbrev cursorWalk : Walk
-  cursorWalk = walkIn (settingsOf o) (lentOf o m1 m2 a1 a2) (presentIn (settingsOf o) c) (onOf (c .on))
+  cursorWalk = walkIn (optionSettings o) (lentOf o m1 m2 a1 a2) (presentIn (optionSettings o) c) (onOf (c .on))
 
   walk-input : c .on ≡ MatchInput → walkMeans (fixedBy o (o .sigma2) c) m1 m2 a2 ≡ cursorWalk
   walk-input e = rw e
@@ -89,14 +89,14 @@ module _ (o : ComposeFstOpOptions) (m1 m2 a1 a2 : List ℕ) (c : MoveCursor) whe
   Answers W a = alongMeans W ends a ≡ asked (walkLeft W (c .walked) (c .matches))
 
   answer : (W : Walk) (a : Along) → W ≡ cursorWalk → Answers W a
-      → nextMeans (settingsOf o) (lentOf o m1 m2 a1 a2) (resumed c a) ≡ asked (stepsLeft (settingsOf o) (lentOf o m1 m2 a1 a2) c)
+      → nextMeans (optionSettings o) (lentOf o m1 m2 a1 a2) (resumed c a) ≡ asked (stepsLeft (optionSettings o) (lentOf o m1 m2 a1 a2) c)
   unfolding stepsLeft
-  answer W a e h = rw (resumed-is (settingsOf o) (lentOf o m1 m2 a1 a2) c a) (rw e at h)
+  answer W a e h = rw (resumed-is (optionSettings o) (lentOf o m1 m2 a1 a2) c a) (rw e at h)
 
   pub answer-input : (a : Along) → c .on ≡ MatchInput → Answers (walkMeans (fixedBy o (o .sigma2) c) m1 m2 a2) a
-      → nextMeans (settingsOf o) (lentOf o m1 m2 a1 a2) (resumed c a) ≡ asked (stepsLeft (settingsOf o) (lentOf o m1 m2 a1 a2) c)
+      → nextMeans (optionSettings o) (lentOf o m1 m2 a1 a2) (resumed c a) ≡ asked (stepsLeft (optionSettings o) (lentOf o m1 m2 a1 a2) c)
   answer-input a e h = answer (walkMeans (fixedBy o (o .sigma2) c) m1 m2 a2) a (walk-input e) h
 
   pub answer-output : (a : Along) → c .on ≡ MatchOutput → Answers (walkMeans (fixedBy o (o .sigma1) c) m2 m1 a1) a
-      → nextMeans (settingsOf o) (lentOf o m1 m2 a1 a2) (resumed c a) ≡ asked (stepsLeft (settingsOf o) (lentOf o m1 m2 a1 a2) c)
+      → nextMeans (optionSettings o) (lentOf o m1 m2 a1 a2) (resumed c a) ≡ asked (stepsLeft (optionSettings o) (lentOf o m1 m2 a1 a2) c)
   answer-output a e h = answer (walkMeans (fixedBy o (o .sigma1) c) m2 m1 a1) a (walk-output e) h

@@ -40,9 +40,9 @@ unfoldable pub stepsLeft : Settings → Lent → MoveCursor → List (Checked St
 stepsLeft s l c = walkLeft (walkIn s l (presentIn s c) (onOf (c .on))) (c .walked) (c .matches)
 
 -- the start's answer: what the cursor will give, or refusal 10 alone
-abbrev pub startMeans : Settings → Lent → MovesStart → List (Checked Step)
-startMeans s l (At c) = stepsLeft s l c
-startMeans s l (NoStart n) = refused n ∷ []
+abbrev pub movesStartMeans : Settings → Lent → MovesStart → List (Checked Step)
+movesStartMeans s l (At c) = stepsLeft s l c
+movesStartMeans s l (NoStart n) = refused n ∷ []
 
 -- the answer to one asking, by its number in the table of "Answers" where it is a refusal
 abbrev pub nextMeans : Settings → Lent → NextStep → Asked

@@ -11,9 +11,9 @@ ghost use Rattle.fst.specs.Meaning.{onOf};
 ghost use Rattle.compose_state_tuple.specs.Meaning.{tupleMeans};
 ghost use Rattle.matchers.specs.Meaning.{sortedItems};
 ghost use Rattle.matchers.specs.Cursors.{itemsLeft};
-ghost use Rattle.compose_fst_op.specs.Composing.{settingsOf, lentOf, composing};
+ghost use Rattle.compose_fst_op.specs.Composing.{optionSettings, lentOf, composing};
 ghost use Rattle.compose_moves.specs.Walks.{lookedState, lookedWords, asked};
-ghost use Rattle.compose_moves.specs.Cursors.{fixedBy, resumed, stepsLeft, startMeans, nextMeans};
+ghost use Rattle.compose_moves.specs.Cursors.{fixedBy, resumed, stepsLeft, movesStartMeans, nextMeans};
 use compose_filters::Facts;
 use compose_filters::facts_at;
 use compose_fst_op::ComposeFstOpOptions;
@@ -58,7 +58,10 @@ pub enum NextStep {
 
 // The matches of a walked machine that rests: the epsilon transitions of the other.
 fn rest_matches(m1: &[u32], m2: &[u32], on: MatchType, tuple: ComposeStateTuple) -> Cursor
-    ensures { λ r. ⌜ itemsLeft (lookedWords (onOf on) (now (m1 .entry)) (now (m2 .entry))) r ≡ sortedItems (onOf on) (lookedWords (onOf on) (now (m1 .entry)) (now (m2 .entry))) (lookedState (onOf on) (tupleMeans tuple)) noLabel ⌝ }
+    ensures { λ r. ⌜ (
+        let words = lookedWords (onOf on) (now (m1 .entry)) (now (m2 .entry)) in
+        itemsLeft words r ≡ sortedItems (onOf on) words (lookedState (onOf on) (tupleMeans tuple)) noLabel
+        ) ⌝ }
 {
     let s1 = tuple.s1;
     let s2 = tuple.s2;
@@ -75,7 +78,12 @@ pub fn moves_start(
     options: ComposeFstOpOptions,
     tuple: ComposeStateTuple,
 ) -> MovesStart
-    ensures { λ r. ⌜ ((a1 a2 : List ℕ) → startMeans (settingsOf options) (lentOf options (now (m1 .entry)) (now (m2 .entry)) a1 a2) r ≡ stepsAt (composing options (now (m1 .entry)) (now (m2 .entry)) a1 a2) (tupleMeans tuple)) ⌝ }
+    ensures { λ r. ⌜ (
+        (a1 a2 : List ℕ) →
+        let l = lentOf options (now (m1 .entry)) (now (m2 .entry)) a1 a2 in
+        let c = composing options (now (m1 .entry)) (now (m2 .entry)) a1 a2 in
+        movesStartMeans (optionSettings options) l r ≡ stepsAt c (tupleMeans tuple)
+        ) ⌝ }
 {
     let side = options.side;
     let sigma1 = options.sigma1;
@@ -149,7 +157,10 @@ pub fn next_step(
     options: ComposeFstOpOptions,
     cursor: MoveCursor,
 ) -> NextStep
-    ensures { λ r. ⌜ nextMeans (settingsOf options) (lentOf options (now (m1 .entry)) (now (m2 .entry)) (now (a1 .entry)) (now (a2 .entry))) r ≡ asked (stepsLeft (settingsOf options) (lentOf options (now (m1 .entry)) (now (m2 .entry)) (now (a1 .entry)) (now (a2 .entry))) cursor) ⌝ }
+    ensures { λ r. ⌜ (
+        let l = lentOf options (now (m1 .entry)) (now (m2 .entry)) (now (a1 .entry)) (now (a2 .entry)) in
+        nextMeans (optionSettings options) l r ≡ asked (stepsLeft (optionSettings options) l cursor)
+        ) ⌝ }
 {
     let on = cursor.on;
     let matches = cursor.matches;

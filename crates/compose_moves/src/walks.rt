@@ -91,7 +91,11 @@ fn is_done(along: Along) -> bool
 
 // The next transition that the walked edge t makes with the matches left of it; Done: it makes no more.
 fn match_tr_selected(mw: &[u32], mm: &[u32], walk: Walk, t: u32, matches: Cursor) -> Along
-    ensures { λ r. ⌜ ((am : List ℕ) → edgeAnswer (walkMeans walk (now (mw .entry)) (now (mm .entry)) am) t r ≡ asked (walkLeft (walkMeans walk (now (mw .entry)) (now (mm .entry)) am) t matches)) ⌝ }
+    ensures { λ r. ⌜ (
+        (am : List ℕ) →
+        let w = walkMeans walk (now (mw .entry)) (now (mm .entry)) am in
+        edgeAnswer w t r ≡ asked (walkLeft w t matches)
+        ) ⌝ }
 {
     let on = walk.on;
     let edge = edge_item(mw, walked_side(on), t);
@@ -118,7 +122,10 @@ fn match_tr_selected(mw: &[u32], mm: &[u32], walk: Walk, t: u32, matches: Cursor
 
 // The same for transition t of the walked list, with all its matches, or refusal 11.
 fn match_tr(mw: &[u32], mm: &[u32], am: &[u32], walk: Walk, t: u32) -> Along
-    ensures { λ r. ⌜ edgeAnswer (walkMeans walk (now (mw .entry)) (now (mm .entry)) (now (am .entry))) t r ≡ asked (fromTr (walkMeans walk (now (mw .entry)) (now (mm .entry)) (now (am .entry))) t) ⌝ }
+    ensures { λ r. ⌜ (
+        let w = walkMeans walk (now (mw .entry)) (now (mm .entry)) (now (am .entry)) in
+        edgeAnswer w t r ≡ asked (fromTr w t)
+        ) ⌝ }
 {
     let on = walk.on;
     let tuple = walk.tuple;
@@ -140,7 +147,10 @@ pub fn ordered_expand(
     walked: u32,
     matches: Cursor,
 ) -> Along
-    ensures { λ r. ⌜ alongMeans (walkMeans walk (now (mw .entry)) (now (mm .entry)) (now (am .entry))) ends r ≡ asked (walkLeft (walkMeans walk (now (mw .entry)) (now (mm .entry)) (now (am .entry))) walked matches) ⌝ }
+    ensures { λ r. ⌜ (
+        let w = walkMeans walk (now (mw .entry)) (now (mm .entry)) (now (am .entry)) in
+        alongMeans w ends r ≡ asked (walkLeft w walked matches)
+        ) ⌝ }
 {
     let on = walk.on;
     let tuple = walk.tuple;

@@ -12,12 +12,12 @@ use Rattle.words.specs.Steps.{Composition}
 use Rattle.words.proofs.CheckedLaws.{good≢refused, refused-is}
 use Rattle.calls.specs.Store.{Memory, expandedAt, Part, partAt}
 use Rattle.calls.specs.Checks.{Session, storeOf, entered}
-use Rattle.calls.specs.Calls.{Outcome, settle, expansion, expandOf, onward, ended, runFrom}
+use Rattle.calls.specs.Calls.{Outcome, settle, expansion, expandOf, onward, runEnded, runFrom}
 use Rattle.calls.proofs.RunLaws.{expand-under}
 use Rattle.calls.proofs.ExpandKept.{expand-kept}
 use Rattle.store_records.specs.declared.Used.{Used}
 use Rattle.compose_fst_op.specs.declared.ComposeFstOpOptions.{ComposeFstOpOptions}
-use Rattle.compose_store.specs.Meaning.{sessionOf}
+use Rattle.compose_store.specs.Meaning.{sessionUnder}
 use Rattle.compose_run.specs.declared.Ran.{Ran}
 use Rattle.compose_run.specs.declared.Ran.the-variants.{Done, Refused}
 use Rattle.compose_run.specs.Meaning.{ranLeft, turned, turnOf}
@@ -42,12 +42,12 @@ module _ (l : Lent) where
   expand-new s m n c e found h = rw (expand-under l s m n c e (lt-leb _ _ found), h)
 
   -- none is left
-  pub run-ends : (k n : ℕ) (s : Session) (m : Memory) (v : Outcome (Unit {0})) → 0 < k → s .used .states ≤ n → runFrom l k n s m ≡ v → ended s m ≡ v
+  pub run-ends : (k n : ℕ) (s : Session) (m : Memory) (v : Outcome (Unit {0})) → 0 < k → s .used .states ≤ n → runFrom l k n s m ≡ v → runEnded s m ≡ v
   unfolding runFrom
   run-ends zero n s m v h b e = absurd (omega arith)
   run-ends (suc k) n s m v h b e = rw (le-leb _ _ b) at e
 
-  pub run-over : (k n : ℕ) (s : Session) (m : Memory) (v : Outcome (Unit {0})) → k ≡ 0 → runFrom l k n s m ≡ v → ended s m ≡ v
+  pub run-over : (k n : ℕ) (s : Session) (m : Memory) (v : Outcome (Unit {0})) → k ≡ 0 → runFrom l k n s m ≡ v → runEnded s m ≡ v
   unfolding runFrom
   run-over zero n s m v h e = e
   run-over (suc k) n s m v h e = absurd (omega arith)
@@ -70,33 +70,33 @@ module _ (l : Lent) where
       → o ≡ settle s m (expansion c s m n) → turnOf o ≡ turnOf (expandOf l s m n)
   turn-new s m n c o e found h q = ap turnOf (q ∙ expand-new s m n c e found h)
 
-  module _ (o : ComposeFstOpOptions) (u : Used) (m : Memory) (n : ℕ) (r : Ran) (m′ : Memory) (q : ranLeft o m′ r ≡ turnOf (expandOf l (sessionOf o u) m n)) where
+  module _ (o : ComposeFstOpOptions) (u : Used) (m : Memory) (n : ℕ) (r : Ran) (m′ : Memory) (q : ranLeft o m′ r ≡ turnOf (expandOf l (sessionUnder o u) m n)) where
     abbrev next : Outcome Part
-    next = expandOf l (sessionOf o u) m n
+    next = expandOf l (sessionUnder o u) m n
 
     -- an accepted turn leaves what the expansion leaves
     same : (u′ : Used) → r ≡ Done u′ → ranLeft o m′ (Done u′) ≡ turnOf next
     same u′ h = ap (ranLeft o m′) (sym h) ∙ q
 
     -- the checks 1 to 8 pass again after an accepted expansion
-    pub new-kept : (c : Composition) (u′ : Used) → entered l (sessionOf o u) m ≡ good c → r ≡ Done u′ → entered l (sessionOf o u′) m′ ≡ good c
+    pub new-kept : (c : Composition) (u′ : Used) → entered l (sessionUnder o u) m ≡ good c → r ≡ Done u′ → entered l (sessionUnder o u′) m′ ≡ good c
     new-kept c u′ e h =
         let t = same u′ h in
         let p = accepted (next .answer) (ap (λ (x : Outcome (Unit {0})). x .answer) t) in
-        subst (λ (x : Outcome (Unit {0})). entered l (x .session) (x .memory) ≡ good c) (sym t) (expand-kept l (sessionOf o u) m n c (p .0) e (p .1))
+        subst (λ (x : Outcome (Unit {0})). entered l (x .session) (x .memory) ≡ good c) (sym t) (expand-kept l (sessionUnder o u) m n c (p .0) e (p .1))
 
-    module _ (k : ℕ) (v : Outcome (Unit {0})) (some : 0 < k) (found : n < u .states) (whole : runFrom l k n (sessionOf o u) m ≡ v) where
+    module _ (k : ℕ) (v : Outcome (Unit {0})) (some : 0 < k) (found : n < u .states) (whole : runFrom l k n (sessionUnder o u) m ≡ v) where
       turned-on : onward (next .answer) (next .session) (next .memory) (runFrom l (k - 1) (n + 1)) ≡ v
-      turned-on = run-turn k n (sessionOf o u) m next v some (lt-leb _ _ found) refl whole
+      turned-on = run-turn k n (sessionUnder o u) m next v some (lt-leb _ _ found) refl whole
 
-      pub new-turn : (u′ : Used) → r ≡ Done u′ → runFrom l (k - 1) (n + 1) (sessionOf o u′) m′ ≡ v
+      pub new-turn : (u′ : Used) → r ≡ Done u′ → runFrom l (k - 1) (n + 1) (sessionUnder o u′) m′ ≡ v
       new-turn u′ h =
           let t = same u′ h in
           let p = accepted (next .answer) (ap (λ (x : Outcome (Unit {0})). x .answer) t) in
           subst (λ (x : Outcome (Unit {0})). runFrom l (k - 1) (n + 1) (x .session) (x .memory) ≡ v) (sym t) (rw (p .1) at turned-on)
 
       -- a refused expansion ends the run, and what was expanded before it stays
-      pub refused-turn : (j : ℕ) (kept : Used) → r ≡ Refused j kept → record { answer = refused j; session = sessionOf o kept; memory = m′ } ≡ v
+      pub refused-turn : (j : ℕ) (kept : Used) → r ≡ Refused j kept → record { answer = refused j; session = sessionUnder o kept; memory = m′ } ≡ v
       refused-turn j kept h =
           let t = ap (ranLeft o m′) (sym h) ∙ q in
           let p = stopped (next .answer) j (ap (λ (x : Outcome (Unit {0})). x .answer) t) in

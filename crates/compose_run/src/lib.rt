@@ -7,10 +7,10 @@ ghost use Rattle.calls.specs.Checks.{entered};
 ghost use Rattle.calls.specs.Calls.{expandOf, runFrom};
 ghost use Rattle.compose_fst_op.specs.Composing.{lentOf, composing};
 ghost use Rattle.store_records.specs.Meaning.{memoryOf};
-ghost use Rattle.compose_store.specs.Meaning.{sessionOf, leftBy};
+ghost use Rattle.compose_store.specs.Meaning.{sessionUnder, leftBy};
 ghost use Rattle.compose_run.specs.Meaning.{ranLeft, turnOf};
 use compose_fst_op::ComposeFstOpOptions;
-use compose_store::Expanded;
+use compose_store::Expansion;
 use compose_store::expand_state;
 use fst::StateId;
 use store_records::Used;
@@ -36,12 +36,22 @@ pub fn expand_found(
     trs: &mut [u32],
     used: Used,
     n: StateId,
-) -> Expanded
-    requires { ⌜ (entered (lentOf options (now m1) (now m2) (now a1) (now a2)) (sessionOf options used) (memoryOf (now heads) (now states) (now trs)) ≡ good (composing options (now m1) (now m2) (now a1) (now a2))) × (n .0 < used .states) ⌝ }
-    ensures { λ r. ⌜ leftBy options used (memoryOf (now (heads .exit)) (now (states .exit)) (now (trs .exit))) r ≡ expandOf (lentOf options (now (m1 .entry)) (now (m2 .entry)) (now (a1 .entry)) (now (a2 .entry))) (sessionOf options used) (memoryOf (now (heads .entry)) (now (states .entry)) (now (trs .entry))) (n .0) ⌝ }
+) -> Expansion
+    requires { ⌜ (
+        let l = lentOf options (now m1) (now m2) (now a1) (now a2) in
+        let m = memoryOf (now heads) (now states) (now trs) in
+        let c = composing options (now m1) (now m2) (now a1) (now a2) in
+        (entered l (sessionUnder options used) m ≡ good c) × (n .0 < used .states)
+        ) ⌝ }
+    ensures { λ r. ⌜ (
+        let l = lentOf options (now (m1 .entry)) (now (m2 .entry)) (now (a1 .entry)) (now (a2 .entry)) in
+        let m = memoryOf (now (heads .entry)) (now (states .entry)) (now (trs .entry)) in
+        let m′ = memoryOf (now (heads .exit)) (now (states .exit)) (now (trs .exit)) in
+        leftBy options used m′ r ≡ expandOf l (sessionUnder options used) m (n .0)
+        ) ⌝ }
 {
     if is_expanded(states, n) {
-        return Expanded::New(part_of(states, trs, used.trs, n), used);
+        return Expansion::New(part_of(states, trs, used.trs, n), used);
     }
     expand_state(m1, m2, a1, a2, options, heads, states, trs, used, n)
 }
@@ -59,16 +69,26 @@ fn compute_state(
     used: Used,
     n: StateId,
 ) -> Ran
-    requires { ⌜ (entered (lentOf options (now m1) (now m2) (now a1) (now a2)) (sessionOf options used) (memoryOf (now heads) (now states) (now trs)) ≡ good (composing options (now m1) (now m2) (now a1) (now a2))) × (n .0 < used .states) ⌝ }
-    ensures { λ r. ⌜ ranLeft options (memoryOf (now (heads .exit)) (now (states .exit)) (now (trs .exit))) r ≡ turnOf (expandOf (lentOf options (now (m1 .entry)) (now (m2 .entry)) (now (a1 .entry)) (now (a2 .entry))) (sessionOf options used) (memoryOf (now (heads .entry)) (now (states .entry)) (now (trs .entry))) (n .0)) ⌝ }
+    requires { ⌜ (
+        let l = lentOf options (now m1) (now m2) (now a1) (now a2) in
+        let m = memoryOf (now heads) (now states) (now trs) in
+        let c = composing options (now m1) (now m2) (now a1) (now a2) in
+        (entered l (sessionUnder options used) m ≡ good c) × (n .0 < used .states)
+        ) ⌝ }
+    ensures { λ r. ⌜ (
+        let l = lentOf options (now (m1 .entry)) (now (m2 .entry)) (now (a1 .entry)) (now (a2 .entry)) in
+        let m = memoryOf (now (heads .entry)) (now (states .entry)) (now (trs .entry)) in
+        let m′ = memoryOf (now (heads .exit)) (now (states .exit)) (now (trs .exit)) in
+        ranLeft options m′ r ≡ turnOf (expandOf l (sessionUnder options used) m (n .0))
+        ) ⌝ }
 {
     if is_expanded(states, n) {
         return Ran::Done(used);
     }
     let expanded = expand_state(m1, m2, a1, a2, options, heads, states, trs, used, n);
     match expanded {
-        Expanded::New(_, after) => Ran::Done(after),
-        Expanded::Refused(k) => Ran::Refused(k, used),
+        Expansion::New(_, after) => Ran::Done(after),
+        Expansion::Refused(k) => Ran::Refused(k, used),
     }
 }
 
@@ -85,8 +105,17 @@ pub fn compute(
     trs: &mut [u32],
     used: Used,
 ) -> Ran
-    requires { ⌜ entered (lentOf options (now m1) (now m2) (now a1) (now a2)) (sessionOf options used) (memoryOf (now heads) (now states) (now trs)) ≡ good (composing options (now m1) (now m2) (now a1) (now a2)) ⌝ }
-    ensures { λ r. ⌜ ranLeft options (memoryOf (now (heads .exit)) (now (states .exit)) (now (trs .exit))) r ≡ runFrom (lentOf options (now (m1 .entry)) (now (m2 .entry)) (now (a1 .entry)) (now (a2 .entry))) (stateRoom (memoryOf (now (heads .entry)) (now (states .entry)) (now (trs .entry)))) 0 (sessionOf options used) (memoryOf (now (heads .entry)) (now (states .entry)) (now (trs .entry))) ⌝ }
+    requires { ⌜ (
+        let l = lentOf options (now m1) (now m2) (now a1) (now a2) in
+        let m = memoryOf (now heads) (now states) (now trs) in
+        entered l (sessionUnder options used) m ≡ good (composing options (now m1) (now m2) (now a1) (now a2))
+        ) ⌝ }
+    ensures { λ r. ⌜ (
+        let l = lentOf options (now (m1 .entry)) (now (m2 .entry)) (now (a1 .entry)) (now (a2 .entry)) in
+        let m = memoryOf (now (heads .entry)) (now (states .entry)) (now (trs .entry)) in
+        let m′ = memoryOf (now (heads .exit)) (now (states .exit)) (now (trs .exit)) in
+        ranLeft options m′ r ≡ runFrom l (stateRoom m) 0 (sessionUnder options used) m
+        ) ⌝ }
 {
     let mut latest = used;
     let mut n: u32 = 0;

@@ -17,7 +17,7 @@ use Rattle.match_type.specs.declared.Side.the-variants.{Only}
 use Rattle.compose_fst_op.specs.Composing.{lentOf, composing}
 use Rattle.compose_fst_op.specs.declared.ComposeFstOpOptions.{ComposeFstOpOptions}
 use Rattle.store_records.specs.Meaning.{memoryOf}
-use Rattle.compose_store.specs.Meaning.{sessionOf}
+use Rattle.compose_store.specs.Meaning.{sessionUnder}
 
 -- `0 0 4294967295 0 4294967295 0`, side output
 abbrev options : ComposeFstOpOptions
@@ -29,6 +29,6 @@ options = record {
   sigma2 = record { label = record { 0 = MAX }; mode = 0; listed = false };
 }
 
-met : entered (lentOf options example1 example2 [] []) (sessionOf options (record { states = 1; trs = 0 })) (memoryOf (1 ∷ []) (replicate 10 0) (replicate 5 0)) ≡ good (composing options example1 example2 [] [])
+met : entered (lentOf options example1 example2 [] []) (sessionUnder options (record { states = 1; trs = 0 })) (memoryOf (1 ∷ []) (replicate 10 0) (replicate 5 0)) ≡ good (composing options example1 example2 [] [])
 unfolding entered sessionOk sideFor settingsOk wellFormed sizeOk stateOk trOk marksOk acceptor sideOf sorted noFall listOf listFrom listBy firstOf nextOf firstOk nextOk stateWord trWord acceptorMark sideMark startWord trCount stateCount fits formOk headsOk stateFormOk tripleOk expandedOk trFormOk tripleAt expandedAt firstAt nextAt stateField trField targetAt trNextAt stateRoom trRoom roomOf every interval
 met = refl

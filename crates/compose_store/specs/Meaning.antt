@@ -11,13 +11,13 @@ use Rattle.store_records.specs.declared.Used.{Used}
 use Rattle.store_records.specs.Meaning.{stored, usedMeans}
 use Rattle.tr_lists.specs.Meaning.{partMeans}
 use Rattle.match_type.specs.Chosen.{sideMeans}
-use Rattle.compose_fst_op.specs.Composing.{settingsOf}
+use Rattle.compose_fst_op.specs.Composing.{optionSettings}
 use Rattle.compose_fst_op.specs.declared.ComposeFstOpOptions.{ComposeFstOpOptions}
 use Rattle.compose_moves.specs.declared.NextStep.{NextStep}
 use Rattle.compose_moves.specs.declared.NextStep.the-variants.{Step as AStep, Done, Refused as Stop}
 use Rattle.compose_store.specs.declared.Reached.{Reached}
-use Rattle.compose_store.specs.declared.Expanded.{Expanded}
-use Rattle.compose_store.specs.declared.Expanded.the-variants.{New, Refused}
+use Rattle.compose_store.specs.declared.Expansion.{Expansion}
+use Rattle.compose_store.specs.declared.Expansion.the-variants.{New, Refused}
 
 -- a value, and no refusal
 abbrev pub Accepted : {A : Type 0} → Checked A → Type 0
@@ -41,11 +41,11 @@ abbrev pub reachedMeans : List ℕ → List ℕ → List ℕ → ℕ → Reached
 reachedMeans heads states trs k r = record { store = stored heads states trs (r .used) k; state = r .state .0 }
 
 -- the session of a composition, with these used counts
-abbrev pub sessionOf : ComposeFstOpOptions → Used → Session
-sessionOf o u = record { settings = settingsOf o; side = sideNumber (sideMeans (o .side)); used = usedMeans u }
+abbrev pub sessionUnder : ComposeFstOpOptions → Used → Session
+sessionUnder o u = record { settings = optionSettings o; side = sideNumber (sideMeans (o .side)); used = usedMeans u }
 
 -- What an expansion leaves: the new records and the session with the new used counts; or a refusal by its number in the table of "Answers" and the session that was given.
 -- The memory is that at exit.
-abbrev pub leftBy : ComposeFstOpOptions → Used → Memory → Expanded → Outcome Run
-leftBy o u m (New p v) = record { answer = good (partMeans p); session = sessionOf o v; memory = m }
-leftBy o u m (Refused n) = record { answer = refused n; session = sessionOf o u; memory = m }
+abbrev pub leftBy : ComposeFstOpOptions → Used → Memory → Expansion → Outcome Run
+leftBy o u m (New p v) = record { answer = good (partMeans p); session = sessionUnder o v; memory = m }
+leftBy o u m (Refused n) = record { answer = refused n; session = sessionUnder o u; memory = m }

@@ -15,8 +15,8 @@ ghost use Rattle.tr_lists.specs.Meaning.{partMeans};
 ghost use Rattle.compose_fst_op.specs.Composing.{lentOf, composing};
 ghost use Rattle.compose_moves.specs.Moves.{composeTrMeans};
 ghost use Rattle.compose_weigh.specs.Weigh.{weighOf};
-ghost use Rattle.compose_weigh.specs.Meaning.{stepsOf, storeIn};
-ghost use Rattle.compose_store.specs.Meaning.{Accepted, Narrow, goesOn, reachedMeans, sessionOf, leftBy};
+ghost use Rattle.compose_weigh.specs.Meaning.{stepsFrom, storeIn};
+ghost use Rattle.compose_store.specs.Meaning.{Accepted, Narrow, goesOn, reachedMeans, sessionUnder, leftBy};
 use compose_fst_op::ComposeFstOpOptions;
 use compose_moves::ComposeTr;
 use compose_moves::MoveCursor;
@@ -29,7 +29,7 @@ use compose_weigh::Weighed;
 use compose_weigh::weigh;
 use fst::StateId;
 use fst::Tr;
-use state_table::Found;
+use state_table::FoundState;
 use state_table::add_state;
 use state_table::find_id;
 use store_records::Used;
@@ -45,20 +45,27 @@ struct Reached {
 }
 
 // The new records of a state's list with the used counts after it, or the number of the refusal.
-pub enum Expanded {
+pub enum Expansion {
     New(Part, Used),
     Refused(u32),
 }
 
 // The state found, else a new one.
 fn reach(heads: &mut [u32], states: &mut [u32], used: u32, tuple: ComposeStateTuple) -> Reached
-    requires { ⌜ ((trs : List ℕ) (k : ℕ) → Accepted (reachOf (stored (now heads) (now states) trs used k) (tupleMeans tuple))) × (tuple .s1 .0 < 65536) × (tuple .s2 .0 < 65536) ⌝ }
-    ensures { λ r. ⌜ ((trs : List ℕ) (k : ℕ) → good (reachedMeans (now (heads .exit)) (now (states .exit)) trs k r) ≡ reachOf (stored (now (heads .entry)) (now (states .entry)) trs used k) (tupleMeans tuple)) ⌝ }
+    requires { ⌜ (
+        ((trs : List ℕ) (k : ℕ) → Accepted (reachOf (stored (now heads) (now states) trs used k) (tupleMeans tuple)))
+        × (tuple .s1 .0 < 65536) × (tuple .s2 .0 < 65536)
+        ) ⌝ }
+    ensures { λ r. ⌜ (
+        (trs : List ℕ) (k : ℕ) →
+        let d = stored (now (heads .entry)) (now (states .entry)) trs used k in
+        good (reachedMeans (now (heads .exit)) (now (states .exit)) trs k r) ≡ reachOf d (tupleMeans tuple)
+        ) ⌝ }
 {
     let found = find_id(heads, states, used, tuple);
     match found {
-        Found::At(n) => Reached { state: n, used },
-        Found::Missing => {
+        FoundState::At(n) => Reached { state: n, used },
+        FoundState::Missing => {
             add_state(heads, states, used, tuple);
             Reached {
                 state: StateId(used),
@@ -85,8 +92,15 @@ fn store_step(
     tr: ComposeTr,
     follows: bool,
 ) -> Used
-    requires { ⌜ Accepted (storeStep (storeIn (now heads) (now states) (now trs) used) (nextFor (storeIn (now heads) (now states) (now trs) used) follows) (composeTrMeans tr)) × (tr .tuple .s1 .0 < 65536) × (tr .tuple .s2 .0 < 65536) ⌝ }
-    ensures { λ r. ⌜ good (storeIn (now (heads .exit)) (now (states .exit)) (now (trs .exit)) r) ≡ storeStep (storeIn (now (heads .entry)) (now (states .entry)) (now (trs .entry)) used) (nextFor (storeIn (now (heads .entry)) (now (states .entry)) (now (trs .entry)) used) follows) (composeTrMeans tr) ⌝ }
+    requires { ⌜ (
+        let d = storeIn (now heads) (now states) (now trs) used in
+        Accepted (storeStep d (nextFor d follows) (composeTrMeans tr)) × (tr .tuple .s1 .0 < 65536) × (tr .tuple .s2 .0 < 65536)
+        ) ⌝ }
+    ensures { λ r. ⌜ (
+        let d = storeIn (now (heads .entry)) (now (states .entry)) (now (trs .entry)) used in
+        let d′ = storeIn (now (heads .exit)) (now (states .exit)) (now (trs .exit)) r in
+        good d′ ≡ storeStep d (nextFor d follows) (composeTrMeans tr)
+        ) ⌝ }
 {
     let ilabel = tr.ilabel;
     let olabel = tr.olabel;
@@ -135,8 +149,17 @@ fn store_steps(
     used: Used,
     start: MoveCursor,
 ) -> Used
-    requires { ⌜ Accepted (storeSteps (storeIn (now heads) (now states) (now trs) used) (stepsOf options (now m1) (now m2) (now a1) (now a2) start)) × Narrow (stepsOf options (now m1) (now m2) (now a1) (now a2) start) ⌝ }
-    ensures { λ r. ⌜ good (storeIn (now (heads .exit)) (now (states .exit)) (now (trs .exit)) r) ≡ storeSteps (storeIn (now (heads .entry)) (now (states .entry)) (now (trs .entry)) used) (stepsOf options (now (m1 .entry)) (now (m2 .entry)) (now (a1 .entry)) (now (a2 .entry)) start) ⌝ }
+    requires { ⌜ (
+        let d = storeIn (now heads) (now states) (now trs) used in
+        let steps = stepsFrom options (now m1) (now m2) (now a1) (now a2) start in
+        Accepted (storeSteps d steps) × Narrow steps
+        ) ⌝ }
+    ensures { λ r. ⌜ (
+        let d = storeIn (now (heads .entry)) (now (states .entry)) (now (trs .entry)) used in
+        let d′ = storeIn (now (heads .exit)) (now (states .exit)) (now (trs .exit)) r in
+        let steps = stepsFrom options (now (m1 .entry)) (now (m2 .entry)) (now (a1 .entry)) (now (a2 .entry)) start in
+        good d′ ≡ storeSteps d steps
+        ) ⌝ }
 {
     let mut grown = used;
     let mut ahead = next_step(m1, m2, a1, a2, options, start);
@@ -179,18 +202,29 @@ fn expand_from(
     used: Used,
     n: StateId,
     start: MoveCursor,
-) -> Expanded
-    requires { ⌜ (weighOf true (storeIn (now heads) (now states) (now trs) used) (stepsOf options (now m1) (now m2) (now a1) (now a2) start) ≡ andThen (storeSteps (storeIn (now heads) (now states) (now trs) used) (stepsOf options (now m1) (now m2) (now a1) (now a2) start)) (λ d. good tt)) × Narrow (stepsOf options (now m1) (now m2) (now a1) (now a2) start) ⌝ }
-    ensures { λ r. ⌜ ((c : Composition) → stepsAt c (tripleAt (now (states .entry)) (n .0)) ≡ stepsOf options (now (m1 .entry)) (now (m2 .entry)) (now (a1 .entry)) (now (a2 .entry)) start → leftBy options used (memoryOf (now (heads .exit)) (now (states .exit)) (now (trs .exit))) r ≡ settle (sessionOf options used) (memoryOf (now (heads .entry)) (now (states .entry)) (now (trs .entry))) (expansion c (sessionOf options used) (memoryOf (now (heads .entry)) (now (states .entry)) (now (trs .entry))) (n .0))) ⌝ }
+) -> Expansion
+    requires { ⌜ (
+        let d = storeIn (now heads) (now states) (now trs) used in
+        let steps = stepsFrom options (now m1) (now m2) (now a1) (now a2) start in
+        (weighOf true d steps ≡ andThen (storeSteps d steps) (λ e. good tt)) × Narrow steps
+        ) ⌝ }
+    ensures { λ r. ⌜ (
+        (c : Composition) →
+        let m = memoryOf (now (heads .entry)) (now (states .entry)) (now (trs .entry)) in
+        let m′ = memoryOf (now (heads .exit)) (now (states .exit)) (now (trs .exit)) in
+        let steps = stepsFrom options (now (m1 .entry)) (now (m2 .entry)) (now (a1 .entry)) (now (a2 .entry)) start in
+        stepsAt c (tripleAt (now (states .entry)) (n .0)) ≡ steps → leftBy options used m′ r
+        ≡ settle (sessionUnder options used) m (expansion c (sessionUnder options used) m (n .0))
+        ) ⌝ }
 {
     let weighed = weigh(m1, m2, a1, a2, options, heads, states, trs, used, start);
     match weighed {
-        Weighed::Refused(k) => Expanded::Refused(k),
+        Weighed::Refused(k) => Expansion::Refused(k),
         Weighed::Clear => {
             let after = store_steps(m1, m2, a1, a2, options, heads, states, trs, used, start);
             let part = new_part(used.trs, after.trs);
             mark_expanded(states, n, part.first);
-            Expanded::New(part, after)
+            Expansion::New(part, after)
         }
     }
 }
@@ -207,13 +241,23 @@ pub fn expand_state(
     trs: &mut [u32],
     used: Used,
     n: StateId,
-) -> Expanded
-    requires { ⌜ (entered (lentOf options (now m1) (now m2) (now a1) (now a2)) (sessionOf options used) (memoryOf (now heads) (now states) (now trs)) ≡ good (composing options (now m1) (now m2) (now a1) (now a2))) × (n .0 < used .states) ⌝ }
-    ensures { λ r. ⌜ leftBy options used (memoryOf (now (heads .exit)) (now (states .exit)) (now (trs .exit))) r ≡ settle (sessionOf options used) (memoryOf (now (heads .entry)) (now (states .entry)) (now (trs .entry))) (expansion (composing options (now (m1 .entry)) (now (m2 .entry)) (now (a1 .entry)) (now (a2 .entry))) (sessionOf options used) (memoryOf (now (heads .entry)) (now (states .entry)) (now (trs .entry))) (n .0)) ⌝ }
+) -> Expansion
+    requires { ⌜ (
+        let l = lentOf options (now m1) (now m2) (now a1) (now a2) in
+        let m = memoryOf (now heads) (now states) (now trs) in
+        let c = composing options (now m1) (now m2) (now a1) (now a2) in
+        (entered l (sessionUnder options used) m ≡ good c) × (n .0 < used .states)
+        ) ⌝ }
+    ensures { λ r. ⌜ (
+        let m = memoryOf (now (heads .entry)) (now (states .entry)) (now (trs .entry)) in
+        let m′ = memoryOf (now (heads .exit)) (now (states .exit)) (now (trs .exit)) in
+        let c = composing options (now (m1 .entry)) (now (m2 .entry)) (now (a1 .entry)) (now (a2 .entry)) in
+        leftBy options used m′ r ≡ settle (sessionUnder options used) m (expansion c (sessionUnder options used) m (n .0))
+        ) ⌝ }
 {
     let begun = moves_start(m1, m2, options, get_tuple(states, n));
     match begun {
-        MovesStart::Refused(k) => Expanded::Refused(k),
+        MovesStart::Refused(k) => Expansion::Refused(k),
         MovesStart::At(start) => expand_from(
             m1,
             m2,

@@ -6,7 +6,7 @@ use Rattle.words.specs.Steps.{Step}
 use Rattle.calls.specs.Store.{Store}
 use Rattle.store_records.specs.declared.Used.{Used}
 use Rattle.store_records.specs.Meaning.{stored}
-use Rattle.compose_fst_op.specs.Composing.{settingsOf, lentOf}
+use Rattle.compose_fst_op.specs.Composing.{optionSettings, lentOf}
 use Rattle.compose_moves.specs.Cursors.{stepsLeft}
 use Rattle.compose_fst_op.specs.declared.ComposeFstOpOptions.{ComposeFstOpOptions}
 use Rattle.compose_moves.specs.declared.MoveCursor.{MoveCursor}
@@ -16,8 +16,8 @@ use Rattle.compose_weigh.specs.declared.Counted.{Counted}
 use Rattle.compose_weigh.specs.declared.Counted.the-variants.{States, Lacking}
 
 -- the steps that a cursor has still to give, with these settings, machines and allowed lists
-abbrev pub stepsOf : ComposeFstOpOptions → (m1 m2 a1 a2 : List ℕ) → MoveCursor → List (Checked Step)
-stepsOf o m1 m2 a1 a2 c = stepsLeft (settingsOf o) (lentOf o m1 m2 a1 a2) c
+abbrev pub stepsFrom : ComposeFstOpOptions → (m1 m2 a1 a2 : List ℕ) → MoveCursor → List (Checked Step)
+stepsFrom o m1 m2 a1 a2 c = stepsLeft (optionSettings o) (lentOf o m1 m2 a1 a2) c
 
 -- the store in three slices, with these used counts
 abbrev pub storeIn : (heads states trs : List ℕ) → Used → Store

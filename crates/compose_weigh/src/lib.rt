@@ -5,7 +5,7 @@ ghost use mathlib.Core.List.{List};
 ghost use Prim.Native.Nat.{ℕ};
 ghost use Rattle.compose_state_tuple.specs.Meaning.{tupleMeans};
 ghost use Rattle.compose_weigh.specs.Weigh.{reachedWithin, isNew, countState, weighOf};
-ghost use Rattle.compose_weigh.specs.Meaning.{stepsOf, storeIn, countedMeans, weighedMeans};
+ghost use Rattle.compose_weigh.specs.Meaning.{stepsFrom, storeIn, countedMeans, weighedMeans};
 use compose_fst_op::ComposeFstOpOptions;
 use compose_moves::MoveCursor;
 use compose_moves::NextStep;
@@ -13,7 +13,7 @@ use compose_moves::next_step;
 use compose_state_tuple::ComposeStateTuple;
 use compose_state_tuple::same_tuple;
 use fst::REFUSED_NO_ROOM;
-use state_table::Found;
+use state_table::FoundState;
 use state_table::find_id;
 use store_records::Used;
 use store_records::state_room;
@@ -49,7 +49,10 @@ fn reached_before(
     count: u32,
     tuple: ComposeStateTuple,
 ) -> bool
-    ensures { λ r. ⌜ r ≡ reachedWithin (tupleMeans tuple) count (stepsOf options (now (m1 .entry)) (now (m2 .entry)) (now (a1 .entry)) (now (a2 .entry)) start) ⌝ }
+    ensures { λ r. ⌜ (
+        let steps = stepsFrom options (now (m1 .entry)) (now (m2 .entry)) (now (a1 .entry)) (now (a2 .entry)) start in
+        r ≡ reachedWithin (tupleMeans tuple) count steps
+        ) ⌝ }
 {
     let mut cursor = start;
     let mut left = count;
@@ -84,13 +87,18 @@ fn is_new(
     count: u32,
     tuple: ComposeStateTuple,
 ) -> bool
-    ensures { λ r. ⌜ ((trs : List ℕ) → r ≡ isNew exact (storeIn (now (heads .entry)) (now (states .entry)) trs (w .used)) (stepsOf (w .options) (now (m1 .entry)) (now (m2 .entry)) (now (a1 .entry)) (now (a2 .entry)) (w .start)) count (tupleMeans tuple)) ⌝ }
+    ensures { λ r. ⌜ (
+        (trs : List ℕ) →
+        let d = storeIn (now (heads .entry)) (now (states .entry)) trs (w .used) in
+        let steps = stepsFrom (w .options) (now (m1 .entry)) (now (m2 .entry)) (now (a1 .entry)) (now (a2 .entry)) (w .start) in
+        r ≡ isNew exact d steps count (tupleMeans tuple)
+        ) ⌝ }
 {
     let options = w.options;
     let used = w.used;
     let start = w.start;
     let found = find_id(heads, states, used.states, tuple);
-    let Found::Missing = found else {
+    let FoundState::Missing = found else {
         return false;
     };
     if !exact {
@@ -124,7 +132,11 @@ fn weigh_from(
     w: Weighing,
     exact: bool,
 ) -> Weighed
-    ensures { λ r. ⌜ weighedMeans r ≡ weighOf exact (storeIn (now (heads .entry)) (now (states .entry)) (now (trs .entry)) (w .used)) (stepsOf (w .options) (now (m1 .entry)) (now (m2 .entry)) (now (a1 .entry)) (now (a2 .entry)) (w .start)) ⌝ }
+    ensures { λ r. ⌜ (
+        let d = storeIn (now (heads .entry)) (now (states .entry)) (now (trs .entry)) (w .used) in
+        let steps = stepsFrom (w .options) (now (m1 .entry)) (now (m2 .entry)) (now (a1 .entry)) (now (a2 .entry)) (w .start) in
+        weighedMeans r ≡ weighOf exact d steps
+        ) ⌝ }
 {
     let used = w.used;
     let mut cursor = w.start;
@@ -167,7 +179,11 @@ pub fn weigh(
     used: Used,
     start: MoveCursor,
 ) -> Weighed
-    ensures { λ r. ⌜ weighedMeans r ≡ weighOf true (storeIn (now (heads .entry)) (now (states .entry)) (now (trs .entry)) used) (stepsOf options (now (m1 .entry)) (now (m2 .entry)) (now (a1 .entry)) (now (a2 .entry)) start) ⌝ }
+    ensures { λ r. ⌜ (
+        let d = storeIn (now (heads .entry)) (now (states .entry)) (now (trs .entry)) used in
+        let steps = stepsFrom options (now (m1 .entry)) (now (m2 .entry)) (now (a1 .entry)) (now (a2 .entry)) start in
+        weighedMeans r ≡ weighOf true d steps
+        ) ⌝ }
 {
     let w = Weighing {
         options,
@@ -178,7 +194,7 @@ pub fn weigh(
     let Weighed::Refused(n) = quick else {
         return Weighed::Clear;
     };
-    if n == 13 {
+    if n == REFUSED_NO_ROOM {
         return weigh_from(m1, m2, a1, a2, heads, states, trs, w, true);
     }
     Weighed::Refused(n)

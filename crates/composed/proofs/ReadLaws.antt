@@ -14,15 +14,15 @@ use borrow.Author.Tests.{leb-true, leb-false, le-ltb}
 use Rattle.io.specs.Counts.{clamped}
 use Rattle.listing_text.specs.Chunks.{Input, unread, readBytes, inRooms}
 use Rattle.listing_text.proofs.Chunks.{next-chunk}
-use Rattle.listing_read.specs.Meaning.{inputOf, roomsOf, newReader}
+use Rattle.listing_read.specs.Meaning.{readInput, roomsOf, newReader}
 use Rattle.listing_read.specs.declared.Reader.{Reader}
 use Rattle.listing_read.proofs.InputLaws.{input-within, same-rooms}
 use Rattle.composed.specs.Read.{handedOn, Reads}
 
 -- before the first byte
-pub none-came : (r : Reader) (s f g : List ℕ) → r ≡ newReader → Reads (roomsOf s f g) (inputOf r s f g)
+pub none-came : (r : Reader) (s f g : List ℕ) → r ≡ newReader → Reads (roomsOf s f g) (readInput r s f g)
 unfolding readBytes
-none-came r s f g e = ([], ap (λ (x : Reader). inputOf x s f g) e ∙ input-within newReader s f g)
+none-came r s f g e = ([], ap (λ (x : Reader). readInput x s f g) e ∙ input-within newReader s f g)
 
 -- a chunk more, in slices of the same lengths
 pub more-came : (s₀ f₀ g₀ s f g : List ℕ) (I I′ : Input) (chunk : List ℕ) → length s ≡ length s₀ → length f ≡ length f₀ → length g ≡ length g₀ → Reads (roomsOf s₀ f₀ g₀) I → I′ ≡ inRooms (roomsOf s f g) (readBytes I chunk)

@@ -3,7 +3,7 @@ ghost use mathlib.Core.Path.{_≡_};
 ghost use mathlib.Core.List.{[], _∷_};
 ghost use Rattle.io.specs.Counts.{Counts};
 ghost use Rattle.listing_text.specs.Chunks.{inRooms, readBytes};
-ghost use Rattle.listing_read.specs.Meaning.{inputOf, roomsOf};
+ghost use Rattle.listing_read.specs.Meaning.{readInput, roomsOf};
 ghost use Rattle.listing_read.specs.Held.{held, heldBytes};
 ghost use Rattle.composed.specs.Read.{handedOn, readsOn, Reads, Prints};
 use libc::STDIN_FILENO;
@@ -20,8 +20,16 @@ const MOST_CHUNKS: u64 = 18446744073709551615;
 
 // A byte that is of no word: the line that is being read is not of words, and never taken for a whole one.
 fn spoil(r: Reader, settings: &mut [u32], first: &mut [u32], second: &mut [u32]) -> Reader
-    ensures { λ n. ⌜ inputOf n (now (settings .exit)) (now (first .exit)) (now (second .exit)) ≡ inRooms (roomsOf (now (settings .entry)) (now (first .entry)) (now (second .entry))) (readBytes (inputOf r (now (settings .entry)) (now (first .entry)) (now (second .entry))) (33 ∷ [])) ⌝ }
-    ensures stored { λ n. ⌜ held n (now (settings .exit)) (now (first .exit)) (now (second .exit)) ≡ heldBytes (held r (now (settings .entry)) (now (first .entry)) (now (second .entry))) (33 ∷ []) ⌝ }
+    ensures { λ n. ⌜ (
+        let rooms = roomsOf (now (settings .entry)) (now (first .entry)) (now (second .entry)) in
+        let input = readInput r (now (settings .entry)) (now (first .entry)) (now (second .entry)) in
+        let input′ = readInput n (now (settings .exit)) (now (first .exit)) (now (second .exit)) in
+        input′ ≡ inRooms rooms (readBytes input (33 ∷ []))
+        ) ⌝ }
+    ensures stored { λ n. ⌜ (
+        let words = held r (now (settings .entry)) (now (first .entry)) (now (second .entry)) in
+        held n (now (settings .exit)) (now (first .exit)) (now (second .exit)) ≡ heldBytes words (33 ∷ [])
+        ) ⌝ }
 {
     read_chunk(r, b"!", settings, first, second)
 }
@@ -35,8 +43,17 @@ fn after_read(
     first: &mut [u32],
     second: &mut [u32],
 ) -> Reader
-    ensures { λ n. ⌜ inputOf n (now (settings .exit)) (now (first .exit)) (now (second .exit)) ≡ inRooms (roomsOf (now (settings .entry)) (now (first .entry)) (now (second .entry))) (readBytes (inputOf r (now (settings .entry)) (now (first .entry)) (now (second .entry))) (handedOn got (now (chunk .entry)))) ⌝ }
-    ensures stored { λ n. ⌜ held n (now (settings .exit)) (now (first .exit)) (now (second .exit)) ≡ heldBytes (held r (now (settings .entry)) (now (first .entry)) (now (second .entry))) (handedOn got (now (chunk .entry))) ⌝ }
+    ensures { λ n. ⌜ (
+        let rooms = roomsOf (now (settings .entry)) (now (first .entry)) (now (second .entry)) in
+        let input = readInput r (now (settings .entry)) (now (first .entry)) (now (second .entry)) in
+        let input′ = readInput n (now (settings .exit)) (now (first .exit)) (now (second .exit)) in
+        input′ ≡ inRooms rooms (readBytes input (handedOn got (now (chunk .entry))))
+        ) ⌝ }
+    ensures stored { λ n. ⌜ (
+        let words = held r (now (settings .entry)) (now (first .entry)) (now (second .entry)) in
+        let words′ = held n (now (settings .exit)) (now (first .exit)) (now (second .exit)) in
+        words′ ≡ heldBytes words (handedOn got (now (chunk .entry)))
+        ) ⌝ }
 {
     if got < 0 {
         return spoil(r, settings, first, second);
@@ -57,7 +74,10 @@ fn reads_on(at: u32, got: isize) -> bool
 
 // Reads up to the third line feed, the end of the input or a read that fails. Where the chunks are used up, the line that is being read is spoiled.
 fn read_lines(settings: &mut [u32], first: &mut [u32], second: &mut [u32]) -> Reader
-    ensures { λ r. ⌜ Reads (roomsOf (now (settings .entry)) (now (first .entry)) (now (second .entry))) (inputOf r (now (settings .exit)) (now (first .exit)) (now (second .exit))) ⌝ }
+    ensures { λ r. ⌜ (
+        let rooms = roomsOf (now (settings .entry)) (now (first .entry)) (now (second .entry)) in
+        Reads rooms (readInput r (now (settings .exit)) (now (first .exit)) (now (second .exit)))
+        ) ⌝ }
 {
     let mut chunk = io::large_buffer();
     let mut r = new_reader();

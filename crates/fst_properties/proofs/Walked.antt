@@ -20,13 +20,13 @@ unfoldable pub fromOn : MatchType → List ℕ → ℕ → ℕ → Bool
 fromOn on m low t = noFall low (map (labelOn on (machineOf m)) (listFrom m t))
 
 -- no label falls from a seen record on
-abbrev pub Sound : MatchType → List ℕ → List ℕ → Type 0
-Sound on m seen = (u : ℕ) → seenIn seen u ≡ true → fromOn on m 0 u ≡ true
+abbrev pub SeenSorted : MatchType → List ℕ → List ℕ → Type 0
+SeenSorted on m seen = (u : ℕ) → seenIn seen u ≡ true → fromOn on m 0 u ≡ true
 
 -- in a walk, at record t: the records that this walk saw are below t
 pub record Walked (on : MatchType) (m seen : List ℕ) (low t : ℕ) : Type 0 where
   pub later : (u : ℕ) → seenIn seen u ≡ true → t ≤ u → fromOn on m 0 u ≡ true
-  pub then : fromOn on m low t ≡ true → Sound on m seen
+  pub then : fromOn on m low t ≡ true → SeenSorted on m seen
 
 pub from-end : (on : MatchType) (m : List ℕ) (low t : ℕ) → t ≡ 0 → fromOn on m low t ≡ true
 unfolding fromOn noFall
@@ -43,7 +43,7 @@ from-on : (on : MatchType) (m : List ℕ) (low t : ℕ) → (t ≡ 0 → ⊥) �
 from-on on m low t e h l r = from-turn on m low t e h ∙ and-eq-true-iff (leb low (labelOn on (machineOf m) t)) _ .1 (le-leb _ _ l, r)
 
 -- a walk begins
-pub begins : (on : MatchType) (m seen : List ℕ) (low t : ℕ) → Sound on m seen → Walked on m seen low t
+pub begins : (on : MatchType) (m seen : List ℕ) (low t : ℕ) → SeenSorted on m seen → Walked on m seen low t
 begins on m seen low t p = record { later = λ u h _. p u h; then = λ _. p }
 
 -- it meets a record that an earlier walk saw
@@ -57,7 +57,7 @@ pub goes-on : (on : MatchType) (m seen : List ℕ) (low t : ℕ) → Walked on m
     → Walked on m (seenWith seen t) (labelOn on (machineOf m) t) (nextOf m t)
 goes-on on m seen low t w e h l = record { later = λ u s n. ahead (ℕ-discrete (nextOf m t) 0) u s n; then = after }
   where
-    after : fromOn on m (labelOn on (machineOf m) t) (nextOf m t) ≡ true → Sound on m (seenWith seen t)
+    after : fromOn on m (labelOn on (machineOf m) t) (nextOf m t) ≡ true → SeenSorted on m (seenWith seen t)
     after r u s =
         ⊎-elim
         (λ (d : u ≡ t). ap (fromOn on m 0) d ∙ from-on on m 0 t e h (omega arith) r)

@@ -13,18 +13,18 @@ use Rattle.words.specs.Settings.{Lent, compositionOf}
 use Rattle.words.specs.Steps.{Composition, finalAt}
 use Rattle.calls.specs.Store.{Memory, tripleAt, expandedAt, partAt}
 use Rattle.calls.specs.Checks.{Session, sideNumber, storeOf, entered, enteredAt, Passes}
-use Rattle.calls.specs.Calls.{settle, unchanged, wordsOf, placeOf, expandOf, finalWeightOf, recordsOf, recordsPlace}
+use Rattle.calls.specs.Calls.{settle, unchanged, wordsOfPart, placeOf, expandOf, finalWeightOf, recordsOf, recordsPlace}
 use Rattle.calls.proofs.ExpandKept.{entered-is}
 use Rattle.match_type.specs.Chosen.{sideMeans}
 use Rattle.match_type.specs.declared.Side.{Side as Direction}
 use Rattle.match_type.specs.declared.Chosen.{Chosen}
 use Rattle.match_type.specs.declared.Chosen.the-variants.{By}
-use Rattle.compose_store.specs.Meaning.{sessionOf}
+use Rattle.compose_store.specs.Meaning.{sessionUnder}
 use Rattle.store_records.specs.Meaning.{usedMeans}
 use Rattle.session_checks.specs.Meaning.{settingsMeans, enteredMeans, sideNumbered}
 use Rattle.lazy_fst.specs.Meaning.{sessionMeans, optionsOf}
 use Rattle.lazy_fst.specs.declared.Session.{Session as Latest}
-use Rattle.lazy_fst.specs.declared.Listed.{Listed}
+use Rattle.lazy_fst.specs.declared.AllowedLists.{AllowedLists}
 
 numbered : (side : Side) → sideNumbered (sideNumber side) ≡ side
 numbered (only inputs) = refl
@@ -41,23 +41,23 @@ module _ (l : Lent) where
       let h = entered-is l s m _ e in
       h .same ∙ ap sideNumber (sym (ap (λ (c : Composition). c .side) (h .composition)))
 
-  session-is : (s : Latest) (m : Memory) (listed : Listed) (side : Direction) → entered l (sessionMeans s) m ≡ good (compositionOf (settingsMeans (s .settings)) l (sideMeans side))
-      → sessionMeans s ≡ sessionOf (optionsOf (s .settings) listed side) (s .used)
+  session-is : (s : Latest) (m : Memory) (listed : AllowedLists) (side : Direction) → entered l (sessionMeans s) m ≡ good (compositionOf (settingsMeans (s .settings)) l (sideMeans side))
+      → sessionMeans s ≡ sessionUnder (optionsOf (s .settings) listed side) (s .used)
   session-is s m listed side e =
       ap (λ (k : ℕ). record { settings = settingsMeans (s .settings); side = k; used = usedMeans (s .used) }) (same-side (sessionMeans s) m (sideMeans side) e)
 
   -- The session, and the checks 1 to 8, in the words of the composition below.
-  pub record Goes (s : Latest) (m : Memory) (listed : Listed) (side : Direction) : Type 0 where
-    pub same : sessionMeans s ≡ sessionOf (optionsOf (s .settings) listed side) (s .used)
-    pub passes : entered l (sessionOf (optionsOf (s .settings) listed side) (s .used)) m ≡ good (compositionOf (settingsMeans (s .settings)) l (sideMeans side))
+  pub record Goes (s : Latest) (m : Memory) (listed : AllowedLists) (side : Direction) : Type 0 where
+    pub same : sessionMeans s ≡ sessionUnder (optionsOf (s .settings) listed side) (s .used)
+    pub passes : entered l (sessionUnder (optionsOf (s .settings) listed side) (s .used)) m ≡ good (compositionOf (settingsMeans (s .settings)) l (sideMeans side))
 
-  goes-on : (s : Latest) (m : Memory) (listed : Listed) (side : Direction) → entered l (sessionMeans s) m ≡ good (compositionOf (settingsMeans (s .settings)) l (sideMeans side)) → Goes s m listed side
+  goes-on : (s : Latest) (m : Memory) (listed : AllowedLists) (side : Direction) → entered l (sessionMeans s) m ≡ good (compositionOf (settingsMeans (s .settings)) l (sideMeans side)) → Goes s m listed side
   goes-on s m listed side e =
       let q = session-is s m listed side e in
       record { same = q; passes = subst (λ (t : Session). entered l t m ≡ good (compositionOf (settingsMeans (s .settings)) l (sideMeans side))) q e }
 
   -- what the answer of the checks 1 to 8 says
-  pub goes : (s : Latest) (m : Memory) (listed : Listed) (r : Chosen) (side : Direction) → enteredMeans (s .settings) l r ≡ entered l (sessionMeans s) m → r ≡ By side → Goes s m listed side
+  pub goes : (s : Latest) (m : Memory) (listed : AllowedLists) (r : Chosen) (side : Direction) → enteredMeans (s .settings) l r ≡ entered l (sessionMeans s) m → r ≡ By side → Goes s m listed side
   goes s m listed r side e h = goes-on s m listed side (sym e ∙ ap (enteredMeans (s .settings) l) h)
 
   -- where the checks pass, the composition is that of the side with the session's number
@@ -68,7 +68,7 @@ module _ (l : Lent) where
       let e : sideMeans side ≡ h .side = q ∙ ap sideNumbered (h .same) ∙ numbered (h .side) in
       p .1 ∙ ap good (h .composition ∙ ap (compositionOf (settingsMeans (s .settings)) l) (sym e))
 
-  pub goes-known : (s : Latest) (m : Memory) (listed : Listed) (side : Direction) → Passes l (sessionMeans s) m → sideMeans side ≡ sideNumbered (s .side) → Goes s m listed side
+  pub goes-known : (s : Latest) (m : Memory) (listed : AllowedLists) (side : Direction) → Passes l (sessionMeans s) m → sideMeans side ≡ sideNumbered (s .side) → Goes s m listed side
   goes-known s m listed side p q = goes-on s m listed side (known s m side p q)
 
   -- a state that is not found yet: 9
@@ -113,7 +113,7 @@ module _ (l : Lent) where
   found-weight s m n c e h = rw (e, lt-leb _ _ h)
 
   pub found-records : (s : Session) (m : Memory) (n : ℕ) → Passes l s m → n < s .used .states
-      → cond (eqb (expandedAt (m .states) n) 1) (wordsOf (m .trs) (partAt (storeOf s m) n)) [] ≡ recordsOf l s m n
+      → cond (eqb (expandedAt (m .states) n) 1) (wordsOfPart (m .trs) (partAt (storeOf s m) n)) [] ≡ recordsOf l s m n
   unfolding recordsOf enteredAt
   found-records s m n p h = rw (p .1, lt-leb _ _ h)
 

@@ -11,12 +11,12 @@ use Rattle.calls.specs.Checks.{Session as Opened, sideNumber}
 use Rattle.calls.specs.Calls.{Outcome, settle, begun, opened}
 use Rattle.matchers.specs.Meaning.{allowedOf}
 use Rattle.tr_lists.specs.Meaning.{partMeans}
-use Rattle.session_checks.specs.Meaning.{settingsMeans, lentOf, sessionOf}
+use Rattle.session_checks.specs.Meaning.{settingsMeans, lentSlices, sessionOf}
 use Rattle.match_type.specs.declared.Side.{Side as Direction}
 use Rattle.compose_fst_op.specs.declared.ComposeFstOpOptions.{ComposeFstOpOptions}
 use Rattle.session_checks.specs.declared.Settings.{Settings as Six}
 use Rattle.lazy_fst.specs.declared.Session.{Session}
-use Rattle.lazy_fst.specs.declared.Listed.{Listed}
+use Rattle.lazy_fst.specs.declared.AllowedLists.{AllowedLists}
 use Rattle.lazy_fst.specs.declared.Answer.{Answer}
 use Rattle.lazy_fst.specs.declared.Answer.the-variants.{Accepted, Refused}
 use Rattle.lazy_fst.specs.declared.PartAnswer.{PartAnswer}
@@ -25,8 +25,8 @@ use Rattle.lazy_fst.specs.declared.WeightAnswer.{WeightAnswer}
 use Rattle.lazy_fst.specs.declared.WeightAnswer.the-variants.{Weight, NotFinal, Refused as NoWeight}
 
 -- what every call is lent: both machines, and both allowed lists with a mark whether there is one
-abbrev pub lentWith : (m1 m2 allowed1 allowed2 : List ℕ) → Listed → Lent
-lentWith m1 m2 allowed1 allowed2 listed = lentOf m1 m2 (allowedOf (listed .first) allowed1) (allowedOf (listed .second) allowed2)
+abbrev pub lentWith : (m1 m2 allowed1 allowed2 : List ℕ) → AllowedLists → Lent
+lentWith m1 m2 allowed1 allowed2 listed = lentSlices m1 m2 (allowedOf (listed .first) allowed1) (allowedOf (listed .second) allowed2)
 
 -- "The session also holds the six settings"; its side, and the used counts
 abbrev pub sessionMeans : Session → Opened
@@ -49,7 +49,7 @@ weightLeft (NotFinal s) m = record { answer = good none; session = sessionMeans 
 weightLeft (NoWeight n s) m = record { answer = refused n; session = sessionMeans s; memory = m }
 
 -- the composition's settings in the code: the six settings, the side, and whether there are allowed lists
-abbrev pub optionsOf : Six → Listed → Direction → ComposeFstOpOptions
+abbrev pub optionsOf : Six → AllowedLists → Direction → ComposeFstOpOptions
 optionsOf s listed side = record {
   kind = s .kind;
   filter = s .filter;

@@ -8,12 +8,12 @@ ghost use Rattle.calls.specs.Store.{Memory, tripleAt};
 ghost use Rattle.calls.specs.Calls.{settle, unchanged};
 ghost use Rattle.compose_fst_op.specs.Composing.{composing};
 ghost use Rattle.compose_fst_op.specs.declared.ComposeFstOpOptions.{ComposeFstOpOptions as Options};
-ghost use Rattle.compose_store.specs.Meaning.{sessionOf, leftBy};
+ghost use Rattle.compose_store.specs.Meaning.{sessionUnder, leftBy};
 ghost use Rattle.compose_run.specs.Meaning.{ranLeft};
 ghost use Rattle.store_records.specs.Meaning.{memoryOf};
 ghost use Rattle.lazy_fst.specs.Meaning.{sessionMeans, optionsOf, left, partLeft, weightLeft};
+use crate::AllowedLists;
 use crate::Answer;
-use crate::Listed;
 use crate::PartAnswer;
 use crate::Session;
 use crate::WeightAnswer;
@@ -21,7 +21,7 @@ use compose_fst_op::ComposeFstOpOptions;
 use compose_fst_op::FinalWeight;
 use compose_fst_op::compute_final_weight;
 use compose_run::Ran;
-use compose_store::Expanded;
+use compose_store::Expansion;
 use fst::REFUSED_TOO_LARGE;
 use fst::StateId;
 use match_type::Side;
@@ -30,7 +30,7 @@ use session_checks::Settings;
 use store_records::get_tuple;
 
 // The settings of the composition that a call goes on with.
-pub fn options_of(settings: Settings, listed: Listed, side: Side) -> ComposeFstOpOptions
+pub fn options_of(settings: Settings, listed: AllowedLists, side: Side) -> ComposeFstOpOptions
     ensures { λ r. ⌜ r ≡ optionsOf settings listed side ⌝ }
 {
     let label1 = settings.sigma1;
@@ -61,7 +61,13 @@ pub fn final_of(
     states: &[u32],
     n: StateId,
 ) -> WeightAnswer
-    ensures { λ r. ⌜ ((a1 a2 heads trs : List ℕ) → let m = memoryOf heads (now (states .entry)) trs in weightLeft r m ≡ settle (sessionMeans session) m (andThen (finalAt (composing options (now (m1 .entry)) (now (m2 .entry)) a1 a2) (tripleAt (now (states .entry)) (n .0))) (λ w. good (unchanged (sessionMeans session) m w)))) ⌝ }
+    ensures { λ r. ⌜ (
+        (a1 a2 heads trs : List ℕ) →
+        let m = memoryOf heads (now (states .entry)) trs in
+        let c = composing options (now (m1 .entry)) (now (m2 .entry)) a1 a2 in
+        weightLeft r m
+        ≡ settle (sessionMeans session) m (andThen (finalAt c (tripleAt (now (states .entry)) (n .0))) (λ w. good (unchanged (sessionMeans session) m w)))
+        ) ⌝ }
 {
     let weight = compute_final_weight(m1, m2, options, get_tuple(states, n));
     match weight {
@@ -72,13 +78,13 @@ pub fn final_of(
 }
 
 // An expansion with the session that goes on; refused, the one that was given.
-pub fn part_answer(session: Session, expanded: Expanded) -> PartAnswer
-    ensures { λ r. ⌜ ((o : Options) (m : Memory) → sessionMeans session ≡ sessionOf o (session .used) → partLeft r m ≡ leftBy o (session .used) m expanded) ⌝ }
+pub fn part_answer(session: Session, expanded: Expansion) -> PartAnswer
+    ensures { λ r. ⌜ ((o : Options) (m : Memory) → sessionMeans session ≡ sessionUnder o (session .used) → partLeft r m ≡ leftBy o (session .used) m expanded) ⌝ }
 {
     let settings = session.settings;
     let side = session.side;
     match expanded {
-        Expanded::New(part, used) => PartAnswer::Part(
+        Expansion::New(part, used) => PartAnswer::Part(
             part,
             Session {
                 settings,
@@ -86,13 +92,13 @@ pub fn part_answer(session: Session, expanded: Expanded) -> PartAnswer
                 used,
             },
         ),
-        Expanded::Refused(k) => PartAnswer::Refused(k, session),
+        Expansion::Refused(k) => PartAnswer::Refused(k, session),
     }
 }
 
 // A run with the session that goes on; refused at a state, the one of the expansions kept.
 pub fn run_answer(session: Session, ran: Ran) -> Answer
-    ensures { λ r. ⌜ ((o : Options) (m : Memory) → sessionMeans session ≡ sessionOf o (session .used) → left r m ≡ ranLeft o m ran) ⌝ }
+    ensures { λ r. ⌜ ((o : Options) (m : Memory) → sessionMeans session ≡ sessionUnder o (session .used) → left r m ≡ ranLeft o m ran) ⌝ }
 {
     let settings = session.settings;
     let side = session.side;

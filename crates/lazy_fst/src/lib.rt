@@ -31,7 +31,7 @@ pub struct Session {
 }
 
 // Whether each machine has an allowed list; without one, every label is allowed. The lists are lent beside it.
-pub struct Listed {
+pub struct AllowedLists {
     pub first: bool,
     pub second: bool,
 }
@@ -64,7 +64,7 @@ impl Session {
         m2: &[u32],
         allowed1: &[u32],
         allowed2: &[u32],
-        listed: Listed,
+        listed: AllowedLists,
         heads: &mut [u32],
         states: &mut [u32],
         trs: &mut [u32],
@@ -90,7 +90,7 @@ impl Session {
         m2: &[u32],
         allowed1: &[u32],
         allowed2: &[u32],
-        listed: Listed,
+        listed: AllowedLists,
         heads: &mut [u32],
         states: &mut [u32],
         trs: &mut [u32],
@@ -128,7 +128,7 @@ impl Session {
         m2: &[u32],
         allowed1: &[u32],
         allowed2: &[u32],
-        listed: Listed,
+        listed: AllowedLists,
         heads: &[u32],
         states: &[u32],
         trs: &[u32],
@@ -165,7 +165,7 @@ impl Session {
         m2: &[u32],
         allowed1: &[u32],
         allowed2: &[u32],
-        listed: Listed,
+        listed: AllowedLists,
         heads: &mut [u32],
         states: &mut [u32],
         trs: &mut [u32],
@@ -207,7 +207,7 @@ impl Session {
         m2: &[u32],
         allowed1: &[u32],
         allowed2: &[u32],
-        listed: Listed,
+        listed: AllowedLists,
         heads: &[u32],
         states: &[u32],
         trs: &'a [u32],

@@ -10,7 +10,7 @@ ghost use Rattle.words.specs.Sides.{nonEmpty};
 ghost use Rattle.calls.specs.Store.{roomOf, stateSize};
 ghost use Rattle.match_type.specs.Chosen.{sideMeans};
 ghost use Rattle.store_records.specs.Meaning.{memoryOf};
-ghost use Rattle.session_checks.specs.Meaning.{settingsMeans, lentOf};
+ghost use Rattle.session_checks.specs.Meaning.{settingsMeans, lentSlices};
 ghost use Rattle.lazy_fst.specs.Meaning.{sessionMeans, left, freshOf, openedOn};
 use crate::Answer;
 use crate::Session;
@@ -57,7 +57,13 @@ pub fn begin(
     states: &mut [u32],
 ) -> Answer
     requires { ⌜ (wellFormed (now m1) ≡ true) × (wellFormed (now m2) ≡ true) ⌝ }
-    ensures { λ r. ⌜ ((allowed1 allowed2 : Option (List ℕ)) (trs : List ℕ) → left r (memoryOf (now (heads .exit)) (now (states .exit)) trs) ≡ openedOn (settingsMeans settings) (lentOf (now (m1 .entry)) (now (m2 .entry)) allowed1 allowed2) (sessionMeans got) (memoryOf (now (heads .entry)) (now (states .entry)) trs) (sideMeans side)) ⌝ }
+    ensures { λ r. ⌜ (
+        (allowed1 allowed2 : Option (List ℕ)) (trs : List ℕ) →
+        let l = lentSlices (now (m1 .entry)) (now (m2 .entry)) allowed1 allowed2 in
+        let m = memoryOf (now (heads .entry)) (now (states .entry)) trs in
+        let m′ = memoryOf (now (heads .exit)) (now (states .exit)) trs in
+        left r m′ ≡ openedOn (settingsMeans settings) l (sessionMeans got) m (sideMeans side)
+        ) ⌝ }
 {
     let first = compute_start(m1, m2);
     match first {

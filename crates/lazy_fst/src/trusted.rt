@@ -6,7 +6,7 @@ ghost use Rattle.calls.specs.Checks.{Passes};
 ghost use Rattle.calls.specs.Calls.{expandOf, finalWeightOf, recordsOf, recordsPlace};
 ghost use Rattle.store_records.specs.Meaning.{memoryOf};
 ghost use Rattle.lazy_fst.specs.Meaning.{lentWith, sessionMeans, partLeft, weightLeft};
-use crate::Listed;
+use crate::AllowedLists;
 use crate::PartAnswer;
 use crate::Session;
 use crate::WeightAnswer;
@@ -29,7 +29,7 @@ impl Session {
         m2: &[u32],
         allowed1: &[u32],
         allowed2: &[u32],
-        listed: Listed,
+        listed: AllowedLists,
         heads: &mut [u32],
         states: &mut [u32],
         trs: &mut [u32],
@@ -74,7 +74,7 @@ impl Session {
         m2: &[u32],
         allowed1: &[u32],
         allowed2: &[u32],
-        listed: Listed,
+        listed: AllowedLists,
         heads: &[u32],
         states: &[u32],
         trs: &[u32],
@@ -106,7 +106,7 @@ impl Session {
         m2: &[u32],
         allowed1: &[u32],
         allowed2: &[u32],
-        listed: Listed,
+        listed: AllowedLists,
         heads: &[u32],
         states: &[u32],
         trs: &'a [u32],

@@ -12,7 +12,7 @@ use Rattle.words.specs.Settings.{Settings, Lent}
 use Rattle.words.specs.Steps.{Composition}
 use Rattle.calls.specs.Store.{Memory, Store, partAt, expandedAt}
 use Rattle.calls.specs.Checks.{Session, storeOf, enteredAt}
-use Rattle.calls.specs.Calls.{wordsOf, openOf, runOf, recordsBy, recordsOf}
+use Rattle.calls.specs.Calls.{wordsOfPart, openOf, runOf, recordsBy, recordsOf}
 use Rattle.calls.specs.Listing.{trLines}
 use Rattle.calls.proofs.FewRecords.{few-records}
 use Rattle.listing.specs.Stages.{linesAt, linesFrom, FewLines}
@@ -27,7 +27,7 @@ handed-length : (c : Checked Composition) (d : Store) (n : ℕ) → length (reco
 handed-length (refused k) d n = omega arith
 handed-length (good c) d n = go (eqb (expandedAt (d .memory .states) n) 1)
   where
-    go : (b : Bool) → length (cond b (wordsOf (d .memory .trs) (partAt d n)) []) / 5 ≤ partAt d n .count
+    go : (b : Bool) → length (cond b (wordsOfPart (d .memory .trs) (partAt d n)) []) / 5 ≤ partAt d n .count
     go true = let t = length-take (5 * partAt d n .count) (drop (5 * (partAt d n .first - 1)) (d .memory .trs)) in omega (arith, t)
     go false = omega arith
 

@@ -14,7 +14,7 @@ use Rattle.words.specs.Settings.{Settings, Lent}
 use Rattle.calls.specs.Store.{Memory, roomOf, stateRoom, trRoom, tripleAt}
 use Rattle.calls.specs.Checks.{Session, Passes}
 use Rattle.calls.specs.Calls.{Outcome, openOf, runOf, finalWeightOf, recordsOf}
-use Rattle.calls.specs.Listing.{Line, sideLine, stateLine, endLine, refusedLine, trLines, listed, printed, composed, settingsOf, noSession, emptyMemory, listingOn}
+use Rattle.calls.specs.Listing.{Line, sideLine, stateLine, endLine, refusedLine, trLines, listed, printed, composedLines, settingsOf, noSession, emptyMemory, listingOn}
 use Rattle.calls.proofs.RunLaws.{run-passes}
 use Rattle.listing_text.specs.Printing.{lineBytes, bytesOf}
 use Rattle.listing.specs.Stages.{givenWeight, linesAt, linesFrom, ranOf, openedOf, openedMemory, FewLines}
@@ -85,7 +85,7 @@ pub not-six : (w : List ℕ) (l : Lent) → (length w ≡ 6 → ⊥) → refused
 not-six w l h = rw (ne-eqb (length w) 6 h) refl
 
 pub six : (w : List ℕ) (l : Lent) (s : Settings) → s ≡ settingsOf w → length w ≡ 6 → printed (openedOf s l (noSession s) emptyMemory) ≡ listingOn w l
-unfolding composed openedOf ranOf
+unfolding composedLines openedOf ranOf
 six w l s p h = rw (eq-eqb (length w) 6 h) (ap (λ (x : Settings). printed (openedOf x l (noSession x) emptyMemory)) p)
 
 pub counted : (n : ℕ) (out : List ℕ) → n ≤ length out → Counts n out

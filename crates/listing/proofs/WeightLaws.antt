@@ -12,12 +12,12 @@ use Rattle.calls.specs.Store.{Memory}
 use Rattle.calls.specs.Checks.{Session}
 use Rattle.calls.specs.Calls.{finalWeightOf}
 use Rattle.calls.specs.Listing.{Line, sideLine, endLine, stateLines, joined, listed, printed, refusedLine}
-use Rattle.listing.specs.declared.weights.Weighed.{Weighed}
-use Rattle.listing.specs.declared.weights.Weighed.the-variants.{All, Refused}
+use Rattle.listing.specs.declared.weights.AllWeights.{AllWeights}
+use Rattle.listing.specs.declared.weights.AllWeights.the-variants.{All, Refused}
 use Rattle.listing.specs.Stages.{verdict, weightsFrom, givenWeight, linesAt, linesFrom}
 
 -- the first refusal of two counts
-abbrev pub thenVerdict : Weighed → Weighed → Weighed
+abbrev pub thenVerdict : AllWeights → AllWeights → AllWeights
 thenVerdict All v = v
 thenVerdict (Refused n) v = Refused n
 
@@ -51,16 +51,16 @@ module _ (l : Lent) (s : Session) (m : Memory) where
   weights-start k = ap (λ (j : ℕ). verdict (weightsFrom l s m 0 j)) (sub-zero k)
 
   -- state n's weight is answered, and the rest gives the same
-  pub weights-again : (n k : ℕ) (v one : Weighed) → n < k → verdict (weightsFrom l s m n (k - n)) ≡ v → one ≡ verdict (weight n) → one ≡ All → verdict (weightsFrom l s m (n + 1) (k - (n + 1))) ≡ v
+  pub weights-again : (n k : ℕ) (v one : AllWeights) → n < k → verdict (weightsFrom l s m n (k - n)) ≡ v → one ≡ verdict (weight n) → one ≡ All → verdict (weightsFrom l s m (n + 1) (k - (n + 1))) ≡ v
   weights-again n k v one h e p q =
-      sym (ap (λ (x : Weighed). thenVerdict x (verdict (weightsFrom l s m (n + 1) (k - (n + 1))))) (sym p ∙ q)) ∙ sym (turn n k h) ∙ e
+      sym (ap (λ (x : AllWeights). thenVerdict x (verdict (weightsFrom l s m (n + 1) (k - (n + 1))))) (sym p ∙ q)) ∙ sym (turn n k h) ∙ e
 
   -- it is refused, and so are all
-  pub weights-stop : (n k : ℕ) (v one : Weighed) (j : ℕ) → n < k → verdict (weightsFrom l s m n (k - n)) ≡ v → one ≡ verdict (weight n) → one ≡ Refused j → Refused j ≡ v
+  pub weights-stop : (n k : ℕ) (v one : AllWeights) (j : ℕ) → n < k → verdict (weightsFrom l s m n (k - n)) ≡ v → one ≡ verdict (weight n) → one ≡ Refused j → Refused j ≡ v
   weights-stop n k v one j h e p q =
-      sym (ap (λ (x : Weighed). thenVerdict x (verdict (weightsFrom l s m (n + 1) (k - (n + 1))))) (sym p ∙ q)) ∙ sym (turn n k h) ∙ e
+      sym (ap (λ (x : AllWeights). thenVerdict x (verdict (weightsFrom l s m (n + 1) (k - (n + 1))))) (sym p ∙ q)) ∙ sym (turn n k h) ∙ e
 
-  pub weights-done : (n k : ℕ) (v : Weighed) → k ≤ n → verdict (weightsFrom l s m n (k - n)) ≡ v → All ≡ v
+  pub weights-done : (n k : ℕ) (v : AllWeights) → k ≤ n → verdict (weightsFrom l s m n (k - n)) ≡ v → All ≡ v
   unfolding weightsFrom interval collect
   weights-done n k v h e = let z : k - n ≡ 0 = omega arith in ap (λ (j : ℕ). verdict (weightsFrom l s m n j)) (sym z) ∙ e
 

@@ -11,11 +11,11 @@ use Rattle.calls.specs.Store.{Memory, stateRoom, trRoom}
 use Rattle.calls.specs.Checks.{Session}
 use Rattle.calls.specs.Calls.{openOf, runOf, finalWeightOf}
 use Rattle.calls.specs.Listing.{Line, stateLines, listed}
-use Rattle.listing.specs.declared.weights.Weighed.{Weighed}
-use Rattle.listing.specs.declared.weights.Weighed.the-variants.{All, Refused}
+use Rattle.listing.specs.declared.weights.AllWeights.{AllWeights}
+use Rattle.listing.specs.declared.weights.AllWeights.the-variants.{All, Refused}
 
 -- what is known of weights that were taken: that all were answered, or the first refusal
-abbrev pub verdict : {A : Type 0} → Checked A → Weighed
+abbrev pub verdict : {A : Type 0} → Checked A → AllWeights
 verdict (good a) = All
 verdict (refused n) = Refused n
 

@@ -8,12 +8,12 @@ ghost use Rattle.io.specs.Counts.{Counts};
 ghost use Rattle.calls.specs.Listing.{listingOn};
 ghost use Rattle.listing_text.specs.Printing.{bytesOf};
 ghost use Rattle.listing_text.specs.Ended.{endedBytes};
-ghost use Rattle.listing_read.specs.Meaning.{inputOf, roomsOf};
+ghost use Rattle.listing_read.specs.Meaning.{readInput, roomsOf};
 ghost use Rattle.listing_read.specs.Held.{held, heldEnded};
 ghost use Rattle.listing_write.specs.Written.{Written};
 ghost use Rattle.lazy_fst.specs.Meaning.{lentWith};
 use fst::REFUSED_SETTINGS;
-use lazy_fst::Listed;
+use lazy_fst::AllowedLists;
 use listing_read::Reader;
 use listing_read::line_words;
 use listing_write::put_refused;
@@ -41,10 +41,13 @@ pub fn listing(
     m2: &[u32],
     allowed1: &[u32],
     allowed2: &[u32],
-    listed: Listed,
+    listed: AllowedLists,
     out: &mut [u8; 131200],
 ) -> usize
-    ensures { λ r. ⌜ Written (now (out .entry)) 0 (bytesOf (listingOn (now (words .entry)) (lentWith (now (m1 .entry)) (now (m2 .entry)) (now (allowed1 .entry)) (now (allowed2 .entry)) listed))) (now (out .exit)) r ⌝ }
+    ensures { λ r. ⌜ (
+        let l = lentWith (now (m1 .entry)) (now (m2 .entry)) (now (allowed1 .entry)) (now (allowed2 .entry)) listed in
+        Written (now (out .entry)) 0 (bytesOf (listingOn (now (words .entry)) l)) (now (out .exit)) r
+        ) ⌝ }
     ensures counts { λ r. ⌜ Counts r (now (out .exit)) ⌝ }
 {
     if words.len() != SETTINGS_WORDS {
@@ -76,9 +79,16 @@ pub fn answer(
     second: &mut [u32],
     out: &mut [u8; 131200],
 ) -> usize
-    ensures { λ n. ⌜ Written (now (out .entry)) 0 (endedBytes (roomsOf (now (settings .entry)) (now (first .entry)) (now (second .entry))) (inputOf r (now (settings .entry)) (now (first .entry)) (now (second .entry)))) (now (out .exit)) n ⌝ }
+    ensures { λ n. ⌜ (
+        let rooms = roomsOf (now (settings .entry)) (now (first .entry)) (now (second .entry)) in
+        let input = readInput r (now (settings .entry)) (now (first .entry)) (now (second .entry)) in
+        Written (now (out .entry)) 0 (endedBytes rooms input) (now (out .exit)) n
+        ) ⌝ }
     ensures counts { λ n. ⌜ Counts n (now (out .exit)) ⌝ }
-    ensures stored { λ n. ⌜ held r (now (settings .exit)) (now (first .exit)) (now (second .exit)) ≡ heldEnded (held r (now (settings .entry)) (now (first .entry)) (now (second .entry))) ⌝ }
+    ensures stored { λ n. ⌜ (
+        let words = held r (now (settings .entry)) (now (first .entry)) (now (second .entry)) in
+        held r (now (settings .exit)) (now (first .exit)) (now (second .exit)) ≡ heldEnded words
+        ) ⌝ }
 {
     let s = r.settings;
     let f = r.first;
@@ -89,7 +99,7 @@ pub fn answer(
     let words = &settings[..a];
     let m1 = &first[..b];
     let m2 = &second[..c];
-    let none = Listed {
+    let none = AllowedLists {
         first: false,
         second: false,
     };

@@ -14,7 +14,7 @@ ghost use Rattle.listing.specs.Stages.{givenWeight, linesAt, linesFrom, 
 use crate::weights::found;
 use compose_state_tuple::ComposeStateTuple;
 use fst::StateId;
-use lazy_fst::Listed;
+use lazy_fst::AllowedLists;
 use lazy_fst::Session;
 use lazy_fst::WeightAnswer;
 use listing_write::put_end;
@@ -54,7 +54,10 @@ fn put_weighed(
     weight: WeightAnswer,
 ) -> usize
     requires { ⌜ to + 64 ≤ length (now out) ⌝ }
-    ensures { λ r. ⌜ ((m : Memory) → Written (now (out .entry)) to (lineBytes (stateLine (n .0) (tupleMeans tuple) (givenWeight (weightLeft weight m .answer)))) (now (out .exit)) r) ⌝ }
+    ensures { λ r. ⌜ (
+        (m : Memory) →
+        Written (now (out .entry)) to (lineBytes (stateLine (n .0) (tupleMeans tuple) (givenWeight (weightLeft weight m .answer)))) (now (out .exit)) r
+        ) ⌝ }
     ensures near { λ r. ⌜ r ≤ to + 64 ⌝ }
 {
     let s1 = tuple.s1;
@@ -74,7 +77,7 @@ fn put_one(
     m2: &[u32],
     allowed1: &[u32],
     allowed2: &[u32],
-    listed: Listed,
+    listed: AllowedLists,
     heads: &[u32],
     states: &[u32],
     trs: &[u32],
@@ -82,10 +85,25 @@ fn put_one(
     out: &mut [u8],
     to: usize,
 ) -> usize
-    requires { ⌜ Room (now out) to (length (linesAt (lentWith (now m1) (now m2) (now allowed1) (now allowed2) listed) (sessionMeans session) (memoryOf (now heads) (now states) (now trs)) (n .0))) ⌝ }
-    requires passes { ⌜ Passes (lentWith (now m1) (now m2) (now allowed1) (now allowed2) listed) (sessionMeans session) (memoryOf (now heads) (now states) (now trs)) ⌝ }
-    ensures { λ r. ⌜ Written (now (out .entry)) to (bytesOf (linesAt (lentWith (now (m1 .entry)) (now (m2 .entry)) (now (allowed1 .entry)) (now (allowed2 .entry)) listed) (sessionMeans session) (memoryOf (now (heads .entry)) (now (states .entry)) (now (trs .entry))) (n .0))) (now (out .exit)) r ⌝ }
-    ensures near { λ r. ⌜ r ≤ to + 64 * length (linesAt (lentWith (now (m1 .entry)) (now (m2 .entry)) (now (allowed1 .entry)) (now (allowed2 .entry)) listed) (sessionMeans session) (memoryOf (now (heads .entry)) (now (states .entry)) (now (trs .entry))) (n .0)) ⌝ }
+    requires { ⌜ (
+        let l = lentWith (now m1) (now m2) (now allowed1) (now allowed2) listed in
+        let m = memoryOf (now heads) (now states) (now trs) in
+        Room (now out) to (length (linesAt l (sessionMeans session) m (n .0)))
+        ) ⌝ }
+    requires passes { ⌜ (
+        let l = lentWith (now m1) (now m2) (now allowed1) (now allowed2) listed in
+        Passes l (sessionMeans session) (memoryOf (now heads) (now states) (now trs))
+        ) ⌝ }
+    ensures { λ r. ⌜ (
+        let l = lentWith (now (m1 .entry)) (now (m2 .entry)) (now (allowed1 .entry)) (now (allowed2 .entry)) listed in
+        let m = memoryOf (now (heads .entry)) (now (states .entry)) (now (trs .entry)) in
+        Written (now (out .entry)) to (bytesOf (linesAt l (sessionMeans session) m (n .0))) (now (out .exit)) r
+        ) ⌝ }
+    ensures near { λ r. ⌜ (
+        let l = lentWith (now (m1 .entry)) (now (m2 .entry)) (now (allowed1 .entry)) (now (allowed2 .entry)) listed in
+        let m = memoryOf (now (heads .entry)) (now (states .entry)) (now (trs .entry)) in
+        r ≤ to + 64 * length (linesAt l (sessionMeans session) m (n .0))
+        ) ⌝ }
 {
     let weight = session.trusted_final_weight(
         m1,
@@ -120,17 +138,32 @@ fn put_states(
     m2: &[u32],
     allowed1: &[u32],
     allowed2: &[u32],
-    listed: Listed,
+    listed: AllowedLists,
     heads: &[u32],
     states: &[u32],
     trs: &[u32],
     out: &mut [u8],
     to: usize,
 ) -> usize
-    requires { ⌜ Room (now out) to (length (linesFrom (lentWith (now m1) (now m2) (now allowed1) (now allowed2) listed) (sessionMeans session) (memoryOf (now heads) (now states) (now trs)) 0 (session .used .states))) ⌝ }
-    requires passes { ⌜ Passes (lentWith (now m1) (now m2) (now allowed1) (now allowed2) listed) (sessionMeans session) (memoryOf (now heads) (now states) (now trs)) ⌝ }
-    ensures { λ r. ⌜ Written (now (out .entry)) to (bytesOf (linesFrom (lentWith (now (m1 .entry)) (now (m2 .entry)) (now (allowed1 .entry)) (now (allowed2 .entry)) listed) (sessionMeans session) (memoryOf (now (heads .entry)) (now (states .entry)) (now (trs .entry))) 0 (session .used .states))) (now (out .exit)) r ⌝ }
-    ensures near { λ r. ⌜ r ≤ to + 64 * length (linesFrom (lentWith (now (m1 .entry)) (now (m2 .entry)) (now (allowed1 .entry)) (now (allowed2 .entry)) listed) (sessionMeans session) (memoryOf (now (heads .entry)) (now (states .entry)) (now (trs .entry))) 0 (session .used .states)) ⌝ }
+    requires { ⌜ (
+        let l = lentWith (now m1) (now m2) (now allowed1) (now allowed2) listed in
+        let m = memoryOf (now heads) (now states) (now trs) in
+        Room (now out) to (length (linesFrom l (sessionMeans session) m 0 (session .used .states)))
+        ) ⌝ }
+    requires passes { ⌜ (
+        let l = lentWith (now m1) (now m2) (now allowed1) (now allowed2) listed in
+        Passes l (sessionMeans session) (memoryOf (now heads) (now states) (now trs))
+        ) ⌝ }
+    ensures { λ r. ⌜ (
+        let l = lentWith (now (m1 .entry)) (now (m2 .entry)) (now (allowed1 .entry)) (now (allowed2 .entry)) listed in
+        let m = memoryOf (now (heads .entry)) (now (states .entry)) (now (trs .entry)) in
+        Written (now (out .entry)) to (bytesOf (linesFrom l (sessionMeans session) m 0 (session .used .states))) (now (out .exit)) r
+        ) ⌝ }
+    ensures near { λ r. ⌜ (
+        let l = lentWith (now (m1 .entry)) (now (m2 .entry)) (now (allowed1 .entry)) (now (allowed2 .entry)) listed in
+        let m = memoryOf (now (heads .entry)) (now (states .entry)) (now (trs .entry)) in
+        r ≤ to + 64 * length (linesFrom l (sessionMeans session) m 0 (session .used .states))
+        ) ⌝ }
 {
     let count = found(session);
     let mut at = to;
@@ -163,15 +196,28 @@ pub fn put_listing(
     m2: &[u32],
     allowed1: &[u32],
     allowed2: &[u32],
-    listed: Listed,
+    listed: AllowedLists,
     heads: &[u32],
     states: &[u32],
     trs: &[u32],
     out: &mut [u8],
 ) -> usize
-    requires { ⌜ Room (now out) 128 (length (linesFrom (lentWith (now m1) (now m2) (now allowed1) (now allowed2) listed) (sessionMeans session) (memoryOf (now heads) (now states) (now trs)) 0 (session .used .states))) ⌝ }
-    requires passes { ⌜ Passes (lentWith (now m1) (now m2) (now allowed1) (now allowed2) listed) (sessionMeans session) (memoryOf (now heads) (now states) (now trs)) ⌝ }
-    ensures { λ r. ⌜ Written (now (out .entry)) 0 (bytesOf (sideLine (session .side) ∷ linesFrom (lentWith (now (m1 .entry)) (now (m2 .entry)) (now (allowed1 .entry)) (now (allowed2 .entry)) listed) (sessionMeans session) (memoryOf (now (heads .entry)) (now (states .entry)) (now (trs .entry))) 0 (session .used .states) ++ (endLine (session .used .states) (session .used .trs) ∷ []))) (now (out .exit)) r ⌝ }
+    requires { ⌜ (
+        let l = lentWith (now m1) (now m2) (now allowed1) (now allowed2) listed in
+        let m = memoryOf (now heads) (now states) (now trs) in
+        Room (now out) 128 (length (linesFrom l (sessionMeans session) m 0 (session .used .states)))
+        ) ⌝ }
+    requires passes { ⌜ (
+        let l = lentWith (now m1) (now m2) (now allowed1) (now allowed2) listed in
+        Passes l (sessionMeans session) (memoryOf (now heads) (now states) (now trs))
+        ) ⌝ }
+    ensures { λ r. ⌜ (
+        let l = lentWith (now (m1 .entry)) (now (m2 .entry)) (now (allowed1 .entry)) (now (allowed2 .entry)) listed in
+        let m = memoryOf (now (heads .entry)) (now (states .entry)) (now (trs .entry)) in
+        let states = linesFrom l (sessionMeans session) m 0 (session .used .states) in
+        let lines = sideLine (session .side) ∷ states ++ (endLine (session .used .states) (session .used .trs) ∷ []) in
+        Written (now (out .entry)) 0 (bytesOf lines) (now (out .exit)) r
+        ) ⌝ }
     ensures counts { λ r. ⌜ r ≤ length (now (out .exit)) ⌝ }
 {
     let used = session.used;

@@ -12,10 +12,10 @@ ghost use Rattle.listing_text.specs.Printing.{bytesOf};
 ghost use Rattle.listing_write.specs.Written.{Written};
 ghost use Rattle.listing.specs.Stages.{linesFrom, Room, Sized, FewLines, ranOf, openedOf, openedMemory};
 use crate::lines::put_listing;
-use crate::weights::Weighed;
+use crate::weights::AllWeights;
 use crate::weights::weigh;
+use lazy_fst::AllowedLists;
 use lazy_fst::Answer;
-use lazy_fst::Listed;
 use lazy_fst::Session;
 use listing_write::put_refused;
 use session_checks::Settings;
@@ -39,16 +39,25 @@ pub fn opened(
     m2: &[u32],
     allowed1: &[u32],
     allowed2: &[u32],
-    listed: Listed,
+    listed: AllowedLists,
     heads: &mut [u32],
     states: &mut [u32],
     trs: &mut [u32],
     out: &mut [u8],
 ) -> usize
     requires { ⌜ Sized (now states) (now trs) (now out) ⌝ }
-    ensures { λ r. ⌜ Written (now (out .entry)) 0 (bytesOf (printed (openedOf (settingsMeans settings) (lentWith (now (m1 .entry)) (now (m2 .entry)) (now (allowed1 .entry)) (now (allowed2 .entry)) listed) (noSession (settingsMeans settings)) (memoryOf (now (heads .entry)) (now (states .entry)) (now (trs .entry)))))) (now (out .exit)) r ⌝ }
+    ensures { λ r. ⌜ (
+        let l = lentWith (now (m1 .entry)) (now (m2 .entry)) (now (allowed1 .entry)) (now (allowed2 .entry)) listed in
+        let m = memoryOf (now (heads .entry)) (now (states .entry)) (now (trs .entry)) in
+        Written (now (out .entry)) 0 (bytesOf (printed (openedOf (settingsMeans settings) l (noSession (settingsMeans settings)) m))) (now (out .exit)) r
+        ) ⌝ }
     ensures counts { λ r. ⌜ r ≤ length (now (out .exit)) ⌝ }
-    ensures memory { λ _. ⌜ memoryOf (now (heads .exit)) (now (states .exit)) (now (trs .exit)) ≡ openedMemory (settingsMeans settings) (lentWith (now (m1 .entry)) (now (m2 .entry)) (now (allowed1 .entry)) (now (allowed2 .entry)) listed) (noSession (settingsMeans settings)) (memoryOf (now (heads .entry)) (now (states .entry)) (now (trs .entry))) ⌝ }
+    ensures memory { λ _. ⌜ (
+        let l = lentWith (now (m1 .entry)) (now (m2 .entry)) (now (allowed1 .entry)) (now (allowed2 .entry)) listed in
+        let m = memoryOf (now (heads .entry)) (now (states .entry)) (now (trs .entry)) in
+        let m′ = memoryOf (now (heads .exit)) (now (states .exit)) (now (trs .exit)) in
+        m′ ≡ openedMemory (settingsMeans settings) l (noSession (settingsMeans settings)) m
+        ) ⌝ }
 {
     let got = no_session(settings);
     let answer = got.open(
@@ -86,17 +95,29 @@ fn ran(
     m2: &[u32],
     allowed1: &[u32],
     allowed2: &[u32],
-    listed: Listed,
+    listed: AllowedLists,
     heads: &mut [u32],
     states: &mut [u32],
     trs: &mut [u32],
     out: &mut [u8],
 ) -> usize
     requires { ⌜ Sized (now states) (now trs) (now out) ⌝ }
-    requires few { ⌜ FewLines (lentWith (now m1) (now m2) (now allowed1) (now allowed2) listed) (sessionMeans session) (memoryOf (now heads) (now states) (now trs)) ⌝ }
-    ensures { λ r. ⌜ Written (now (out .entry)) 0 (bytesOf (printed (ranOf (lentWith (now (m1 .entry)) (now (m2 .entry)) (now (allowed1 .entry)) (now (allowed2 .entry)) listed) (sessionMeans session) (memoryOf (now (heads .entry)) (now (states .entry)) (now (trs .entry)))))) (now (out .exit)) r ⌝ }
+    requires few { ⌜ (
+        let l = lentWith (now m1) (now m2) (now allowed1) (now allowed2) listed in
+        FewLines l (sessionMeans session) (memoryOf (now heads) (now states) (now trs))
+        ) ⌝ }
+    ensures { λ r. ⌜ (
+        let l = lentWith (now (m1 .entry)) (now (m2 .entry)) (now (allowed1 .entry)) (now (allowed2 .entry)) listed in
+        let m = memoryOf (now (heads .entry)) (now (states .entry)) (now (trs .entry)) in
+        Written (now (out .entry)) 0 (bytesOf (printed (ranOf l (sessionMeans session) m))) (now (out .exit)) r
+        ) ⌝ }
     ensures counts { λ r. ⌜ r ≤ length (now (out .exit)) ⌝ }
-    ensures memory { λ _. ⌜ memoryOf (now (heads .exit)) (now (states .exit)) (now (trs .exit)) ≡ runOf (lentWith (now (m1 .entry)) (now (m2 .entry)) (now (allowed1 .entry)) (now (allowed2 .entry)) listed) (sessionMeans session) (memoryOf (now (heads .entry)) (now (states .entry)) (now (trs .entry))) .memory ⌝ }
+    ensures memory { λ _. ⌜ (
+        let l = lentWith (now (m1 .entry)) (now (m2 .entry)) (now (allowed1 .entry)) (now (allowed2 .entry)) listed in
+        let m = memoryOf (now (heads .entry)) (now (states .entry)) (now (trs .entry)) in
+        let m′ = memoryOf (now (heads .exit)) (now (states .exit)) (now (trs .exit)) in
+        m′ ≡ runOf l (sessionMeans session) m .memory
+        ) ⌝ }
 {
     let answer = session.run(m1, m2, allowed1, allowed2, listed, heads, states, trs);
     match answer {
@@ -123,15 +144,26 @@ fn weighed(
     m2: &[u32],
     allowed1: &[u32],
     allowed2: &[u32],
-    listed: Listed,
+    listed: AllowedLists,
     heads: &[u32],
     states: &[u32],
     trs: &[u32],
     out: &mut [u8],
 ) -> usize
-    requires { ⌜ Room (now out) 128 (length (linesFrom (lentWith (now m1) (now m2) (now allowed1) (now allowed2) listed) (sessionMeans session) (memoryOf (now heads) (now states) (now trs)) 0 (session .used .states))) ⌝ }
-    requires passes { ⌜ Passes (lentWith (now m1) (now m2) (now allowed1) (now allowed2) listed) (sessionMeans session) (memoryOf (now heads) (now states) (now trs)) ⌝ }
-    ensures { λ r. ⌜ Written (now (out .entry)) 0 (bytesOf (printed (listedOf (lentWith (now (m1 .entry)) (now (m2 .entry)) (now (allowed1 .entry)) (now (allowed2 .entry)) listed) (sessionMeans session) (memoryOf (now (heads .entry)) (now (states .entry)) (now (trs .entry)))))) (now (out .exit)) r ⌝ }
+    requires { ⌜ (
+        let l = lentWith (now m1) (now m2) (now allowed1) (now allowed2) listed in
+        let m = memoryOf (now heads) (now states) (now trs) in
+        Room (now out) 128 (length (linesFrom l (sessionMeans session) m 0 (session .used .states)))
+        ) ⌝ }
+    requires passes { ⌜ (
+        let l = lentWith (now m1) (now m2) (now allowed1) (now allowed2) listed in
+        Passes l (sessionMeans session) (memoryOf (now heads) (now states) (now trs))
+        ) ⌝ }
+    ensures { λ r. ⌜ (
+        let l = lentWith (now (m1 .entry)) (now (m2 .entry)) (now (allowed1 .entry)) (now (allowed2 .entry)) listed in
+        let m = memoryOf (now (heads .entry)) (now (states .entry)) (now (trs .entry)) in
+        Written (now (out .entry)) 0 (bytesOf (printed (listedOf l (sessionMeans session) m))) (now (out .exit)) r
+        ) ⌝ }
     ensures counts { λ r. ⌜ r ≤ length (now (out .exit)) ⌝ }
 {
     let weights = weigh(
@@ -146,8 +178,8 @@ fn weighed(
         trs,
     );
     match weights {
-        Weighed::Refused(k) => put_refused(out, 0, k),
-        Weighed::All => put_listing(
+        AllWeights::Refused(k) => put_refused(out, 0, k),
+        AllWeights::All => put_listing(
             session,
             m1,
             m2,

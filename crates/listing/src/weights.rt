@@ -6,24 +6,24 @@ ghost use Rattle.store_records.specs.Meaning.{memoryOf};
 ghost use Rattle.lazy_fst.specs.Meaning.{lentWith, sessionMeans, weightLeft};
 ghost use Rattle.listing.specs.Stages.{verdict, weightsFrom};
 use fst::StateId;
-use lazy_fst::Listed;
+use lazy_fst::AllowedLists;
 use lazy_fst::Session;
 use lazy_fst::WeightAnswer;
 
 // Whether every final weight was answered; else the number of the first refusal.
-pub enum Weighed {
+pub enum AllWeights {
     All,
     Refused(u32),
 }
 
 // The number of a refusal, if it is one.
-fn judged(weight: WeightAnswer) -> Weighed
+fn judged(weight: WeightAnswer) -> AllWeights
     ensures { λ r. ⌜ ((m : Memory) → r ≡ verdict (weightLeft weight m .answer)) ⌝ }
 {
     match weight {
-        WeightAnswer::Refused(k, _) => Weighed::Refused(k),
-        WeightAnswer::Weight(_, _) => Weighed::All,
-        WeightAnswer::NotFinal(_) => Weighed::All,
+        WeightAnswer::Refused(k, _) => AllWeights::Refused(k),
+        WeightAnswer::Weight(_, _) => AllWeights::All,
+        WeightAnswer::NotFinal(_) => AllWeights::All,
     }
 }
 
@@ -42,13 +42,20 @@ pub fn weigh(
     m2: &[u32],
     allowed1: &[u32],
     allowed2: &[u32],
-    listed: Listed,
+    listed: AllowedLists,
     heads: &[u32],
     states: &[u32],
     trs: &[u32],
-) -> Weighed
-    requires { ⌜ Passes (lentWith (now m1) (now m2) (now allowed1) (now allowed2) listed) (sessionMeans session) (memoryOf (now heads) (now states) (now trs)) ⌝ }
-    ensures { λ r. ⌜ r ≡ verdict (weightsFrom (lentWith (now (m1 .entry)) (now (m2 .entry)) (now (allowed1 .entry)) (now (allowed2 .entry)) listed) (sessionMeans session) (memoryOf (now (heads .entry)) (now (states .entry)) (now (trs .entry))) 0 (session .used .states)) ⌝ }
+) -> AllWeights
+    requires { ⌜ (
+        let l = lentWith (now m1) (now m2) (now allowed1) (now allowed2) listed in
+        Passes l (sessionMeans session) (memoryOf (now heads) (now states) (now trs))
+        ) ⌝ }
+    ensures { λ r. ⌜ (
+        let l = lentWith (now (m1 .entry)) (now (m2 .entry)) (now (allowed1 .entry)) (now (allowed2 .entry)) listed in
+        let m = memoryOf (now (heads .entry)) (now (states .entry)) (now (trs .entry)) in
+        r ≡ verdict (weightsFrom l (sessionMeans session) m 0 (session .used .states))
+        ) ⌝ }
 {
     let count = found(session);
     let mut n: u32 = 0;
@@ -67,13 +74,13 @@ pub fn weigh(
         );
         let one = judged(weight);
         match one {
-            Weighed::Refused(k) => {
-                return Weighed::Refused(k);
+            AllWeights::Refused(k) => {
+                return AllWeights::Refused(k);
             }
-            Weighed::All => {
+            AllWeights::All => {
                 n += 1;
             }
         }
     }
-    Weighed::All
+    AllWeights::All
 }

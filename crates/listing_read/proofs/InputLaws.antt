@@ -12,14 +12,14 @@ use borrow.Author.Tests.{lt-ltb, le-ltb, eq-eqb, ne-eqb}
 use Rattle.listing_text.specs.Reading.{lineFeed, step}
 use Rattle.listing_text.specs.Chunks.{Input, Rooms, nextLine, within, inRooms, readByte, readBytes}
 use Rattle.listing_text.proofs.Chunks.{made, in-chunks, rooms-byte}
-use Rattle.listing_read.specs.Meaning.{scanOf, inputOf, roomsOf, readerOf}
+use Rattle.listing_read.specs.Meaning.{scanOf, readInput, roomsOf, readerOf}
 use Rattle.listing_read.specs.declared.line.LineReader.{LineReader}
 use Rattle.listing_read.specs.declared.Reader.{Reader}
 use Rattle.listing_read.proofs.ScanLaws.{scan-within}
 
 module _ (r : Reader) (s f g : List ℕ) where
   abbrev I : Input
-  I = inputOf r s f g
+  I = readInput r s f g
 
   abbrev W : Rooms
   W = roomsOf s f g
@@ -45,23 +45,23 @@ module _ (r : Reader) (s f g : List ℕ) where
   pub after-third : (b : ℕ) → 2 < r .at → I ≡ inRooms W (readByte I b)
   after-third b h = input-within ∙ by-tests b (le-ltb (r .at) 3 (omega arith)) refl refl refl
 
-  pub line-feed : (b : ℕ) → r .at ≤ 2 → b ≡ 10 → inputOf (readerOf (r .at + 1) (r .settings) (r .first) (r .second)) s f g ≡ inRooms W (readByte I b)
+  pub line-feed : (b : ℕ) → r .at ≤ 2 → b ≡ 10 → readInput (readerOf (r .at + 1) (r .settings) (r .first) (r .second)) s f g ≡ inRooms W (readByte I b)
   line-feed b h e = ap nextLine input-within ∙ by-tests b (lt-ltb (r .at) 3 (omega arith)) (eq-eqb b 10 e) refl refl
 
   pub in-settings : (b : ℕ) (l : LineReader) (s′ : List ℕ) → r .at ≤ 2 → (b ≡ 10 → ⊥) → r .at ≡ 0 → scanOf s′ l ≡ within (length s) (step (scanOf s (r .settings)) b)
-      → inputOf (readerOf (r .at) l (r .first) (r .second)) s′ f g ≡ inRooms W (readByte I b)
+      → readInput (readerOf (r .at) l (r .first) (r .second)) s′ f g ≡ inRooms W (readByte I b)
   in-settings b l s′ h n z e =
       (λ k. made (r .at) (e k) (scan-within f (r .first) k) (scan-within g (r .second) k))
       ∙ by-tests b (lt-ltb (r .at) 3 (omega arith)) (ne-eqb b 10 n) (eq-eqb (r .at) 0 z) refl
 
   pub in-first : (b : ℕ) (l : LineReader) (f′ : List ℕ) → r .at ≤ 2 → (b ≡ 10 → ⊥) → (r .at ≡ 0 → ⊥) → r .at ≡ 1 → scanOf f′ l ≡ within (length f) (step (scanOf f (r .first)) b)
-      → inputOf (readerOf (r .at) (r .settings) l (r .second)) s f′ g ≡ inRooms W (readByte I b)
+      → readInput (readerOf (r .at) (r .settings) l (r .second)) s f′ g ≡ inRooms W (readByte I b)
   in-first b l f′ h n z w e =
       (λ k. made (r .at) (scan-within s (r .settings) k) (e k) (scan-within g (r .second) k))
       ∙ by-tests b (lt-ltb (r .at) 3 (omega arith)) (ne-eqb b 10 n) (ne-eqb (r .at) 0 z) (eq-eqb (r .at) 1 w)
 
   pub in-second : (b : ℕ) (l : LineReader) (g′ : List ℕ) → r .at ≤ 2 → (b ≡ 10 → ⊥) → (r .at ≡ 0 → ⊥) → (r .at ≡ 1 → ⊥) → scanOf g′ l ≡ within (length g) (step (scanOf g (r .second)) b)
-      → inputOf (readerOf (r .at) (r .settings) (r .first) l) s f g′ ≡ inRooms W (readByte I b)
+      → readInput (readerOf (r .at) (r .settings) (r .first) l) s f g′ ≡ inRooms W (readByte I b)
   in-second b l g′ h n z w e =
       (λ k. made (r .at) (scan-within s (r .settings) k) (scan-within f (r .first) k) (e k))
       ∙ by-tests b (lt-ltb (r .at) 3 (omega arith)) (ne-eqb b 10 n) (ne-eqb (r .at) 0 z) (ne-eqb (r .at) 1 w)

@@ -11,7 +11,7 @@ use lib.Seq.{length-take-le, take-all, take-suc-set}
 use borrow.Author.Tests.{leb-true, leb-false, le-leb, lt-leb}
 use Rattle.io.specs.Counts.{Counts}
 use Rattle.words.specs.Labels.{MAX}
-use Rattle.listing_text.specs.Reading.{isBlank, isDigit, Scan, reading, notWords, ended, step, kept}
+use Rattle.listing_text.specs.Reading.{isBlank, isDigit, Scan, reading, notWords, wordEnded, step, kept}
 use Rattle.listing_text.specs.Chunks.{within}
 use Rattle.listing_read.specs.Meaning.{scanOf}
 use Rattle.listing_read.specs.declared.line.LineReader.{LineReader}
@@ -58,36 +58,36 @@ module _ (ws : List ℕ) (l : LineReader) where
   scan-bad : l .bad ≡ true → scanOf ws l ≡ notWords
   scan-bad g = ap (λ (x : Bool). cond x notWords R) g
 
-  pub put-bad : l .bad ≡ true → scanOf ws l ≡ within (length ws) (ended (scanOf ws l))
-  put-bad g = scan-bad g ∙ ap (λ (s : Scan). within (length ws) (ended s)) (sym (scan-bad g))
+  pub put-bad : l .bad ≡ true → scanOf ws l ≡ within (length ws) (wordEnded (scanOf ws l))
+  put-bad g = scan-bad g ∙ ap (λ (s : Scan). within (length ws) (wordEnded s)) (sym (scan-bad g))
 
   pub put-room : l .bad ≡ false → l .inside ≡ true → l .count < length ws
-      → scanOf (set ws (l .count) (l .value)) (record { count = l .count + 1; value = 0; inside = false; bad = false }) ≡ within (length ws) (ended (scanOf ws l))
+      → scanOf (set ws (l .count) (l .value)) (record { count = l .count + 1; value = 0; inside = false; bad = false }) ≡ within (length ws) (wordEnded (scanOf ws l))
   put-room g i h =
       let words : List ℕ = take (l .count) ws ++ (l .value ∷ []) in
       let n : length words ≡ l .count + 1 = length-append (take (l .count) ws) (l .value ∷ []) ∙ ap (λ (k : ℕ). k + 1) (length-take-le (l .count) ws (omega arith)) in
       let f : leb (length words) (length ws) ≡ true = le-leb (length words) (length ws) (omega (arith, n)) in
       ap (λ (w : List ℕ). reading w 0 false) (ap (λ (k : ℕ). take k (set ws (l .count) (l .value))) (add-one (l .count)) ∙ take-suc-set ws (l .count) (l .value) h)
       ∙ (λ k. cond (sym f k) (reading words 0 false) notWords)
-      ∙ (λ k. within (length ws) (ended (reading (take (l .count) ws) (l .value) (sym i k))))
-      ∙ ap (λ (s : Scan). within (length ws) (ended s)) (sym (scan-good g))
+      ∙ (λ k. within (length ws) (wordEnded (reading (take (l .count) ws) (l .value) (sym i k))))
+      ∙ ap (λ (s : Scan). within (length ws) (wordEnded s)) (sym (scan-good g))
 
-  pub put-full : l .bad ≡ false → l .inside ≡ true → length ws ≤ l .count → notWords ≡ within (length ws) (ended (scanOf ws l))
+  pub put-full : l .bad ≡ false → l .inside ≡ true → length ws ≤ l .count → notWords ≡ within (length ws) (wordEnded (scanOf ws l))
   put-full g i h =
       let words : List ℕ = take (l .count) ws ++ (l .value ∷ []) in
       let n : length words ≡ length ws + 1 = length-append (take (l .count) ws) (l .value ∷ []) ∙ ap (λ (w : List ℕ). length w + 1) (take-all (l .count) ws h) in
       let f : leb (length words) (length ws) ≡ false = lt-leb (length words) (length ws) (omega (arith, n)) in
       (λ k. cond (sym f k) (reading words 0 false) notWords)
-      ∙ (λ k. within (length ws) (ended (reading (take (l .count) ws) (l .value) (sym i k))))
-      ∙ ap (λ (s : Scan). within (length ws) (ended s)) (sym (scan-good g))
+      ∙ (λ k. within (length ws) (wordEnded (reading (take (l .count) ws) (l .value) (sym i k))))
+      ∙ ap (λ (s : Scan). within (length ws) (wordEnded s)) (sym (scan-good g))
 
-  pub put-out : l .bad ≡ false → l .inside ≡ false → scanOf ws l ≡ within (length ws) (ended (scanOf ws l))
+  pub put-out : l .bad ≡ false → l .inside ≡ false → scanOf ws l ≡ within (length ws) (wordEnded (scanOf ws l))
   put-out g i =
       scan-within ws l
       ∙ ap (within (length ws)) (scan-good g)
       ∙ (λ k. within (length ws) (reading (take (l .count) ws) (l .value) (i k)))
-      ∙ (λ k. within (length ws) (ended (reading (take (l .count) ws) (l .value) (sym i k))))
-      ∙ ap (λ (s : Scan). within (length ws) (ended s)) (sym (scan-good g))
+      ∙ (λ k. within (length ws) (wordEnded (reading (take (l .count) ws) (l .value) (sym i k))))
+      ∙ ap (λ (s : Scan). within (length ws) (wordEnded s)) (sym (scan-good g))
 
   pub step-bad : (b : ℕ) → l .bad ≡ true → scanOf ws l ≡ within (length ws) (step (scanOf ws l) b)
   unfolding step
@@ -95,14 +95,14 @@ module _ (ws : List ℕ) (l : LineReader) where
 
   -- `step` at a line that is not bad, by its three tests
   abbrev by : ℕ → Bool → Bool → Bool → Scan
-  by b x y z = within (length ws) (cond x (ended R) (cond y (cond z (reading (take (l .count) ws) (l .value * 10 + (b - 48)) true) notWords) notWords))
+  by b x y z = within (length ws) (cond x (wordEnded R) (cond y (cond z (reading (take (l .count) ws) (l .value * 10 + (b - 48)) true) notWords) notWords))
 
   by-tests : (b : ℕ) {x y z : Bool} → l .bad ≡ false → isBlank b ≡ x → isDigit b ≡ y → leb (l .value * 10 + (b - 48)) MAX ≡ z → by b x y z ≡ within (length ws) (step (scanOf ws l) b)
   unfolding step
   by-tests b g x y z = (λ k. by b (sym x k) (sym y k) (sym z k)) ∙ ap (λ (s : Scan). within (length ws) (step s b)) (sym (scan-good g))
 
-  pub step-blank : (b : ℕ) → l .bad ≡ false → isBlank b ≡ true → within (length ws) (ended (scanOf ws l)) ≡ within (length ws) (step (scanOf ws l) b)
-  step-blank b g x = ap (λ (s : Scan). within (length ws) (ended s)) (scan-good g) ∙ by-tests b g x refl refl
+  pub step-blank : (b : ℕ) → l .bad ≡ false → isBlank b ≡ true → within (length ws) (wordEnded (scanOf ws l)) ≡ within (length ws) (step (scanOf ws l) b)
+  step-blank b g x = ap (λ (s : Scan). within (length ws) (wordEnded s)) (scan-good g) ∙ by-tests b g x refl refl
 
   pub step-other : (b : ℕ) → l .bad ≡ false → isBlank b ≡ false → isDigit b ≡ false → notWords ≡ within (length ws) (step (scanOf ws l) b)
   step-other b g x y = by-tests b g x y refl

@@ -13,8 +13,8 @@ abbrev pub scanOf : List ℕ → LineReader → Scan
 scanOf words l = cond (l .bad) notWords (reading (take (l .count) words) (l .value) (l .inside))
 
 -- the three lines, each with its slice
-abbrev pub inputOf : Reader → List ℕ → List ℕ → List ℕ → Input
-inputOf r settings first second =
+abbrev pub readInput : Reader → List ℕ → List ℕ → List ℕ → Input
+readInput r settings first second =
     record { at = r .at; settings = scanOf settings (r .settings); first = scanOf first (r .first); second = scanOf second (r .second) }
 
 -- the room of a line is the length of its slice

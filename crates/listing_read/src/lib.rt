@@ -3,7 +3,7 @@ mod line;
 
 ghost use mathlib.Core.Path.{_≡_};
 ghost use Rattle.listing_text.specs.Chunks.{readByte, readBytes, inRooms};
-ghost use Rattle.listing_read.specs.Meaning.{inputOf, roomsOf, newReader, readerOf};
+ghost use Rattle.listing_read.specs.Meaning.{readInput, roomsOf, newReader, readerOf};
 ghost use Rattle.listing_read.specs.Held.{held, heldByte, heldBytes};
 pub use line::LineReader;
 pub use line::line_words;
@@ -36,8 +36,16 @@ pub fn read_byte(
     first: &mut [u32],
     second: &mut [u32],
 ) -> Reader
-    ensures { λ n. ⌜ inputOf n (now (settings .exit)) (now (first .exit)) (now (second .exit)) ≡ inRooms (roomsOf (now (settings .entry)) (now (first .entry)) (now (second .entry))) (readByte (inputOf r (now (settings .entry)) (now (first .entry)) (now (second .entry))) b) ⌝ }
-    ensures stored { λ n. ⌜ held n (now (settings .exit)) (now (first .exit)) (now (second .exit)) ≡ heldByte (held r (now (settings .entry)) (now (first .entry)) (now (second .entry))) b ⌝ }
+    ensures { λ n. ⌜ (
+        let rooms = roomsOf (now (settings .entry)) (now (first .entry)) (now (second .entry)) in
+        let input = readInput r (now (settings .entry)) (now (first .entry)) (now (second .entry)) in
+        let input′ = readInput n (now (settings .exit)) (now (first .exit)) (now (second .exit)) in
+        input′ ≡ inRooms rooms (readByte input b)
+        ) ⌝ }
+    ensures stored { λ n. ⌜ (
+        let words = held r (now (settings .entry)) (now (first .entry)) (now (second .entry)) in
+        held n (now (settings .exit)) (now (first .exit)) (now (second .exit)) ≡ heldByte words b
+        ) ⌝ }
 {
     let at = r.at;
     let s = r.settings;
@@ -77,8 +85,17 @@ pub fn read_chunk(
     first: &mut [u32],
     second: &mut [u32],
 ) -> Reader
-    ensures { λ n. ⌜ inputOf n (now (settings .exit)) (now (first .exit)) (now (second .exit)) ≡ inRooms (roomsOf (now (settings .entry)) (now (first .entry)) (now (second .entry))) (readBytes (inputOf start (now (settings .entry)) (now (first .entry)) (now (second .entry))) (now (chunk .entry))) ⌝ }
-    ensures stored { λ n. ⌜ held n (now (settings .exit)) (now (first .exit)) (now (second .exit)) ≡ heldBytes (held start (now (settings .entry)) (now (first .entry)) (now (second .entry))) (now (chunk .entry)) ⌝ }
+    ensures { λ n. ⌜ (
+        let rooms = roomsOf (now (settings .entry)) (now (first .entry)) (now (second .entry)) in
+        let input = readInput start (now (settings .entry)) (now (first .entry)) (now (second .entry)) in
+        let input′ = readInput n (now (settings .exit)) (now (first .exit)) (now (second .exit)) in
+        input′ ≡ inRooms rooms (readBytes input (now (chunk .entry)))
+        ) ⌝ }
+    ensures stored { λ n. ⌜ (
+        let words = held start (now (settings .entry)) (now (first .entry)) (now (second .entry)) in
+        let words′ = held n (now (settings .exit)) (now (first .exit)) (now (second .exit)) in
+        words′ ≡ heldBytes words (now (chunk .entry))
+        ) ⌝ }
 {
     let mut r = start;
     let mut i = 0;

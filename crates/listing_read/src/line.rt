@@ -2,7 +2,7 @@
 ghost use mathlib.Core.Path.{_≡_};
 ghost use lib.ListN.{length, take};
 ghost use Rattle.io.specs.Counts.{Counts};
-ghost use Rattle.listing_text.specs.Reading.{isBlank, ended, step};
+ghost use Rattle.listing_text.specs.Reading.{isBlank, wordEnded, step};
 ghost use Rattle.listing_text.specs.Chunks.{within, lineWords};
 ghost use Rattle.listing_read.specs.Meaning.{scanOf, newLine, failedLine};
 ghost use Rattle.listing_read.specs.Held.{endedLine, endedWords, steppedLine, steppedWords};
@@ -54,7 +54,7 @@ fn is_blank(b: u8) -> bool
 
 // The word that is being read is stored, if there is one and there is room.
 fn put_word(line: LineReader, words: &mut [u32]) -> LineReader
-    ensures { λ r. ⌜ scanOf (now (words .exit)) r ≡ within (length (now (words .entry))) (ended (scanOf (now (words .entry)) line)) ⌝ }
+    ensures { λ r. ⌜ scanOf (now (words .exit)) r ≡ within (length (now (words .entry))) (wordEnded (scanOf (now (words .entry)) line)) ⌝ }
     ensures fields { λ r. ⌜ r ≡ endedLine (length (now (words .entry))) line ⌝ }
     ensures stored { λ r. ⌜ now (words .exit) ≡ endedWords line (now (words .entry)) ⌝ }
 {

@@ -8,7 +8,7 @@ use lib.ListN.{length, length-append}
 use lib.Dec.{eqb, leb, ltb}
 use borrow.Author.Tests.{leb-false, lt-leb}
 use Rattle.words.specs.Labels.{MAX}
-use Rattle.listing_text.specs.Reading.{lineFeed, isBlank, isDigit, Scan, reading, notWords, ended, step}
+use Rattle.listing_text.specs.Reading.{lineFeed, isBlank, isDigit, Scan, reading, notWords, wordEnded, step}
 use Rattle.listing_text.specs.Chunks.{Input, Rooms, nextLine, readByte, readBytes, within, inRooms}
 
 -- the state after xs ++ ys is the state after ys from the state after xs
@@ -25,7 +25,7 @@ longer room words value e =
     lt-leb (length (words ++ (value ∷ []))) room (omega (arith, k))
 
 -- a line that is too long stays so when a word ends
-long-ended : (room : ℕ) (words : List ℕ) (value : ℕ) (inside : Bool) → leb (length words) room ≡ false → notWords ≡ within room (ended (reading words value inside))
+long-ended : (room : ℕ) (words : List ℕ) (value : ℕ) (inside : Bool) → leb (length words) room ≡ false → notWords ≡ within room (wordEnded (reading words value inside))
 long-ended room words value true e = rw (longer room words value e) refl
 long-ended room words value false e = rw e refl
 
@@ -34,7 +34,7 @@ long-step : (room : ℕ) (words : List ℕ) (value : ℕ) (inside : Bool) (b : �
 unfolding step
 long-step room words value inside b e = go (isBlank b) (isDigit b) (leb (value * 10 + (b - 48)) MAX)
   where
-    go : (x y z : Bool) → notWords ≡ within room (cond x (ended (reading words value inside)) (cond y (cond z (reading words (value * 10 + (b - 48)) true) notWords) notWords))
+    go : (x y z : Bool) → notWords ≡ within room (cond x (wordEnded (reading words value inside)) (cond y (cond z (reading words (value * 10 + (b - 48)) true) notWords) notWords))
     go true y z = long-ended room words value inside e
     go false true true = rw e refl
     go false true false = refl
@@ -49,11 +49,11 @@ within-step room (reading words value inside) b = go (leb (length words) room) r
     go true e = refl
     go false e = long-step room words value inside b e
 
-pub within-ended : (room : ℕ) (s : Scan) → within room (ended (within room s)) ≡ within room (ended s)
+pub within-ended : (room : ℕ) (s : Scan) → within room (wordEnded (within room s)) ≡ within room (wordEnded s)
 within-ended room notWords = refl
 within-ended room (reading words value inside) = go (leb (length words) room) refl
   where
-    go : (x : Bool) → leb (length words) room ≡ x → within room (ended (cond x (reading words value inside) notWords)) ≡ within room (ended (reading words value inside))
+    go : (x : Bool) → leb (length words) room ≡ x → within room (wordEnded (cond x (reading words value inside) notWords)) ≡ within room (wordEnded (reading words value inside))
     go true e = refl
     go false e = long-ended room words value inside e
 

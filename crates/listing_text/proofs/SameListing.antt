@@ -8,8 +8,8 @@ use lib.ListN.{length}
 use lib.Dec.{leb}
 use borrow.Author.Tests.{leb-false, le-leb, ne-eqb}
 use mathlib.Core.Option.{none}
-use Rattle.calls.specs.Listing.{settingsSize, machineMost, lentOf, listingOn, listing}
-use Rattle.listing_text.specs.Reading.{lineAt, Scan, reading, notWords, start, ended, steps, kept, wordsOf}
+use Rattle.calls.specs.Listing.{settingsSize, machineMost, lentLines, listingOn, listing}
+use Rattle.listing_text.specs.Reading.{lineAt, Scan, reading, notWords, start, wordEnded, steps, kept, wordsRead}
 use Rattle.listing_text.specs.Chunks.{unread, readBytes, within, inRooms, lineWords, listingRooms}
 use Rattle.listing_text.specs.Printing.{bytesOf, printedBytes}
 use Rattle.listing_text.specs.Ended.{endedBytes}
@@ -28,15 +28,15 @@ kept-within room (reading words value inside) = go (leb (length words) room)
     go true = refl
     go false = refl
 
-line-words : (room : ℕ) (line : List ℕ) → lineWords room (within room (steps start line)) ≡ atMost room (wordsOf line)
-line-words room line = ap kept (within-ended room (steps start line)) ∙ kept-within room (ended (steps start line))
+line-words : (room : ℕ) (line : List ℕ) → lineWords room (within room (steps start line)) ≡ atMost room (wordsRead line)
+line-words room line = ap kept (within-ended room (steps start line)) ∙ kept-within room (wordEnded (steps start line))
 
 -- a settings line of more than six words is refused like one without words
-listing-rooms : (w m1 m2 : List ℕ) → listingOn (atMost settingsSize w) (lentOf m1 m2) ≡ listing w m1 m2
+listing-rooms : (w m1 m2 : List ℕ) → listingOn (atMost settingsSize w) (lentLines m1 m2) ≡ listing w m1 m2
 unfolding listing
 listing-rooms w m1 m2 = go (leb (length w) settingsSize) refl
   where
-    go : (x : Bool) → leb (length w) settingsSize ≡ x → listingOn (cond x w []) (lentOf m1 m2) ≡ listing w m1 m2
+    go : (x : Bool) → leb (length w) settingsSize ≡ x → listingOn (cond x w []) (lentLines m1 m2) ≡ listing w m1 m2
     go true e = refl
     go false e =
         let h : settingsSize < length w = leb-false (length w) settingsSize e in
@@ -51,4 +51,4 @@ same-listing input =
     let B = ap (λ (s : Scan). lineWords machineMost (within machineMost s)) (h .1) ∙ line-words machineMost (lineAt 1 input) in
     let C = ap (λ (s : Scan). lineWords machineMost (within machineMost s)) (h .2) ∙ line-words machineMost (lineAt 2 input) in
     (λ k. bytesOf (listingOn (A k) (record { m1 = B k; m2 = C k; allowed1 = none; allowed2 = none })))
-    ∙ ap bytesOf (listing-rooms (wordsOf (lineAt 0 input)) (wordsOf (lineAt 1 input)) (wordsOf (lineAt 2 input)))
+    ∙ ap bytesOf (listing-rooms (wordsRead (lineAt 0 input)) (wordsRead (lineAt 1 input)) (wordsRead (lineAt 2 input)))

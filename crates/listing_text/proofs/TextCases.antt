@@ -9,7 +9,7 @@ use Rattle.calls.proofs.Cases.{Holds}
 use Rattle.calls.proofs.StarCases.{starCases, star-case}
 use Rattle.calls.proofs.ListingLaws.{oddLines, odd-line}
 use Rattle.listing_text.specs.Ascii.{ascii}
-use Rattle.listing_text.specs.Reading.{lineAt, step, steps, wordsOf}
+use Rattle.listing_text.specs.Reading.{lineAt, step, steps, wordsRead}
 use Rattle.listing_text.specs.Printing.{decimalBy, decimal, spaced, lineBytes, printedBytes}
 
 -- what is read as the first text is printed as the second
@@ -19,7 +19,7 @@ Prints input output = printedBytes (ascii input) ≡ ascii output
 -- the words of a line
 unfoldable pub Reads : String → List ℕ → Type 0
 unfolding step steps
-Reads line words = wordsOf (ascii line) ≡ words
+Reads line words = wordsRead (ascii line) ≡ words
 
 abbrev listed : String
 listed = "side output\ns 0 0 0 0 -\nt 1 0 1 1\ns 1 1 0 0 -\nt 0 7 4 2\ns 2 1 1 0 -\nt 2 8 3 3\ns 3 2 2 0 3\nend 4 3\n"

@@ -5,7 +5,7 @@ use Prim.Native.Nat.{ℕ, _+_}
 use lib.Dec.{eqb, leb, ltb}
 use lib.ListN.{length}
 use Rattle.calls.specs.Listing.{settingsSize, machineMost}
-use Rattle.listing_text.specs.Reading.{lineFeed, Scan, reading, notWords, start, ended, step, kept}
+use Rattle.listing_text.specs.Reading.{lineFeed, Scan, reading, notWords, start, wordEnded, step, kept}
 
 -- how far the reading of the input is: the number of the line that is being read, and the readings of the three lines
 pub record Input : Type 0 where
@@ -51,7 +51,7 @@ inRooms r i = record { at = i .at; settings = within (r .settings) (i .settings)
 
 -- the words that a line is left with, when the input has ended
 abbrev pub lineWords : ℕ → Scan → List ℕ
-lineWords room s = kept (within room (ended s))
+lineWords room s = kept (within room (wordEnded s))
 
 -- "A machine line above 4096 words .. is malformed, a settings line not of six such words is refused 1": no more words of a line matter
 abbrev pub listingRooms : Rooms

@@ -6,7 +6,7 @@ use Prim.Native.Nat.{ℕ, zero, suc, _+_, _/_, _%_}
 use lib.Dec.{eqb, ltb}
 use Rattle.calls.specs.Listing.{Line, sideLine, stateLine, trLine, endLine, refusedLine, listing}
 use Rattle.listing_text.specs.Ascii.{ascii}
-use Rattle.listing_text.specs.Reading.{lineFeed, lineAt, wordsOf}
+use Rattle.listing_text.specs.Reading.{lineFeed, lineAt, wordsRead}
 
 -- a number in decimal without leading zeros, of at most k digits
 unfoldable pub decimalBy : ℕ → ℕ → List ℕ
@@ -45,4 +45,4 @@ bytesOf lines = flatMap lineBytes lines
 
 -- "`composed` reads settings .. and both machines as decimal words, one line each": what it prints, as a function of the bytes that it reads. Lines after the third are not read.
 unfoldable pub printedBytes : List ℕ → List ℕ
-printedBytes input = bytesOf (listing (wordsOf (lineAt 0 input)) (wordsOf (lineAt 1 input)) (wordsOf (lineAt 2 input)))
+printedBytes input = bytesOf (listing (wordsRead (lineAt 0 input)) (wordsRead (lineAt 1 input)) (wordsRead (lineAt 2 input)))

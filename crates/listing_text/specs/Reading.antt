@@ -31,10 +31,10 @@ abbrev pub start : Scan
 start = reading [] 0 false
 
 -- the word that is being read ends, if there is one
-abbrev pub ended : Scan → Scan
-ended notWords = notWords
-ended (reading words value true) = reading (words ++ (value ∷ [])) 0 false
-ended (reading words value false) = reading words value false
+abbrev pub wordEnded : Scan → Scan
+wordEnded notWords = notWords
+wordEnded (reading words value true) = reading (words ++ (value ∷ [])) 0 false
+wordEnded (reading words value false) = reading words value false
 
 -- a digit more: "decimal words up to MAX". The value is judged and not the spelling, so leading zeros pass.
 abbrev pub digit : List ℕ → ℕ → Scan
@@ -44,7 +44,7 @@ digit words value = cond (leb value MAX) (reading words value true) notWords
 unfoldable pub step : Scan → ℕ → Scan
 step notWords b = notWords
 step (reading words value inside) b =
-    cond (isBlank b) (ended (reading words value inside)) (cond (isDigit b) (digit words (value * 10 + (b - 48))) notWords)
+    cond (isBlank b) (wordEnded (reading words value inside)) (cond (isDigit b) (digit words (value * 10 + (b - 48))) notWords)
 
 unfoldable pub steps : Scan → List ℕ → Scan
 steps s [] = s
@@ -56,5 +56,5 @@ kept notWords = []
 kept (reading words value inside) = words
 
 -- the words of a line: a line that is not of decimal words up to MAX counts as one without words
-abbrev pub wordsOf : List ℕ → List ℕ
-wordsOf line = kept (ended (steps start line))
+abbrev pub wordsRead : List ℕ → List ℕ
+wordsRead line = kept (wordEnded (steps start line))

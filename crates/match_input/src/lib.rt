@@ -48,7 +48,11 @@ fn by_states(
     s1: StateId,
     s2: StateId,
 ) -> Direction
-    ensures { λ r. ⌜ directionMeans r ≡ directionAt both (asOperand outputs (now (m1 .entry)) (sigma1 .0)) (asOperand inputs (now (m2 .entry)) (sigma2 .0)) (s1 .0) (s2 .0) ⌝ }
+    ensures { λ r. ⌜ (
+        let operand = asOperand outputs (now (m1 .entry)) (sigma1 .0) in
+        let operand2 = asOperand inputs (now (m2 .entry)) (sigma2 .0) in
+        directionMeans r ≡ directionAt both operand operand2 (s1 .0) (s2 .0)
+        ) ⌝ }
 {
     let sigma_at_1 = has_sigma(m1, MatchType::MatchOutput, sigma1, s1);
     let sigma_at_2 = has_sigma(m2, MatchType::MatchInput, sigma2, s2);
@@ -77,7 +81,11 @@ pub fn direction_at(
     s1: StateId,
     s2: StateId,
 ) -> Direction
-    ensures { λ r. ⌜ directionMeans r ≡ directionAt (sideMeans side) (asOperand outputs (now (m1 .entry)) (sigma1 .0)) (asOperand inputs (now (m2 .entry)) (sigma2 .0)) (s1 .0) (s2 .0) ⌝ }
+    ensures { λ r. ⌜ (
+        let operand = asOperand outputs (now (m1 .entry)) (sigma1 .0) in
+        let operand2 = asOperand inputs (now (m2 .entry)) (sigma2 .0) in
+        directionMeans r ≡ directionAt (sideMeans side) operand operand2 (s1 .0) (s2 .0)
+        ) ⌝ }
 {
     match side {
         Side::Only(on) => Direction::Match(on),

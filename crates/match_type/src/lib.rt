@@ -81,7 +81,11 @@ fn side_by_lists(m1: &[u32], m2: &[u32]) -> Chosen
 // By the marks; where none is 1, by the lists.
 fn side_by_marks(m1: &[u32], m2: &[u32]) -> Chosen
     requires { ⌜ (wellFormed (now m1) ≡ true) × (wellFormed (now m2) ≡ true) ⌝ }
-    ensures { λ r. ⌜ chosenMeans r ≡ sideBy (eqb (sideMark outputs (now (m1 .entry))) 1) (eqb (sideMark inputs (now (m2 .entry))) 1) (sortedOf outputs (machineOf (now (m1 .entry)))) (sortedOf inputs (machineOf (now (m2 .entry)))) ⌝ }
+    ensures { λ r. ⌜ (
+        let mark1 = eqb (sideMark outputs (now (m1 .entry))) 1 in
+        let mark2 = eqb (sideMark inputs (now (m2 .entry))) 1 in
+        chosenMeans r ≡ sideBy mark1 mark2 (sortedOf outputs (machineOf (now (m1 .entry)))) (sortedOf inputs (machineOf (now (m2 .entry))))
+        ) ⌝ }
 {
     let mark1 = inner_mark(m1, MatchType::MatchOutput);
     let mark2 = inner_mark(m2, MatchType::MatchInput);

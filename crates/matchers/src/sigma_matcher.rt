@@ -126,7 +126,11 @@ pub fn sigma_iter(
     s: StateId,
     label: Label,
 ) -> SigmaIter
-    ensures { λ r. ⌜ iterMeans (now (m .entry)) r ≡ lookupItems (operandOf (onOf on) (now (m .entry)) (sigma .label .0) (sigma .mode) (allowedOf (sigma .listed) (now (allowed .entry)))) (s .0) (label .0) ⌝ }
+    ensures { λ r. ⌜ (
+        let allowed = allowedOf (sigma .listed) (now (allowed .entry)) in
+        let operand = operandOf (onOf on) (now (m .entry)) (sigma .label .0) (sigma .mode) allowed in
+        iterMeans (now (m .entry)) r ≡ lookupItems operand (s .0) (label .0)
+        ) ⌝ }
 {
     let named = sigma.label;
     if is_sigma(named, label) {

@@ -11,7 +11,7 @@ use Rattle.lists.specs.Lists.{keepIf, every}
 use Rattle.papers.specs.Machine.{ε, Machine}
 use Rattle.papers.specs.Weight.{Cost, finite, infinite, tropical, naturals}
 use Rattle.papers.specs.Filter.{lone1, lone2, bothEpsilon, aLabel, noEpsilon, onlyEpsilons, factsOf, Filter, epsilonSequencing, epsilonSequencingMirrored, epsilonMatching}
-use Rattle.papers.specs.Composition.{Edge, rest, along, equal, Composed, Triple, Move, Start, Kept}
+use Rattle.papers.specs.Composition.{Edge, rest, along, equal, Composed, Triple, Edges, Start, KeptMove}
 use Rattle.papers.specs.Paths.{word, path1, path2, Agree, Matching, inputWord, outputWord, Ends, EndsBoth, AcceptingRun, AcceptingPath, pathWeight, movesWeight}
 use Rattle.papers.proofs.Forms.{pair-meets, lone1-is, lone2-is}
 
@@ -53,33 +53,33 @@ with filter = record { first = T1; second = T2; meets = equal; filter = filter }
 abbrev at : ℕ → ℕ → ℕ → Triple
 at q1 q2 f = record { s1 = q1; s2 = q2; f = f }
 
-abbrev pair : Edge → Edge → Move
+abbrev pair : Edge → Edge → Edges
 pair e d = record { first = e; second = d }
 
 -- T1's ε alone, T2's ε alone, both, the label 5; the labels 5 and 6
-abbrev alone1 : Move
+abbrev alone1 : Edges
 alone1 = pair (along 1) rest
 
-abbrev alone2 : Move
+abbrev alone2 : Edges
 alone2 = pair rest (along 1)
 
-abbrev together : Move
+abbrev together : Edges
 together = pair (along 1) (along 1)
 
-abbrev five : Move
+abbrev five : Edges
 five = pair (along 2) (along 2)
 
-abbrev unequal : Move
+abbrev unequal : Edges
 unequal = pair (along 2) (along 3)
 
 -- T1 first, T2 first, both together
-abbrev sequenced : List Move
+abbrev sequenced : List Edges
 sequenced = alone1 ∷ alone2 ∷ five ∷ []
 
-abbrev mirrored : List Move
+abbrev mirrored : List Edges
 mirrored = alone2 ∷ alone1 ∷ five ∷ []
 
-abbrev matched : List Move
+abbrev matched : List Edges
 matched = together ∷ five ∷ []
 
 abbrev isFinite : Cost → Bool
@@ -93,16 +93,16 @@ not5 : _≡_ {A = ℕ} 5 0 → ⊥
 not5 e = omega arith
 
 -- the moves are kept where the filter lets them pass
-move1 : (filter : Filter) (q2 f g : ℕ) → filter lone1 (factsOf T1 T2 0 q2) f ≡ some g → Kept (with filter) (at 0 q2 f) alone1 g
+move1 : (filter : Filter) (q2 f g : ℕ) → filter lone1 (factsOf T1 T2 0 q2) f ≡ some g → KeptMove (with filter) (at 0 q2 f) alone1 g
 move1 filter q2 f g e = (lone1, (here refl, tt, (refl, refl)), e)
 
-move2 : (filter : Filter) (q1 f g : ℕ) → filter lone2 (factsOf T1 T2 q1 0) f ≡ some g → Kept (with filter) (at q1 0 f) alone2 g
+move2 : (filter : Filter) (q1 f g : ℕ) → filter lone2 (factsOf T1 T2 q1 0) f ≡ some g → KeptMove (with filter) (at q1 0 f) alone2 g
 move2 filter q1 f g e = (lone2, (tt, here refl, (refl, refl)), e)
 
-moveε : (filter : Filter) (f g : ℕ) → filter bothEpsilon (factsOf T1 T2 0 0) f ≡ some g → Kept (with filter) (at 0 0 f) together g
+moveε : (filter : Filter) (f g : ℕ) → filter bothEpsilon (factsOf T1 T2 0 0) f ≡ some g → KeptMove (with filter) (at 0 0 f) together g
 moveε filter f g e = (bothEpsilon, (here refl, here refl, (refl, refl)), e)
 
-move5 : (filter : Filter) (f g : ℕ) → filter aLabel (factsOf T1 T2 1 1) f ≡ some g → Kept (with filter) (at 1 1 f) five g
+move5 : (filter : Filter) (f g : ℕ) → filter aLabel (factsOf T1 T2 1 1) f ≡ some g → KeptMove (with filter) (at 1 1 f) five g
 move5 filter f g e = (aLabel, (here refl, here refl, (5, 5, refl, refl, not5, not5, refl)), e)
 
 -- an accepting list of moves under each filter
@@ -148,32 +148,32 @@ unfolding noEpsilon onlyEpsilons every
 facts-seen = (refl, refl, refl, refl)
 
 -- unequal labels do not meet
-pub unequal-labels : (filter : Filter) (f g : ℕ) → Kept (with filter) (at 1 1 f) unequal g → ⊥
+pub unequal-labels : (filter : Filter) (f g : ℕ) → KeptMove (with filter) (at 1 1 f) unequal g → ⊥
 unequal-labels filter f g h =
     ⊎-elim (λ e. not5 (e .0)) (λ e. let z : _≡_ {A = ℕ} 5 6 = e .2 in omega arith) (pair-meets T1 T2 (T1 .output) (T2 .input) equal 1 1 (h .0) 2 3 (h .1))
 
 -- a transition is taken only from its own state, and alone only with ε
-pub other-state : (filter : Filter) (f g : ℕ) → Kept (with filter) (at 1 0 f) alone1 g → ⊥
+pub other-state : (filter : Filter) (f g : ℕ) → KeptMove (with filter) (at 1 0 f) alone1 g → ⊥
 other-state filter f g h = ⊎-elim (λ e. let z : _≡_ {A = ℕ} 1 2 = e in omega arith) List·Memᴰ·not-nil (List·Memᴰ·cases-cons (h .1 .0))
 
-pub label-alone : (filter : Filter) (q2 f g : ℕ) → Kept (with filter) (at 1 q2 f) (pair (along 2) rest) g → ⊥
+pub label-alone : (filter : Filter) (q2 f g : ℕ) → KeptMove (with filter) (at 1 q2 f) (pair (along 2) rest) g → ⊥
 label-alone filter q2 f g h = not5 (lone1-is T1 T2 (T1 .output) (T2 .input) equal 1 q2 (h .0) 2 (h .1) .1)
 
 -- the filter blocks T1's ε after T2's, T2's after T1's, and one alone after the other alone
-pub sequencing-blocks : (g : ℕ) → Kept (with epsilonSequencing) (at 0 1 1) alone1 g → ⊥
+pub sequencing-blocks : (g : ℕ) → KeptMove (with epsilonSequencing) (at 0 1 1) alone1 g → ⊥
 sequencing-blocks g h = let k = lone1-is T1 T2 (T1 .output) (T2 .input) equal 0 1 (h .0) 1 (h .1) .0 in Option·none-ne-some _ (rw k at (h .2))
 
-pub mirrored-blocks : (g : ℕ) → Kept (with epsilonSequencingMirrored) (at 1 0 1) alone2 g → ⊥
+pub mirrored-blocks : (g : ℕ) → KeptMove (with epsilonSequencingMirrored) (at 1 0 1) alone2 g → ⊥
 mirrored-blocks g h = let k = lone2-is T1 T2 (T1 .output) (T2 .input) equal 1 0 (h .0) 1 (h .1) .0 in Option·none-ne-some _ (rw k at (h .2))
 
-pub matching-blocks : (g : ℕ) → (Kept (with epsilonMatching) (at 1 0 1) alone2 g → ⊥) × (Kept (with epsilonMatching) (at 0 1 2) alone1 g → ⊥)
+pub matching-blocks : (g : ℕ) → (KeptMove (with epsilonMatching) (at 1 0 1) alone2 g → ⊥) × (KeptMove (with epsilonMatching) (at 0 1 2) alone1 g → ⊥)
 matching-blocks g = (
   λ h. let k = lone2-is T1 T2 (T1 .output) (T2 .input) equal 1 0 (h .0) 1 (h .1) .0 in Option·none-ne-some _ (rw k at (h .2)),
   λ h. let k = lone1-is T1 T2 (T1 .output) (T2 .input) equal 0 1 (h .0) 1 (h .1) .0 in Option·none-ne-some _ (rw k at (h .2)),
 )
 
 -- each filter's next state is the one that it gives
-pub next-states : (g : ℕ) → (Kept (with epsilonSequencing) (at 1 0 0) alone2 g → g ≡ 1) × (Kept (with epsilonSequencingMirrored) (at 0 1 0) alone1 g → g ≡ 1) × (Kept (with epsilonMatching) (at 0 0 0) alone1 g → g ≡ 1) × (Kept (with epsilonMatching) (at 0 0 0) alone2 g → g ≡ 2)
+pub next-states : (g : ℕ) → (KeptMove (with epsilonSequencing) (at 1 0 0) alone2 g → g ≡ 1) × (KeptMove (with epsilonSequencingMirrored) (at 0 1 0) alone1 g → g ≡ 1) × (KeptMove (with epsilonMatching) (at 0 0 0) alone1 g → g ≡ 1) × (KeptMove (with epsilonMatching) (at 0 0 0) alone2 g → g ≡ 2)
 next-states g = (
   λ h. let k = lone2-is T1 T2 (T1 .output) (T2 .input) equal 1 0 (h .0) 1 (h .1) .0 in sym (Option·some-injective _ _ (rw k at (h .2))),
   λ h. let k = lone1-is T1 T2 (T1 .output) (T2 .input) equal 0 1 (h .0) 1 (h .1) .0 in sym (Option·some-injective _ _ (rw k at (h .2))),

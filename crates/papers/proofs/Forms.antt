@@ -7,7 +7,7 @@ use mathlib.Core.Option.{none, Option·none-ne-some}
 use Prim.Native.Nat.{ℕ}
 use Rattle.papers.specs.Machine.{ε, Machine}
 use Rattle.papers.specs.Filter.{MoveKind, lone1, lone2, bothEpsilon, aLabel, factsOf}
-use Rattle.papers.specs.Composition.{Edge, rest, along, Leaves, Inner, label, εᴸ, inner, Meets, Met, Composed, Triple, Move, Kept}
+use Rattle.papers.specs.Composition.{Edge, rest, along, Leaves, Inner, label, εᴸ, inner, Meets, Met, Composed, Triple, Edges, KeptMove}
 
 abbrev isLabel : Inner → Bool
 isLabel (label x) = true
@@ -96,5 +96,5 @@ module _ (A B : Machine) (la lb : ℕ → ℕ) (meets : Meets) (q1 q2 : ℕ) whe
   rest-is-none k h = of-pair k rest rest h
 
 -- what the filter blocks is not kept
-pub blocked : (C : Composed) (s : Triple) (m : Move) (g : ℕ) → ((k : MoveKind) → C .filter k (factsOf (C .first) (C .second) (s .s1) (s .s2)) (s .f) ≡ none) → Kept C s m g → ⊥
+pub blocked : (C : Composed) (s : Triple) (m : Edges) (g : ℕ) → ((k : MoveKind) → C .filter k (factsOf (C .first) (C .second) (s .s1) (s .s2)) (s .f) ≡ none) → KeptMove C s m g → ⊥
 blocked C s m g n h = Option·none-ne-some _ (sym (n (h .0)) ∙ h .2)

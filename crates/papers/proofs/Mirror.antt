@@ -5,7 +5,7 @@ use mathlib.Core.Option.{Option·map}
 use Prim.Native.Nat.{ℕ, zero, suc}
 use Rattle.papers.specs.Machine.{Machine}
 use Rattle.papers.specs.Filter.{MoveKind, lone1, lone2, bothEpsilon, aLabel, Facts, noEpsilon, onlyEpsilons, Filter, epsilonSequencing, epsilonSequencingMirrored, epsilonMatching}
-use Rattle.papers.specs.Composition.{Edge, rest, along, Leaves, nextState, Inner, inner, Meets, Met, Composed, Triple, Move, Kept, reached, inputOf, outputOf}
+use Rattle.papers.specs.Composition.{Edge, rest, along, Leaves, nextState, Inner, inner, Meets, Met, Composed, Triple, Edges, KeptMove, reached, composedInput, composedOutput}
 
 abbrev pub mirrorKind : MoveKind → MoveKind
 mirrorKind lone1 = lone2
@@ -55,7 +55,7 @@ mirrorComposed C = record { first = inverse (C .second); second = inverse (C .fi
 abbrev pub mirrorTriple : Triple → Triple
 mirrorTriple s = record { s1 = s .s2; s2 = s .s1; f = s .f }
 
-abbrev pub mirrorMove : Move → Move
+abbrev pub mirrorMove : Edges → Edges
 mirrorMove m = record { first = m .second; second = m .first }
 
 leaves-inverse : (M : Machine) (q : ℕ) (e : Edge) → Leaves M q e → Leaves (inverse M) q e
@@ -66,7 +66,7 @@ of-inverse : (M : Machine) (q : ℕ) (e : Edge) → Leaves (inverse M) q e → L
 of-inverse M q rest l = l
 of-inverse M q (along t) l = l
 
-pub kept-mirror : (C : Composed) (s : Triple) (m : Move) (g : ℕ) → Kept C s m g ↔ Kept (mirrorComposed C) (mirrorTriple s) (mirrorMove m) g
+pub kept-mirror : (C : Composed) (s : Triple) (m : Edges) (g : ℕ) → KeptMove C s m g ↔ KeptMove (mirrorComposed C) (mirrorTriple s) (mirrorMove m) g
 unfolding noEpsilon onlyEpsilons
 kept-mirror C s m g = (
   λ h. (
@@ -94,17 +94,17 @@ kept-mirror C s m g = (
     back k h = met-mirror (mirrorMeets (C .meets)) (s .s2) (s .s1) k b a h
 
 -- what it leads to and its labels are exchanged
-pub reached-mirror : (C : Composed) (s : Triple) (m : Move) (g : ℕ) → reached (mirrorComposed C) (mirrorTriple s) (mirrorMove m) g ≡ mirrorTriple (reached C s m g)
+pub reached-mirror : (C : Composed) (s : Triple) (m : Edges) (g : ℕ) → reached (mirrorComposed C) (mirrorTriple s) (mirrorMove m) g ≡ mirrorTriple (reached C s m g)
 reached-mirror C s m g = λ i. record { s1 = next (C .second) (s .s2) (m .second) i; s2 = next (C .first) (s .s1) (m .first) i; f = g }
   where
     next : (M : Machine) (q : ℕ) (e : Edge) → nextState (inverse M) q e ≡ nextState M q e
     next M q rest = refl
     next M q (along t) = refl
 
-pub input-mirror : (C : Composed) (m : Move) → inputOf (mirrorComposed C) (mirrorMove m) ≡ outputOf C m
+pub input-mirror : (C : Composed) (m : Edges) → composedInput (mirrorComposed C) (mirrorMove m) ≡ composedOutput C m
 input-mirror C m = refl
 
-pub output-mirror : (C : Composed) (m : Move) → outputOf (mirrorComposed C) (mirrorMove m) ≡ inputOf C m
+pub output-mirror : (C : Composed) (m : Edges) → composedOutput (mirrorComposed C) (mirrorMove m) ≡ composedInput C m
 output-mirror C m = refl
 
 -- the second of the papers' filters is the first in the mirror; the third is its own mirror image but for the names of its states 1 and 2

@@ -10,7 +10,7 @@ use Rattle.lists.specs.Lists.{putIf, keepIf}
 use Rattle.papers.specs.Machine.{ε, Machine}
 use Rattle.papers.specs.Weight.{Semiring, CommutativeSemiring}
 use Rattle.papers.specs.Filter.{MoveKind}
-use Rattle.papers.specs.Composition.{Edge, rest, along, Leaves, nextState, outer, Composed, Triple, Move, Enabled, reached, edgeWeight, moveWeight}
+use Rattle.papers.specs.Composition.{Edge, rest, along, Leaves, nextState, outer, Composed, Triple, Edges, Enabled, reached, edgeWeight, moveWeight}
 use Rattle.papers.specs.Paths.{word, taken, path1, path2, Agree, Matching, inputWord, outputWord, Ends, Accepting, AcceptingPath, pathWeight, EndsBoth, AcceptingMoves, AcceptingRun, movesWeight}
 use Rattle.papers.proofs.Forms.{by-form}
 
@@ -49,7 +49,7 @@ matching-move R C meets q1 q2 p1 p2 k e1 e2 h g =
     k e1 e2 h
 
 -- the outer labels
-outer-word : (label : ℕ → ℕ) (edge : Move → Edge) (ms : List Move) → word (map (λ m. outer label (edge m)) ms) ≡ word (map label (flatMap (λ m. taken (edge m)) ms))
+outer-word : (label : ℕ → ℕ) (edge : Edges → Edge) (ms : List Edges) → word (map (λ m. outer label (edge m)) ms) ≡ word (map label (flatMap (λ m. taken (edge m)) ms))
 unfolding flatMap
 outer-word label edge [] = refl
 outer-word label edge (m ∷ ms) = go (edge m) (outer-word label edge ms)
@@ -59,10 +59,10 @@ outer-word label edge (m ∷ ms) = go (edge m) (outer-word label edge ms)
     go rest h = word-ε ε _ refl ∙ h
     go (along t) h = word-same (label t) _ _ h
 
-pub input-word : (C : Composed) (ms : List Move) → inputWord C ms ≡ word (map (C .first .input) (path1 ms))
+pub input-word : (C : Composed) (ms : List Edges) → inputWord C ms ≡ word (map (C .first .input) (path1 ms))
 input-word C ms = outer-word (C .first .input) (λ m. m .first) ms
 
-pub output-word : (C : Composed) (ms : List Move) → outputWord C ms ≡ word (map (C .second .output) (path2 ms))
+pub output-word : (C : Composed) (ms : List Edges) → outputWord C ms ≡ word (map (C .second .output) (path2 ms))
 output-word C ms = outer-word (C .second .output) (λ m. m .second) ms
 
 module _ (K : Semiring) (L : CommutativeSemiring K) (value : ℕ → K .Element) where
@@ -78,25 +78,25 @@ module _ (K : Semiring) (L : CommutativeSemiring K) (value : ℕ → K .Element)
   accepting-edge M q (along t) p l a = (l, a)
 
   -- the paths in an accepting list of moves
-  pub accepting1 : (C : Composed) (s : Triple) (ms : List Move) → AcceptingMoves K value C s ms → Accepting K value (C .first) (s .s1) (path1 ms)
+  pub accepting1 : (C : Composed) (s : Triple) (ms : List Edges) → AcceptingMoves K value C s ms → Accepting K value (C .first) (s .s1) (path1 ms)
   unfolding flatMap
   accepting1 C s [] h = ends-both C (s .s1) (s .s2) .0 h .0
   accepting1 C s (m ∷ ms) h = accepting-edge (C .first) (s .s1) (m .first) (path1 ms) (h .1 .1 .0) (accepting1 C (reached C s m (h .0)) ms (h .2))
 
-  pub accepting2 : (C : Composed) (s : Triple) (ms : List Move) → AcceptingMoves K value C s ms → Accepting K value (C .second) (s .s2) (path2 ms)
+  pub accepting2 : (C : Composed) (s : Triple) (ms : List Edges) → AcceptingMoves K value C s ms → Accepting K value (C .second) (s .s2) (path2 ms)
   unfolding flatMap
   accepting2 C s [] h = ends-both C (s .s1) (s .s2) .0 h .1
   accepting2 C s (m ∷ ms) h = accepting-edge (C .second) (s .s2) (m .second) (path2 ms) (h .1 .1 .1) (accepting2 C (reached C s m (h .0)) ms (h .2))
 
   -- match, by any relation that holds wherever labels meet
-  pub matching : (R : ℕ → ℕ → Type 0) (C : Composed) → ((q1 q2 x y : ℕ) → C .meets q1 q2 x y → R x y) → (s : Triple) (ms : List Move)
+  pub matching : (R : ℕ → ℕ → Type 0) (C : Composed) → ((q1 q2 x y : ℕ) → C .meets q1 q2 x y → R x y) → (s : Triple) (ms : List Edges)
       → AcceptingMoves K value C s ms → Matching R (C .first) (C .second) (path1 ms) (path2 ms)
   unfolding flatMap word keepIf
   matching R C meets s [] h = tt
   matching R C meets s (m ∷ ms) h = matching-move R C meets (s .s1) (s .s2) (path1 ms) (path2 ms) (h .1 .0) (m .first) (m .second) (h .1 .1) (matching R C meets (reached C s m (h .0)) ms (h .2))
 
   -- from the start
-  pub run-paths : (C : Composed) (ms : List Move) → AcceptingRun K value C ms → AcceptingPath K value (C .first) (path1 ms) × AcceptingPath K value (C .second) (path2 ms)
+  pub run-paths : (C : Composed) (ms : List Edges) → AcceptingRun K value C ms → AcceptingPath K value (C .first) (path1 ms) × AcceptingPath K value (C .second) (path2 ms)
   run-paths C ms h = ((h .0 .s1, h .1 .0, accepting1 C (h .0) ms (h .2)), (h .0 .s2, h .1 .1, accepting2 C (h .0) ms (h .2)))
 
   -- weights
@@ -110,7 +110,7 @@ module _ (K : Semiring) (L : CommutativeSemiring K) (value : ℕ → K .Element)
   weight-edge M q rest p = L .one-times _
   weight-edge M q (along t) p = refl
 
-  pub moves-weigh : (C : Composed) (q1 q2 : ℕ) (ms : List Move)
+  pub moves-weigh : (C : Composed) (q1 q2 : ℕ) (ms : List Edges)
       → movesWeight K value C q1 q2 ms ≡ K .times (pathWeight K value (C .first) q1 (path1 ms)) (pathWeight K value (C .second) q2 (path2 ms))
   unfolding flatMap
   moves-weigh C q1 q2 [] = refl

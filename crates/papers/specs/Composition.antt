@@ -70,7 +70,7 @@ pub record Triple : Type 0 where
   pub f : ℕ
 
 -- ARS, (e1, e2)
-pub record Move : Type 0 where
+pub record Edges : Type 0 where
   pub first : Edge
   pub second : Edge
 
@@ -79,27 +79,27 @@ abbrev pub Start : Composed → Triple → Type 0
 Start C s = (C .first .start ≡ some (s .s1)) × (C .second .start ≡ some (s .s2)) × (s .f ≡ 0)
 
 -- ARS: e1 leaves q1, e2 leaves q2, and their inner labels meet, as a move of this kind
-abbrev pub Enabled : Composed → ℕ → ℕ → MoveKind → Move → Type 0
+abbrev pub Enabled : Composed → ℕ → ℕ → MoveKind → Edges → Type 0
 Enabled C q1 q2 k m =
     Leaves (C .first) q1 (m .first)
     × Leaves (C .second) q2 (m .second)
     × Met (C .meets) q1 q2 k (inner (C .first .output) (m .first)) (inner (C .second .input) (m .second))
 
 -- ARS, the transitions of the composition: (e1, e2) at (q1, q2, q3) where φ(e1, e2, q3) = g, and not ⊥
-abbrev pub Kept : Composed → Triple → Move → ℕ → Type 0
-Kept C s m g = (k : MoveKind) × Enabled C (s .s1) (s .s2) k m × (C .filter k (factsOf (C .first) (C .second) (s .s1) (s .s2)) (s .f) ≡ some g)
+abbrev pub KeptMove : Composed → Triple → Edges → ℕ → Type 0
+KeptMove C s m g = (k : MoveKind) × Enabled C (s .s1) (s .s2) k m × (C .filter k (factsOf (C .first) (C .second) (s .s1) (s .s2)) (s .f) ≡ some g)
 
 -- ARS: it leads to (n[e1], n[e2], g),
-abbrev pub reached : Composed → Triple → Move → ℕ → Triple
+abbrev pub reached : Composed → Triple → Edges → ℕ → Triple
 reached C s m g = record { s1 = nextState (C .first) (s .s1) (m .first); s2 = nextState (C .second) (s .s2) (m .second); f = g }
 
 -- has the input i[e1]
-abbrev pub inputOf : Composed → Move → ℕ
-inputOf C m = outer (C .first .input) (m .first)
+abbrev pub composedInput : Composed → Edges → ℕ
+composedInput C m = outer (C .first .input) (m .first)
 
 -- and the output o[e2].
-abbrev pub outputOf : Composed → Move → ℕ
-outputOf C m = outer (C .second .output) (m .second)
+abbrev pub composedOutput : Composed → Edges → ℕ
+composedOutput C m = outer (C .second .output) (m .second)
 
 -- MPR, ARS: (q1, q2, q3) is final where q1 and q2 are
 abbrev pub BothFinal : Composed → ℕ → ℕ → Type 0
@@ -113,9 +113,9 @@ module _ (K : Semiring) (value : ℕ → K .Element) where
   edgeWeight M (along t) = value (M .weight t)
 
   -- MPR, ARS: (e1, e2) weighs w[e1] ⊗ w[e2]
-  abbrev pub moveWeight : Composed → Move → K .Element
+  abbrev pub moveWeight : Composed → Edges → K .Element
   moveWeight C m = K .times (edgeWeight (C .first) (m .first)) (edgeWeight (C .second) (m .second))
 
   -- MPR, ARS: the final weight of (q1, q2, q3), where it is final, is ρ1(q1) ⊗ ρ2(q2)
-  abbrev pub finalWeightOf : Composed → ℕ → ℕ → K .Element
-  finalWeightOf C q1 q2 = K .times (value (C .first .finalWeight q1)) (value (C .second .finalWeight q2))
+  abbrev pub finalProduct : Composed → ℕ → ℕ → K .Element
+  finalProduct C q1 q2 = K .times (value (C .first .finalWeight q1)) (value (C .second .finalWeight q2))

@@ -9,7 +9,7 @@ use lib.Dec.{eqb}
 use Rattle.lists.specs.Lists.{keepIf}
 use Rattle.papers.specs.Machine.{ε, Machine}
 use Rattle.papers.specs.Weight.{Semiring}
-use Rattle.papers.specs.Composition.{Edge, rest, along, nextState, Composed, Triple, Move, Start, Kept, reached, inputOf, outputOf, moveWeight, BothFinal, finalWeightOf}
+use Rattle.papers.specs.Composition.{Edge, rest, along, nextState, Composed, Triple, Edges, Start, KeptMove, reached, composedInput, composedOutput, moveWeight, BothFinal, finalProduct}
 
 -- MPR, the label of a path: its transitions' labels put together, ε left out
 unfoldable pub word : List ℕ → List ℕ
@@ -21,10 +21,10 @@ taken rest = []
 taken (along t) = t ∷ []
 
 -- the path of T1, and of T2, in a list of moves
-abbrev pub path1 : List Move → List ℕ
+abbrev pub path1 : List Edges → List ℕ
 path1 ms = flatMap (λ m. taken (m .first)) ms
 
-abbrev pub path2 : List Move → List ℕ
+abbrev pub path2 : List Edges → List ℕ
 path2 ms = flatMap (λ m. taken (m .second)) ms
 
 -- two lists of labels agree place by place, by the relation R
@@ -39,11 +39,11 @@ abbrev pub Matching : (ℕ → ℕ → Type 0) → Machine → Machine → List 
 Matching R A B p1 p2 = Agree R (word (map (A .output) p1)) (word (map (B .input) p2))
 
 -- MPR: the input label, and the output label, of a path of the composition
-abbrev pub inputWord : Composed → List Move → List ℕ
-inputWord C ms = word (map (inputOf C) ms)
+abbrev pub inputWord : Composed → List Edges → List ℕ
+inputWord C ms = word (map (composedInput C) ms)
 
-abbrev pub outputWord : Composed → List Move → List ℕ
-outputWord C ms = word (map (outputOf C) ms)
+abbrev pub outputWord : Composed → List Edges → List ℕ
+outputWord C ms = word (map (composedOutput C) ms)
 
 module _ (K : Semiring) (value : ℕ → K .Element) where
   -- A path may end in q: q is final. Ours: and its final weight is not 0̄, since such a path adds nothing to a ⊕-sum.
@@ -66,18 +66,18 @@ module _ (K : Semiring) (value : ℕ → K .Element) where
 
   -- the same four of a composition: a composed state may end a path,
   abbrev pub EndsBoth : Composed → ℕ → ℕ → Type 0
-  EndsBoth C q1 q2 = BothFinal C q1 q2 × (finalWeightOf K value C q1 q2 ≢ K .zero)
+  EndsBoth C q1 q2 = BothFinal C q1 q2 × (finalProduct K value C q1 q2 ≢ K .zero)
 
   -- composed transitions from a composed state to such a one,
-  abbrev pub AcceptingMoves : Composed → Triple → List Move → Type 0
+  abbrev pub AcceptingMoves : Composed → Triple → List Edges → Type 0
   AcceptingMoves C s [] = EndsBoth C (s .s1) (s .s2)
-  AcceptingMoves C s (m ∷ ms) = (g : ℕ) × Kept C s m g × AcceptingMoves C (reached C s m g) ms
+  AcceptingMoves C s (m ∷ ms) = (g : ℕ) × KeptMove C s m g × AcceptingMoves C (reached C s m g) ms
 
   -- from the composed initial state,
-  abbrev pub AcceptingRun : Composed → List Move → Type 0
+  abbrev pub AcceptingRun : Composed → List Edges → Type 0
   AcceptingRun C ms = (s : Triple) × Start C s × AcceptingMoves C s ms
 
   -- and their weight
-  abbrev pub movesWeight : Composed → ℕ → ℕ → List Move → K .Element
-  movesWeight C q1 q2 [] = finalWeightOf K value C q1 q2
+  abbrev pub movesWeight : Composed → ℕ → ℕ → List Edges → K .Element
+  movesWeight C q1 q2 [] = finalProduct K value C q1 q2
   movesWeight C q1 q2 (m ∷ ms) = K .times (moveWeight K value C m) (movesWeight C (nextState (C .first) q1 (m .first)) (nextState (C .second) q2 (m .second)) ms)

@@ -15,17 +15,17 @@ use Rattle.calls.specs.Sequences.{World, Call, opening, expand, finalWeight, re
 use Rattle.calls.proofs.ExpandCases.{expand-late}
 use Rattle.readings.specs.Worlds.{worldOf, expandIn, runIn, Accepted, OpeningsRefused, UsedState, Expanded}
 use Rattle.readings.specs.Answers.{PassesBefore, ExpandedBy, by-expand, by-run, Answers}
-use Rattle.readings.proofs.Grows.{Kept}
+use Rattle.readings.proofs.Grows.{KeptWorld}
 use Rattle.readings.proofs.CallsKept.{expand-lists, expand-only, expand-numbers, final-numbers, final-late, final-stays, final-is, handed-or-none, Ran, run-onto}
 use Rattle.readings.proofs.CallLists.{open-stays, one-call, calls-onto, after-append}
 use Rattle.readings.proofs.Decided.{decides}
 
 module _ (l : Lent) (c : Composition) where
   -- 9 just where a state is not found
-  late : (w : World) → Kept l c w → (n : ℕ) → (UsedState w n → ⊥) → expandIn l w n .answer ≡ refused 9
+  late : (w : World) → KeptWorld l c w → (n : ℕ) → (UsedState w n → ⊥) → expandIn l w n .answer ≡ refused 9
   late w h n unused = ap (λ (o : Outcome Part). o .answer) (expand-late l (w .session) (w .memory) c (h .sound .enters) n (omega arith))
 
-  pub answers : (w : World) → Kept l c w → Answers l c w
+  pub answers : (w : World) → KeptWorld l c w → Answers l c w
   answers w h = record {
     expand-nine = λ n. (λ e i. let r = expand-numbers l c w h n i 9 e in omega (arith, r .0), late w h n);
     final-nine = λ n. (λ e i. let r = final-numbers l c w h n i 9 e in omega (arith, r), λ unused. final-late l c w h n (omega arith));
@@ -36,7 +36,7 @@ module _ (l : Lent) (c : Composition) where
   }
 
   -- a run that passes n does not stop before it
-  passed : (w : World) → Kept l c w → (n : ℕ) → PassesBefore l w (n + 1) → (r : Ran l c w) → n < r .is .stop
+  passed : (w : World) → KeptWorld l c w → (n : ℕ) → PassesBefore l w (n + 1) → (r : Ran l c w) → n < r .is .stop
   passed w h n p r = go (decLt n (r .is .stop)) (runIn l w .answer) refl
     where
       -- the expansion at which it stopped was refused
@@ -53,7 +53,7 @@ module _ (l : Lent) (c : Composition) where
       go (no i) (refused k) e = absurd (stopped k (omega arith) (r .is .stops k e .1))
 
   -- a state that one call expands: by the first of a list
-  one-expands : (w : World) → Kept l c w → (x : Call) (cs : List Call) → OpeningsRefused l w (x ∷ cs) → (n : ℕ) → Expanded (callOf l w x .world) n → Expanded w n ⊎ ExpandedBy l w (x ∷ cs) n
+  one-expands : (w : World) → KeptWorld l c w → (x : Call) (cs : List Call) → OpeningsRefused l w (x ∷ cs) → (n : ℕ) → Expanded (callOf l w x .world) n → Expanded w n ⊎ ExpandedBy l w (x ∷ cs) n
   unfolding callOf after
   one-expands w h (opening s k) cs o n x = inl (subst (λ (v : World). Expanded v n) (open-stays s k w (o .0)) x)
   one-expands w h (expand m) cs o n x =
@@ -72,7 +72,7 @@ module _ (l : Lent) (c : Composition) where
   later-expands w x cs n (by-expand before later e a) = by-expand (x ∷ before) later (ap (λ (y : List Call). x ∷ y) e) a
   later-expands w x cs n (by-run before later e a) = by-run (x ∷ before) later (ap (λ (y : List Call). x ∷ y) e) a
 
-  was-expanded : (cs : List Call) (w : World) → Kept l c w → OpeningsRefused l w cs → (n : ℕ) → Expanded (after l w cs) n → Expanded w n ⊎ ExpandedBy l w cs n
+  was-expanded : (cs : List Call) (w : World) → KeptWorld l c w → OpeningsRefused l w cs → (n : ℕ) → Expanded (after l w cs) n → Expanded w n ⊎ ExpandedBy l w cs n
   unfolding after
   was-expanded [] w h o n x = inl x
   was-expanded (y ∷ cs) w h o n x =
@@ -80,7 +80,7 @@ module _ (l : Lent) (c : Composition) where
       ⊎-elim (one-expands w h y cs o n) (λ z. inr (later-expands w y cs n z)) (was-expanded cs (callOf l w y .world) (a .0 .kept) (a .1) n x)
 
   -- what a call expanded stays expanded
-  is-expanded : (w : World) (cs : List Call) → Kept l c w → OpeningsRefused l w cs → (n : ℕ) → ExpandedBy l w cs n → Expanded (after l w cs) n
+  is-expanded : (w : World) (cs : List Call) → KeptWorld l c w → OpeningsRefused l w cs → (n : ℕ) → ExpandedBy l w cs n → Expanded (after l w cs) n
   unfolding after callOf
   is-expanded w cs h o n (by-expand before later e a) =
       let p = calls-onto l c w before (expand n ∷ later) h (subst (OpeningsRefused l w) (sym e) o) in
@@ -95,5 +95,5 @@ module _ (l : Lent) (c : Composition) where
       subst (λ (u : World). Expanded u n) (after-append l c w before (run ∷ later) ∙ ap (after l w) e) (q .0 .grows .expanded n (r .expanded n (passed v (p .0 .kept) n a r)))
 
   -- the record says what the calls made say, where no state was expanded before them
-  pub expanded-by : (w : World) (cs : List Call) → Kept l c w → ((n : ℕ) → Expanded w n → ⊥) → OpeningsRefused l w cs → (n : ℕ) → Expanded (after l w cs) n ↔ ExpandedBy l w cs n
+  pub expanded-by : (w : World) (cs : List Call) → KeptWorld l c w → ((n : ℕ) → Expanded w n → ⊥) → OpeningsRefused l w cs → (n : ℕ) → Expanded (after l w cs) n ↔ ExpandedBy l w cs n
   expanded-by w cs h none o n = (λ x. ⊎-elim (λ z. absurd (none n z)) (λ z. z) (was-expanded cs w h o n x), is-expanded w cs h o n)

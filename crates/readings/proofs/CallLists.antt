@@ -8,7 +8,7 @@ use Rattle.calls.specs.Sequences.{World, Call, opening, expand, finalWeight, re
 use Rattle.calls.proofs.OpenCases.{by-open}
 use Rattle.readings.specs.Worlds.{worldOf, Refused, OpeningsRefused}
 use Rattle.readings.specs.Again.{Again}
-use Rattle.readings.proofs.Grows.{Kept}
+use Rattle.readings.proofs.Grows.{KeptWorld}
 use Rattle.readings.proofs.CallsKept.{Onto, onto-none, onto-on, expand-onto, final-stays, run-onto, again-onto}
 
 -- a refused opening leaves all as it was
@@ -19,7 +19,7 @@ open-stays s k w =
 
 module _ (l : Lent) (c : Composition) where
   -- one call, and what is asked of the openings after it
-  pub one-call : (w : World) (x : Call) (cs : List Call) → Kept l c w → OpeningsRefused l w (x ∷ cs) → Onto l c w (callOf l w x .world) × OpeningsRefused l (callOf l w x .world) cs
+  pub one-call : (w : World) (x : Call) (cs : List Call) → KeptWorld l c w → OpeningsRefused l w (x ∷ cs) → Onto l c w (callOf l w x .world) × OpeningsRefused l (callOf l w x .world) cs
   unfolding callOf
   one-call w (opening s k) cs h r = (subst (Onto l c w) (sym (open-stays s k w (r .0))) (onto-none l c w h), r .1)
   one-call w (expand n) cs h r = (expand-onto l c w h n, r)
@@ -28,7 +28,7 @@ module _ (l : Lent) (c : Composition) where
   one-call w run cs h r = (run-onto l c w h .onto, r)
 
   -- the calls before a point of the list
-  pub calls-onto : (w : World) (before later : List Call) → Kept l c w → OpeningsRefused l w (before ++ later) → Onto l c w (after l w before) × OpeningsRefused l (after l w before) later
+  pub calls-onto : (w : World) (before later : List Call) → KeptWorld l c w → OpeningsRefused l w (before ++ later) → Onto l c w (after l w before) × OpeningsRefused l (after l w before) later
   unfolding after
   calls-onto w [] later h r = (onto-none l c w h, r)
   calls-onto w (x ∷ before) later h r =
@@ -51,10 +51,10 @@ module _ (l : Lent) (c : Composition) where
   after-append w (x ∷ before) later = after-append (callOf l w x .world) before later
 
   -- the world at a point of the list
-  pub calls-kept : (w : World) (cs : List Call) → Kept l c w → OpeningsRefused l w cs → (before later : List Call) → before ++ later ≡ cs → Kept l c (after l w before)
+  pub calls-kept : (w : World) (cs : List Call) → KeptWorld l c w → OpeningsRefused l w cs → (before later : List Call) → before ++ later ≡ cs → KeptWorld l c (after l w before)
   calls-kept w cs h r before later e = calls-onto w before later h (subst (OpeningsRefused l w) (sym e) r) .0 .kept
 
-  pub calls-again : (w : World) (cs : List Call) → Kept l c w → OpeningsRefused l w cs → (before middle later : List Call) → before ++ (middle ++ later) ≡ cs
+  pub calls-again : (w : World) (cs : List Call) → KeptWorld l c w → OpeningsRefused l w cs → (before middle later : List Call) → before ++ (middle ++ later) ≡ cs
       → Again l (after l w before) (after l w (before ++ middle))
   calls-again w cs h r before middle later e =
       let a = calls-onto w before (middle ++ later) h (subst (OpeningsRefused l w) (sym e) r) in

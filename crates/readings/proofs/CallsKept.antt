@@ -15,7 +15,7 @@ use Rattle.words.specs.Settings.{Lent}
 use Rattle.words.proofs.CheckedLaws.{good≢refused, refused-is, good-is}
 use Rattle.calls.specs.Store.{Store, stateRoom, tripleAt, expandedAt, Part}
 use Rattle.calls.specs.Checks.{storeOf, entered, enteredAt}
-use Rattle.calls.specs.Calls.{Outcome, storeSteps, newPart, settle, unchanged, wordsOf, finalWeightOf, onward, ended, runBy, runFrom, runOf, recordsBy, recordsOf}
+use Rattle.calls.specs.Calls.{Outcome, storeSteps, newPart, settle, unchanged, wordsOfPart, finalWeightOf, onward, runEnded, runBy, runFrom, runOf, recordsBy, recordsOf}
 use Rattle.calls.specs.Sequences.{World, expand, callOf, after}
 use Rattle.calls.proofs.ExpandKept.{expand-kept, entered-is}
 use Rattle.calls.proofs.Parts.{words-alike}
@@ -23,15 +23,15 @@ use Rattle.calls.proofs.ExpandCases.{stayed, stored, by-expand, store-refusals,
 use Rattle.readings.specs.Worlds.{worldOf, expandIn, finalIn, runIn, handedIn, Accepted, UsedState, Expanded, partIn, wordsIn, stateAt}
 use Rattle.readings.specs.Again.{Again}
 use Rattle.readings.specs.Answers.{RunIs}
-use Rattle.readings.proofs.Grows.{Kept, Grows, grows-none, grows-on, room-grows}
+use Rattle.readings.proofs.Grows.{KeptWorld, Grows, grows-none, grows-on, room-grows}
 use Rattle.readings.proofs.Expansions.{expansion-keeps, expansion-grows, expansion-lists, expansion-only}
 
 -- a later world
 pub record Onto (l : Lent) (c : Composition) (w v : World) : Type 0 where
-  pub kept : Kept l c v
+  pub kept : KeptWorld l c v
   pub grows : Grows w v
 
-pub onto-none : (l : Lent) (c : Composition) (w : World) → Kept l c w → Onto l c w w
+pub onto-none : (l : Lent) (c : Composition) (w : World) → KeptWorld l c w → Onto l c w w
 onto-none l c w k = record { kept = k; grows = grows-none w }
 
 pub onto-on : (l : Lent) (c : Composition) (w v u : World) → Onto l c w v → Onto l c v u → Onto l c w u
@@ -39,7 +39,7 @@ onto-on l c w v u p q = record { kept = q .kept; grows = grows-on w v u (p .grow
 
 module _ (l : Lent) (c : Composition) where
   -- one expansion, accepted or not
-  pub expand-onto : (w : World) → Kept l c w → (n : ℕ) → Onto l c w (worldOf (expandIn l w n))
+  pub expand-onto : (w : World) → KeptWorld l c w → (n : ℕ) → Onto l c w (worldOf (expandIn l w n))
   expand-onto w k n =
       by-expand l (w .session) (w .memory) c (k .sound .enters) n (λ o. expandIn l w n ≡ o → Onto l c w (worldOf o))
       (λ h e. onto-none l c w k) (λ h x e. onto-none l c w k) (λ h x j y e. onto-none l c w k) new refl
@@ -55,7 +55,7 @@ module _ (l : Lent) (c : Composition) where
           }
 
   -- an accepted expansion: the state is expanded, and its list is the one that was answered
-  pub expand-lists : (w : World) → Kept l c w → (n : ℕ) (p : Part) → expandIn l w n .answer ≡ good p
+  pub expand-lists : (w : World) → KeptWorld l c w → (n : ℕ) (p : Part) → expandIn l w n .answer ≡ good p
       → Expanded (worldOf (expandIn l w n)) n × (partIn (worldOf (expandIn l w n)) n ≡ p)
   expand-lists w k n p =
       by-expand l (w .session) (w .memory) c (k .sound .enters) n (λ o. o .answer ≡ good p → Expanded (worldOf o) n × (partIn (worldOf o) n ≡ p))
@@ -63,7 +63,7 @@ module _ (l : Lent) (c : Composition) where
       (λ h b d g e. let r = expansion-lists l c (w .session) (w .memory) k n h d g b in (r .0, r .1 ∙ good-is e))
 
   -- and no other state is
-  pub expand-only : (w : World) → Kept l c w → (n j : ℕ) → Expanded (worldOf (expandIn l w n)) j
+  pub expand-only : (w : World) → KeptWorld l c w → (n j : ℕ) → Expanded (worldOf (expandIn l w n)) j
       → Expanded w j ⊎ ((j ≡ n) × ((p : Part) × (expandIn l w n .answer ≡ good p)))
   expand-only w k n j =
       by-expand l (w .session) (w .memory) c (k .sound .enters) n (λ o. Expanded (worldOf o) j → Expanded w j ⊎ ((j ≡ n) × ((p : Part) × (o .answer ≡ good p))))
@@ -71,19 +71,19 @@ module _ (l : Lent) (c : Composition) where
       (λ h b d g x. ⊎-elim (λ z. inr (z, (newPart (w .session .used) (d .used), refl))) (λ z. inl z) (expansion-only l c (w .session) (w .memory) k n h d g b j x))
 
   -- a refused one changes nothing
-  pub expand-stays : (w : World) → Kept l c w → (n k : ℕ) → expandIn l w n .answer ≡ refused k → worldOf (expandIn l w n) ≡ w
+  pub expand-stays : (w : World) → KeptWorld l c w → (n k : ℕ) → expandIn l w n .answer ≡ refused k → worldOf (expandIn l w n) ≡ w
   expand-stays w h n k =
       by-expand l (w .session) (w .memory) c (h .sound .enters) n (λ o. o .answer ≡ refused k → worldOf o ≡ w)
       (λ a e. refl) (λ a x e. absurd (good≢refused e)) (λ a x j y e. refl) (λ a b d g e. absurd (good≢refused e))
 
   -- an expanded state is answered as stored
-  pub expand-again : (w : World) → Kept l c w → (n : ℕ) → Expanded w n → expandIn l w n ≡ stayed (w .session) (w .memory) (good (partIn w n))
+  pub expand-again : (w : World) → KeptWorld l c w → (n : ℕ) → Expanded w n → expandIn l w n ≡ stayed (w .session) (w .memory) (good (partIn w n))
   expand-again w k n x =
       by-expand l (w .session) (w .memory) c (k .sound .enters) n (λ o. o ≡ stayed (w .session) (w .memory) (good (partIn w n)))
       (λ h. absurd (omega (arith, h, x .0))) (λ h y. refl) (λ h b j y. absurd (b (x .1))) (λ h b d g. absurd (b (x .1)))
 
   -- a found state is refused by 10 to 13 alone
-  pub expand-numbers : (w : World) → Kept l c w → (n : ℕ) → n < w .session .used .states → (k : ℕ) → expandIn l w n .answer ≡ refused k → (10 ≤ k) × (k ≤ 13)
+  pub expand-numbers : (w : World) → KeptWorld l c w → (n : ℕ) → n < w .session .used .states → (k : ℕ) → expandIn l w n .answer ≡ refused k → (10 ≤ k) × (k ≤ 13)
   expand-numbers w h n i k =
       by-expand l (w .session) (w .memory) c (h .sound .enters) n (λ o. o .answer ≡ refused k → (10 ≤ k) × (k ≤ 13))
       (λ a e. absurd (omega (arith, a, i))) (λ a x e. absurd (good≢refused e))
@@ -91,17 +91,17 @@ module _ (l : Lent) (c : Composition) where
       (λ a b d g e. absurd (good≢refused e))
 
   -- final weight and handing back of a found state, where the checks 1 to 8 pass
-  pub final-under : (w : World) → Kept l c w → (n : ℕ) → n < w .session .used .states
+  pub final-under : (w : World) → KeptWorld l c w → (n : ℕ) → n < w .session .used .states
       → finalIn l w n ≡ settle (w .session) (w .memory) (andThen (finalAt c (stateAt w n)) (λ x. good (unchanged (w .session) (w .memory) x)))
   unfolding finalWeightOf enteredAt
   final-under w k n h = rw (k .sound .enters, lt-leb _ _ h)
 
-  pub records-under : (w : World) → Kept l c w → (n : ℕ) → n < w .session .used .states → handedIn l w n ≡ recordsBy (good c) (storeOf (w .session) (w .memory)) n
+  pub records-under : (w : World) → KeptWorld l c w → (n : ℕ) → n < w .session .used .states → handedIn l w n ≡ recordsBy (good c) (storeOf (w .session) (w .memory)) n
   unfolding recordsOf enteredAt
   records-under w k n h = rw (k .sound .enters, lt-leb _ _ h)
 
   -- final weight answers for found states alone, and changes nothing
-  final-found : (w : World) → Kept l c w → (n : ℕ) (x : Option ℕ) → finalIn l w n .answer ≡ good x → n < w .session .used .states
+  final-found : (w : World) → KeptWorld l c w → (n : ℕ) (x : Option ℕ) → finalIn l w n .answer ≡ good x → n < w .session .used .states
   unfolding finalWeightOf enteredAt
   final-found w k n x e = go (leb (w .session .used .states) n) refl
     where
@@ -122,7 +122,7 @@ module _ (l : Lent) (c : Composition) where
       go (refused k) = refl
 
   -- and its final weight by 12
-  pub final-numbers : (w : World) → Kept l c w → (n : ℕ) → n < w .session .used .states → (k : ℕ) → finalIn l w n .answer ≡ refused k → k ≡ 12
+  pub final-numbers : (w : World) → KeptWorld l c w → (n : ℕ) → n < w .session .used .states → (k : ℕ) → finalIn l w n .answer ≡ refused k → k ≡ 12
   final-numbers w h n i k e = go (finalAt c (stateAt w n)) refl (ap (λ (o : Outcome (Option ℕ)). o .answer) (sym (final-under w h n i)) ∙ e)
     where
       go : (o : Checked (Option ℕ)) → finalAt c (stateAt w n) ≡ o → settle (w .session) (w .memory) (andThen o (λ x. good (unchanged (w .session) (w .memory) x))) .answer ≡ refused k → k ≡ 12
@@ -130,12 +130,12 @@ module _ (l : Lent) (c : Composition) where
       go (refused j) p z = final-refusals c (stateAt w n) k (p ∙ ap refused (refused-is z))
 
   -- what is not found is refused by 9
-  pub final-late : (w : World) → Kept l c w → (n : ℕ) → w .session .used .states ≤ n → finalIn l w n .answer ≡ refused 9
+  pub final-late : (w : World) → KeptWorld l c w → (n : ℕ) → w .session .used .states ≤ n → finalIn l w n .answer ≡ refused 9
   unfolding finalWeightOf enteredAt
   final-late w k n h = rw (k .sound .enters, le-leb _ _ h)
 
   -- where it is found its final weight is answered
-  pub final-is : (w : World) → Kept l c w → (n : ℕ) → UsedState w n → finalIn l w n .answer ≡ finalAt c (stateAt w n)
+  pub final-is : (w : World) → KeptWorld l c w → (n : ℕ) → UsedState w n → finalIn l w n .answer ≡ finalAt c (stateAt w n)
   final-is w k n h = ap (λ (o : Outcome (Option ℕ)). o .answer) (final-under w k n h) ∙ go (finalAt c (stateAt w n))
     where
       go : (o : Checked (Option ℕ)) → settle (w .session) (w .memory) (andThen o (λ x. good (unchanged (w .session) (w .memory) x))) .answer ≡ o
@@ -143,7 +143,7 @@ module _ (l : Lent) (c : Composition) where
       go (refused j) = refl
 
   -- words are handed back for expanded states alone
-  pub handed-or-none : (w : World) → Kept l c w → (n : ℕ) → Expanded w n ⊎ (handedIn l w n ≡ [])
+  pub handed-or-none : (w : World) → KeptWorld l c w → (n : ℕ) → Expanded w n ⊎ (handedIn l w n ≡ [])
   unfolding recordsOf enteredAt
   handed-or-none w k n = go (leb (w .session .used .states) n) refl (eqb (expandedAt (w .memory .states) n) 1) refl
     where
@@ -168,7 +168,7 @@ module _ (l : Lent) (c : Composition) where
     pub stops : (k : ℕ) → o .answer ≡ refused k → UsedState (worldOf o) (from + count) × (expandIn l (worldOf o) (from + count) .answer ≡ refused k)
 
   -- none is left
-  run-ended : (w : World) → Kept l c w → (n : ℕ) → w .session .used .states ≡ n → Run n w (ended (w .session) (w .memory))
+  run-ended : (w : World) → KeptWorld l c w → (n : ℕ) → w .session .used .states ≡ n → Run n w (runEnded (w .session) (w .memory))
   unfolding after interval
   run-ended w k n h = record {
     onto = onto-none l c w k;
@@ -182,17 +182,17 @@ module _ (l : Lent) (c : Composition) where
   }
 
   abbrev RunsFrom : ℕ → ℕ → World → Type 0
-  RunsFrom k n w = Kept l c w → n ≤ w .session .used .states → stateRoom (w .memory) ≤ k + n → Run n w (runFrom l k n (w .session) (w .memory))
+  RunsFrom k n w = KeptWorld l c w → n ≤ w .session .used .states → stateRoom (w .memory) ≤ k + n → Run n w (runFrom l k n (w .session) (w .memory))
 
   -- one expansion of a run: it is refused, or the run goes on
-  module _ (w : World) (h : Kept l c w) (n : ℕ) (used : UsedState w n) where
+  module _ (w : World) (h : KeptWorld l c w) (n : ℕ) (used : UsedState w n) where
     abbrev o : Outcome Part
     o = expandIn l w n
 
     next : Onto l c w (worldOf o)
     next = expand-onto w h n
 
-    run-stopped : (j : ℕ) → o .answer ≡ refused j → Run n w (onward (refused j) (o .session) (o .memory) (λ s m. ended s m))
+    run-stopped : (j : ℕ) → o .answer ≡ refused j → Run n w (onward (refused j) (o .session) (o .memory) (λ s m. runEnded s m))
     unfolding after interval
     run-stopped j e =
         let same = expand-stays w h n j e in
@@ -281,12 +281,12 @@ module _ (l : Lent) (c : Composition) where
         only = λ j x. ⊎-elim inl (λ z. inr (omega (arith, z .1, z .2))) (r .only j x);
       }
 
-  pub run-onto : (w : World) → Kept l c w → Ran w
+  pub run-onto : (w : World) → KeptWorld l c w → Ran w
   unfolding runOf
   run-onto w k = whole-run w (rw (k .sound .enters) (run-from (stateRoom (w .memory)) 0 w k (omega arith) (omega arith)))
 
 -- 3a, where the later world grew from the earlier one
-pub again-onto : (l : Lent) (c : Composition) (w v : World) → Kept l c w → Onto l c w v → Again l w v
+pub again-onto : (l : Lent) (c : Composition) (w v : World) → KeptWorld l c w → Onto l c w v → Again l w v
 again-onto l c w v k o = record {
   list = λ n x. expand-again l c v (o .kept) n (o .grows .expanded n x) ∙ ap (λ p. stayed (v .session) (v .memory) (good p)) (o .grows .part n x);
   words = words;
@@ -301,7 +301,7 @@ again-onto l c w v k o = record {
         let d = storeOf (w .session) (w .memory) in
         let e = storeOf (v .session) (v .memory) in
         records-under l c v (o .kept) n (y .0)
-        ∙ (rw (eq-eqb (expandedAt (v .memory .states) n) 1 (y .1)) (ap (wordsOf (v .memory .trs)) (o .grows .part n x))
+        ∙ (rw (eq-eqb (expandedAt (v .memory .states) n) 1 (y .1)) (ap (wordsOfPart (v .memory .trs)) (o .grows .part n x))
         ∙ words-alike d e (a .form) (o .grows .trs) n (x .0) (omega (arith, o .grows .trs, b .form .trs-fit)) (o .grows .word))
 
     weighs : (n : ℕ) (x : Option ℕ) → n < w .session .used .states → finalIn l w n .answer ≡ good x → finalIn l v n .answer ≡ good x

@@ -86,7 +86,7 @@ pub record Stops (l : Lent) (w : World) (k : ℕ) : Type 0 where
   pub refuses : expandIn l (worldOf (runIn l w)) at .answer ≡ refused k
 
 -- What single calls leave, in a world of a list.
-pub record Leaves (l : Lent) (w : World) : Type 0 where
+pub record CallLeaves (l : Lent) (w : World) : Type 0 where
   -- an accepted expansion: the state is expanded, and its list is the one that was answered
   pub expands : (n : ℕ) (p : Part) → expandIn l w n .answer ≡ good p → Expanded (worldOf (expandIn l w n)) n × (partIn (worldOf (expandIn l w n)) n ≡ p)
   -- and no other state is expanded by it
@@ -145,7 +145,7 @@ module _ (s : Settings) (l : Lent) (m : Memory) (c : Composition) (w : World) (D
         sym (ap (λ (y : World). turnOf part (expandIn l y n) .reply) (after-one l w cs (expand n)) ∙ ap (λ (o : Outcome Part). turnOf part o .reply) (a .list n x)) ∙ g .1 in
         part-said second
 
-    pub leaves : Leaves l v
+    pub leaves : CallLeaves l v
     unfolding callOf
     leaves = record {
       expands = λ n p e. let x = after-it (expand n) tt n (by-expand cs [] refl (p, e)) in (x, part-kept n p e x);

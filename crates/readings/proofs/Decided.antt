@@ -23,7 +23,7 @@ use Rattle.calls.proofs.StepsKept.{longer}
 use Rattle.calls.proofs.ExpandCases.{expand-stored, expand-stopped, listed-refused}
 use Rattle.readings.specs.Worlds.{expandIn, Accepted, UsedState, Expanded, stateAt}
 use Rattle.readings.specs.Answers.{newStates, RoomFor, Lacks, Decides}
-use Rattle.readings.proofs.Grows.{Kept}
+use Rattle.readings.proofs.Grows.{KeptWorld}
 use Rattle.readings.proofs.Rooms.{Ready, known-first, stored-first, stored-none}
 
 -- kept moves up to the end, or up to the first that is refused
@@ -45,7 +45,7 @@ room-or-not w steps =
     go (no a) (yes b) = inr (inr b)
     go (no a) (no b) = inl (record { trs = omega arith; states = omega arith })
 
-module _ (l : Lent) (c : Composition) (w : World) (kept : Kept l c w) (n : ℕ) (used : UsedState w n) (not-yet : Expanded w n → ⊥) where
+module _ (l : Lent) (c : Composition) (w : World) (kept : KeptWorld l c w) (n : ℕ) (used : UsedState w n) (not-yet : Expanded w n → ⊥) where
   abbrev d : Store
   d = storeOf (w .session) (w .memory)
 

@@ -29,7 +29,7 @@ use Rattle.readings.proofs.Refused.{refused-for}
 use Rattle.readings.proofs.PathEnds.{final-answer}
 use Rattle.readings.proofs.StorePaths.{begins, papers-paths, store-paths}
 use Rattle.readings.proofs.WordPaths.{by-words}
-use Rattle.readings.proofs.Grows.{Kept}
+use Rattle.readings.proofs.Grows.{KeptWorld}
 use Rattle.readings.proofs.CallsKept.{expand-onto, expand-lists}
 use Rattle.readings.proofs.Openings.{open-keeps}
 use Rattle.readings.proofs.CallLists.{calls-onto}
@@ -42,7 +42,7 @@ begun l c w S t = (
 )
 
 -- in every world that the calls keep
-pub follows : (s : Settings) (l : Lent) (side : Side) → sideFor s l ≡ good side → (w : World) → Kept l (compositionOf s l side) w → Demand2 s l (compositionOf s l side) w
+pub follows : (s : Settings) (l : Lent) (side : Side) → sideFor s l ≡ good side → (w : World) → KeptWorld l (compositionOf s l side) w → Demand2 s l (compositionOf s l side) w
 follows s l side rule w k =
     let c = compositionOf s l side in
     let z = sided s l side rule in

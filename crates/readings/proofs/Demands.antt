@@ -9,7 +9,7 @@ use Rattle.calls.proofs.OpenKept.{open-kept}
 use Rattle.readings.specs.Worlds.{worldOf, OpeningsRefused}
 use Rattle.readings.specs.Again.{replyAfter, GivesAgain}
 use Rattle.readings.specs.Demands.{Claim}
-use Rattle.readings.proofs.Grows.{Kept}
+use Rattle.readings.proofs.Grows.{KeptWorld}
 use Rattle.readings.proofs.Openings.{open-keeps, open-unexpanded}
 use Rattle.readings.proofs.CallLists.{calls-onto, openings-before, after-append, calls-kept, calls-again}
 use Rattle.readings.proofs.Answered.{answers, expanded-by}
@@ -19,7 +19,7 @@ use Rattle.readings.proofs.LargerMemory.{larger}
 use Rattle.readings.proofs.StorePaths.{store-paths}
 
 -- two answers to one call of a list
-given : (l : Lent) (c : Composition) (w : World) (cs : List Call) → Kept l c w → OpeningsRefused l w cs → (before middle later : List Call) (x : Call)
+given : (l : Lent) (c : Composition) (w : World) (cs : List Call) → KeptWorld l c w → OpeningsRefused l w cs → (before middle later : List Call) (x : Call)
     → before ++ (x ∷ (middle ++ (x ∷ later))) ≡ cs → GivesAgain (replyAfter l w before x) (replyAfter l w (before ++ (x ∷ middle)) x)
 unfolding after
 given l c w cs k r before middle later x e =

@@ -11,14 +11,14 @@ use Rattle.lists.specs.Lists.{every, interval, keepIf}
 use Rattle.papers.specs.Machine.{Machine}
 use Rattle.papers.specs.Weight.{Semiring, Cost, finite, infinite, Kind, cost, count, semiring}
 use Rattle.papers.specs.Filter.{MoveKind, Filter}
-use Rattle.papers.specs.Composition.{rest, along, Move}
+use Rattle.papers.specs.Composition.{rest, along, Edges}
 use Rattle.papers.specs.Paths.{word, path1, path2, Matching, Ends, Accepting, AcceptingPath, AcceptingRun, movesWeight}
 use Rattle.words.specs.Machines.{stateCount, trCount, startWord, sideMark, acceptorMark, stateWord, trWord, firstOk, nextOk, firstOf, nextOf, listBy, listFrom, listOf, machineOf, noFall, sorted, stateOk, trOk, acceptor, marksOk, sizeOk, wellFormed}
 use Rattle.words.specs.Filters.{sequence, alternate, matching}
 use Rattle.words.specs.AsPapers.{exact}
 use Rattle.papers.specs.Pick.{sequencePick, alternatePick, matchingPick}
 use Rattle.readings.specs.Merge.{move, mergeUpTo, merge}
-use Rattle.readings.specs.Readings.{composed, Pair, ReadingsOf}
+use Rattle.readings.specs.Readings.{plainComposed, Pair, ReadingsOf}
 use Rattle.readings.specs.Places.{sameEdge}
 use Rattle.readings.proofs.Filters.{sequence-readings, alternate-readings, match-readings}
 
@@ -127,10 +127,10 @@ of-two P p a b i =
     ⊎-elim (λ e. subst P (sym e) a) (λ i. ⊎-elim (λ e. subst P (sym e) b) (λ i. absurd (List·Memᴰ·not-nil i)) (List·Memᴰ·cases-cons i)) (List·Memᴰ·cases-cons i)
 
 -- the composed path of a pair, where `pick` says which move goes first; of the four
-abbrev pub composedPath : (Bool → Bool → MoveKind) → List ℕ × List ℕ → List Move
+abbrev pub composedPath : (Bool → Bool → MoveKind) → List ℕ × List ℕ → List Edges
 composedPath pick p = merge pick M1 M2 (p .0) (p .1)
 
-abbrev pub composedPaths : (Bool → Bool → MoveKind) → List (List Move)
+abbrev pub composedPaths : (Bool → Bool → MoveKind) → List (List Edges)
 composedPaths pick = map (composedPath pick) pairs
 
 pair-in : (p r : List ℕ) → In p (long ∷ short ∷ []) → In r (long ∷ short ∷ []) → In (p, r) pairs
@@ -153,7 +153,7 @@ all-match p i = of-pairs (λ p. Matching _≡_ M1 M2 (p .0) (p .1)) p (refl, tt)
 
 module _ (k : Kind) where
   -- their pairs are pairs of accepting paths that match
-  all-accept : (p : List ℕ × List ℕ) → In p pairs → Pair (semiring k) (exact k) _≡_ (composed M1 M2 sequence) p
+  all-accept : (p : List ℕ × List ℕ) → In p pairs → Pair (semiring k) (exact k) _≡_ (plainComposed M1 M2 sequence) p
   all-accept p i = (
     (0, shape1 .start, of-pairs (λ p. Accepting (semiring k) (exact k) M1 0 (p .0)) p l1 l1 s1 s1 i),
     (0, shape2 .start, of-pairs (λ p. Accepting (semiring k) (exact k) M2 0 (p .1)) p l2 s2 l2 s2 i),
@@ -173,8 +173,8 @@ module _ (k : Kind) where
       s2 = short-accepts (semiring k) (exact k) M2 shape2 (ends2 k)
 
   -- whichever filter: the accepting paths of the composition are those of the four pairs, and no others
-  pub just-four : (F : Filter) (pick : Bool → Bool → MoveKind) → ReadingsOf k (exact k) M1 M2 F pick → (ms : List Move)
-      → AcceptingRun (semiring k) (exact k) (composed M1 M2 F) ms ↔ In ms (composedPaths pick)
+  pub just-four : (F : Filter) (pick : Bool → Bool → MoveKind) → ReadingsOf k (exact k) M1 M2 F pick → (ms : List Edges)
+      → AcceptingRun (semiring k) (exact k) (plainComposed M1 M2 F) ms ↔ In ms (composedPaths pick)
   just-four F pick r ms = (
     λ h.
         let g = r .paths .goes ms h in
@@ -183,16 +183,16 @@ module _ (k : Kind) where
         subst (λ n. In n (composedPaths pick)) (r .paths .from-to ms h) (Memᴰ·map (composedPath pick) (pair-in (path1 ms) (path2 ms) i j)),
     λ i.
         let p = Memᴰ·of-map (composedPath pick) pairs i in
-        subst (AcceptingRun (semiring k) (exact k) (composed M1 M2 F)) (p .2) (r .paths .comes (p .0) (all-accept (p .0) (p .1))),
+        subst (AcceptingRun (semiring k) (exact k) (plainComposed M1 M2 F)) (p .2) (r .paths .comes (p .0) (all-accept (p .0) (p .1))),
   )
 
-  pub four-by-sequence : (ms : List Move) → AcceptingRun (semiring k) (exact k) (composed M1 M2 sequence) ms ↔ In ms (composedPaths sequencePick)
+  pub four-by-sequence : (ms : List Edges) → AcceptingRun (semiring k) (exact k) (plainComposed M1 M2 sequence) ms ↔ In ms (composedPaths sequencePick)
   four-by-sequence = just-four sequence sequencePick (sequence-readings k (exact k) M1 M2)
 
-  pub four-by-alternate : (ms : List Move) → AcceptingRun (semiring k) (exact k) (composed M1 M2 alternate) ms ↔ In ms (composedPaths alternatePick)
+  pub four-by-alternate : (ms : List Edges) → AcceptingRun (semiring k) (exact k) (plainComposed M1 M2 alternate) ms ↔ In ms (composedPaths alternatePick)
   four-by-alternate = just-four alternate alternatePick (alternate-readings k (exact k) M1 M2)
 
-  pub four-by-match : (ms : List Move) → AcceptingRun (semiring k) (exact k) (composed M1 M2 matching) ms ↔ In ms (composedPaths matchingPick)
+  pub four-by-match : (ms : List Edges) → AcceptingRun (semiring k) (exact k) (plainComposed M1 M2 matching) ms ↔ In ms (composedPaths matchingPick)
   four-by-match = just-four matching matchingPick (match-readings k (exact k) M1 M2)
 
 -- They are these. Two ε meet in the first pair: sequence takes machine 1's first, alternate machine 2's, match both together.
@@ -224,31 +224,31 @@ unfolding mergeUpTo trWord stateCount
 by-match = refl
 
 -- The other order of the two ε, by which the first reading would be doubled, is no accepting path under sequence.
-abbrev moves1 : List Move → Bool
+abbrev moves1 : List Edges → Bool
 moves1 [] = false
 moves1 (m ∷ ms) = sameEdge (m .first) (along 1)
 
-abbrev otherOrder : List Move
+abbrev otherOrder : List Edges
 otherOrder = move rest (along 1) ∷ move (along 1) rest ∷ move (along 2) (along 2) ∷ []
 
-pub not-doubled : (k : Kind) → AcceptingRun (semiring k) (exact k) (composed M1 M2 sequence) otherOrder → ⊥
+pub not-doubled : (k : Kind) → AcceptingRun (semiring k) (exact k) (plainComposed M1 M2 sequence) otherOrder → ⊥
 unfolding flatMap mergeUpTo trWord stateCount
 not-doubled k h = true≢false (ap moves1 (sequence-readings k (exact k) M1 M2 .paths .from-to otherOrder h))
 
 -- Machine 1's paths cost 5 and 12, machine 2's 8 and 9; they count 4 and 20, 12 and 18.
-abbrev pub weigh : (k : Kind) → Filter → (Bool → Bool → MoveKind) → List (semiring k .Element)
-weigh k F pick = map (movesWeight (semiring k) (exact k) (composed M1 M2 F) 0 0) (composedPaths pick)
+abbrev pub pathWeights : (k : Kind) → Filter → (Bool → Bool → MoveKind) → List (semiring k .Element)
+pathWeights k F pick = map (movesWeight (semiring k) (exact k) (plainComposed M1 M2 F) 0 0) (composedPaths pick)
 
 abbrev sums : List Cost
 sums = finite 13 ∷ finite 14 ∷ finite 20 ∷ finite 21 ∷ []
 
-pub costs : (weigh cost sequence sequencePick ≡ sums) × (weigh cost alternate alternatePick ≡ sums) × (weigh cost matching matchingPick ≡ sums)
+pub costs : (pathWeights cost sequence sequencePick ≡ sums) × (pathWeights cost alternate alternatePick ≡ sums) × (pathWeights cost matching matchingPick ≡ sums)
 unfolding mergeUpTo stateWord trWord stateCount
 costs = (refl, refl, refl)
 
 abbrev products : List ℕ
 products = 48 ∷ 72 ∷ 240 ∷ 360 ∷ []
 
-pub counts : (weigh count sequence sequencePick ≡ products) × (weigh count alternate alternatePick ≡ products) × (weigh count matching matchingPick ≡ products)
+pub counts : (pathWeights count sequence sequencePick ≡ products) × (pathWeights count alternate alternatePick ≡ products) × (pathWeights count matching matchingPick ≡ products)
 unfolding mergeUpTo stateWord trWord stateCount
 counts = (refl, refl, refl)

@@ -22,7 +22,7 @@ use Rattle.calls.proofs.StepsMade.{IsTr, written-at, stay-triple}
 use Rattle.calls.proofs.Parts.{some-first, in-new, of-new}
 use Rattle.calls.proofs.ExpandMade.{markedBy, ExpandMade, expand-made}
 use Rattle.readings.specs.Worlds.{Expanded, partIn, recordsIn, stateAt, targetOf, Found, at-start, as-target, IsRecord, IsList, Sound}
-use Rattle.readings.proofs.Grows.{Kept, Grows}
+use Rattle.readings.proofs.Grows.{KeptWorld, Grows}
 
 -- a record of an earlier world in a later one, and a list
 module _ (l : Lent) (c : Composition) (w v : World) (sound : Sound l c w) (g : Grows w v) where
@@ -62,7 +62,7 @@ module _ (l : Lent) (c : Composition) (w v : World) (sound : Sound l c w) (g : G
             subst (λ (o : Part). IsRecord v (o .first + k) st) (sym p) (old-record (f + k) st (b .0) (b .1) (q .record-of k st a));
       }
 
-module _ (l : Lent) (c : Composition) (s : Session) (m : Memory) (kept : Kept l c (record { session = s; memory = m })) (n : ℕ) (found : n < s .used .states)
+module _ (l : Lent) (c : Composition) (s : Session) (m : Memory) (kept : KeptWorld l c (record { session = s; memory = m })) (n : ℕ) (found : n < s .used .states)
     (e : Store) (stored : storeSteps (storeOf s m) (stepsAt c (tripleAt (m .states) n)) ≡ good e) (bare : expandedAt (m .states) n ≢ 1) where
   abbrev w : World
   w = record { session = s; memory = m }
@@ -215,7 +215,7 @@ module _ (l : Lent) (c : Composition) (s : Session) (m : Memory) (kept : Kept l 
   lists k x = ⊎-elim (λ z. subst (IsList c v) (sym z) list-it) (λ y. old-list l c w v (kept .sound) grows k y) (expanded-cases k x)
 
   -- where the checks 1 to 8 pass after it, all is kept
-  pub expansion-keeps : entered l (v .session) (v .memory) ≡ good c → Kept l c v
+  pub expansion-keeps : entered l (v .session) (v .memory) ≡ good c → KeptWorld l c v
   unfolding mark
   expansion-keeps q =
       record {

@@ -16,7 +16,7 @@ use Rattle.words.specs.Filters.{sequence, alternate, matching, filterOf, papers
 use Rattle.words.proofs.TableLaws.{sequence-laws, alternate-laws, matching-laws}
 use Rattle.readings.specs.Correspondence.{OneToOne}
 use Rattle.readings.specs.Merge.{merge}
-use Rattle.readings.specs.Readings.{composed, ReadingsOf, filteredBy, SamePaths}
+use Rattle.readings.specs.Readings.{plainComposed, ReadingsOf, filteredBy, SamePaths}
 use Rattle.readings.proofs.Correspondences.{turned, chained}
 use Rattle.readings.proofs.Theorem.{readings}
 use Rattle.readings.proofs.Swap.{same-by-pick}
@@ -24,7 +24,7 @@ use Rattle.readings.proofs.Swap.{same-by-pick}
 -- "inner labels (outputs of the first, inputs of the second) agree"
 pub equal-readings : (k : Kind) (value : ℕ → semiring k .Element) (A B : Machine) (filter : Filter) (live : ℕ → Bool → Bool → Bool) (pick : Bool → Bool → MoveKind)
     → Lawful filter live pick → ReadingsOf k value A B filter pick
-equal-readings k value A B filter live pick L = readings k value _≡_ (composed A B filter) (λ q1 q2 t u l l′ n n′. (λ e. e, λ e. e)) live pick L
+equal-readings k value A B filter live pick L = readings k value _≡_ (plainComposed A B filter) (λ q1 q2 t u l l′ n n′. (λ e. e, λ e. e)) live pick L
 
 module _ (k : Kind) (value : ℕ → semiring k .Element) (A B : Machine) where
   -- 01's three
@@ -50,7 +50,7 @@ module _ (k : Kind) (value : ℕ → semiring k .Element) (A B : Machine) where
 module _ (k : Kind) (value : ℕ → semiring k .Element) (A B : Machine) where
   -- Of any two of these filters: their accepting paths correspond one to one, each with the one that has the same pair.
   pub any-two : (F G : Filter) (pick pick′ : Bool → Bool → MoveKind) → ReadingsOf k value A B F pick → ReadingsOf k value A B G pick′
-      → OneToOne (AcceptingRun (semiring k) value (composed A B F)) (AcceptingRun (semiring k) value (composed A B G))
+      → OneToOne (AcceptingRun (semiring k) value (plainComposed A B F)) (AcceptingRun (semiring k) value (plainComposed A B G))
       (λ ms. merge pick′ A B (path1 ms) (path2 ms)) (λ ms. merge pick A B (path1 ms) (path2 ms))
   any-two F G pick pick′ r r′ = chained (r .paths) (turned (r′ .paths))
 

@@ -18,7 +18,7 @@ use Rattle.calls.specs.Sequences.{World, Call, opening, expand, finalWeight, re
 use Rattle.calls.proofs.ExpandCases.{stayed, by-expand}
 use Rattle.readings.specs.Worlds.{worldOf, openIn, expandIn, finalIn, runIn, handedIn, Refused, OpeningsRefused, UsedState, Expanded}
 use Rattle.readings.specs.Again.{Again, GivesAgain}
-use Rattle.readings.proofs.Grows.{Kept, grows-none}
+use Rattle.readings.proofs.Grows.{KeptWorld, grows-none}
 use Rattle.readings.proofs.CallsKept.{Onto, expand-again, expand-lists, final-stays, handed-or-none, run-onto, again-onto}
 use Rattle.readings.proofs.CallLists.{open-stays, one-call, calls-onto}
 
@@ -27,7 +27,7 @@ module _ (l : Lent) (c : Composition) where
   abbrev AllExpanded : World → Type 0
   AllExpanded w = (n : ℕ) → UsedState w n → Expanded w n
 
-  module _ (w : World) (k : Kept l c w) (all : AllExpanded w) where
+  module _ (w : World) (k : KeptWorld l c w) (all : AllExpanded w) where
     expand-idle : (n : ℕ) → worldOf (expandIn l w n) ≡ w
     expand-idle n =
         by-expand l (w .session) (w .memory) c (k .sound .enters) n (λ o. worldOf o ≡ w) (λ h. refl) (λ h x. refl) (λ h b j e. refl) (λ h b d g. absurd (b (all n h .1)))
@@ -56,7 +56,7 @@ module _ (l : Lent) (c : Composition) where
     call-idle run cs r = ap worldOf run-idle
 
   -- so the world stays, whatever is called
-  calls-idle : (cs later : List Call) (w : World) → Kept l c w → AllExpanded w → OpeningsRefused l w (cs ++ later) → after l w cs ≡ w
+  calls-idle : (cs later : List Call) (w : World) → KeptWorld l c w → AllExpanded w → OpeningsRefused l w (cs ++ later) → after l w cs ≡ w
   unfolding after
   calls-idle [] later w k all r = refl
   calls-idle (x ∷ cs) later w k all r =
@@ -64,13 +64,13 @@ module _ (l : Lent) (c : Composition) where
       ap (λ v. after l v cs) e ∙ calls-idle cs later w k all (subst (λ v. OpeningsRefused l v (cs ++ later)) e (one-call l c w x (cs ++ later) k r .1))
 
   -- words are handed back for expanded states alone
-  handed-expanded : (w : World) → Kept l c w → (n : ℕ) (x : ℕ) (xs : List ℕ) → handedIn l w n ≡ x ∷ xs → Expanded w n
+  handed-expanded : (w : World) → KeptWorld l c w → (n : ℕ) (x : ℕ) (xs : List ℕ) → handedIn l w n ≡ x ∷ xs → Expanded w n
   handed-expanded w k n x xs e = ⊎-elim (λ y. y) (λ y. absurd (nil≢cons (sym y ∙ e))) (handed-or-none l c w k n)
 
   -- the second of two replies to one call
-  module _ (w : World) (k : Kept l c w) (middle later : List Call) where
+  module _ (w : World) (k : KeptWorld l c w) (middle later : List Call) where
     -- u is the world after the first call, v the one in which the second is made
-    on : (x : Call) → OpeningsRefused l w (x ∷ (middle ++ later)) → let u = callOf l w x .world in let v = after l u middle in Kept l c u × Onto l c u v × Again l w v × Again l u v
+    on : (x : Call) → OpeningsRefused l w (x ∷ (middle ++ later)) → let u = callOf l w x .world in let v = after l u middle in KeptWorld l c u × Onto l c u v × Again l w v × Again l u v
     unfolding after
     on x r =
         let a = one-call l c w x (middle ++ later) k r in

@@ -12,7 +12,7 @@ use Rattle.calls.proofs.RecordLaws.{room-same}
 use Rattle.calls.proofs.FindLaws.{Whole}
 use Rattle.readings.specs.Worlds.{Expanded, partIn, stateAt, Sound}
 
-pub record Kept (l : Lent) (c : Composition) (w : World) : Type 0 where
+pub record KeptWorld (l : Lent) (c : Composition) (w : World) : Type 0 where
   pub sound : Sound l c w
   pub whole : Whole (storeOf (w .session) (w .memory))
 

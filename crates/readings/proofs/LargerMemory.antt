@@ -16,7 +16,7 @@ use Rattle.words.specs.Settings.{Settings, Lent, compositionOf}
 use Rattle.words.proofs.CheckedLaws.{good≢refused}
 use Rattle.calls.specs.Store.{Memory, roomOf, stateRoom, trRoom, stateField, add, Part}
 use Rattle.calls.specs.Checks.{Session, storeOf, sideFor}
-use Rattle.calls.specs.Calls.{Outcome, cleared, openOf, expandOf, finalWeightOf, onward, ended, runBy, runFrom, runOf}
+use Rattle.calls.specs.Calls.{Outcome, cleared, openOf, expandOf, finalWeightOf, onward, runEnded, runBy, runFrom, runOf}
 use Rattle.calls.specs.Sequences.{World, Call, opening, expand, finalWeight, records, run, Said, part, weight, accepted, answered, handed, saidOf, turnOf, callOf, replies}
 use Rattle.calls.proofs.StepsStay.{add-stays}
 use Rattle.calls.proofs.ExpandKept.{entered-is}
@@ -32,7 +32,7 @@ use Rattle.readings.proofs.TwoWorlds.{Same, Agrees, expand-two, final-t
 
 module _ (l : Lent) (c : Composition) where
   -- none is left in both
-  both-end : (w v : World) → Same l c w v → Agrees l c (ended (w .session) (w .memory)) (ended (v .session) (v .memory))
+  both-end : (w v : World) → Same l c w v → Agrees l c (runEnded (w .session) (w .memory)) (runEnded (v .session) (v .memory))
   both-end w v h = inr (refl, h)
 
   abbrev RunsTwo : ℕ → ℕ → ℕ → World → World → Type 0

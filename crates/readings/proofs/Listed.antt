@@ -9,7 +9,7 @@ use Rattle.lists.specs.Lists.{At, Distinct, Enumerates}
 use Rattle.lists.proofs.Places.{at-in, in-at, at-map, of-at-map}
 use Rattle.lists.proofs.Once.{distinct-of}
 use Rattle.papers.specs.Weight.{semiring}
-use Rattle.papers.specs.Composition.{Triple, Move as Edges, Kept as KeptMove}
+use Rattle.papers.specs.Composition.{Triple, Edges, KeptMove}
 use Rattle.words.specs.Labels.{noLabel, Checked, good, refused}
 use Rattle.words.specs.Matches.{MatchType, inputs, outputs}
 use Rattle.words.specs.Machines.{wellFormed}

@@ -14,7 +14,7 @@ use Rattle.lists.proofs.Finite.{left, right}
 use Rattle.papers.specs.Machine.{ε}
 use Rattle.papers.specs.Weight.{Semiring, CommutativeSemiring}
 use Rattle.papers.specs.Filter.{MoveKind, lone1, lone2, bothEpsilon, aLabel, factsOf}
-use Rattle.papers.specs.Composition.{rest, along, Composed, Triple, Move, reached}
+use Rattle.papers.specs.Composition.{rest, along, Composed, Triple, Edges, reached}
 use Rattle.papers.specs.Paths.{path1, path2, Matching, Accepting, AcceptingMoves}
 use Rattle.papers.specs.Laws.{begins, then1, then2, Lawful}
 use Rattle.papers.proofs.Forms.{form1, form2, formε, formx}
@@ -36,7 +36,7 @@ module _ (C : Composed) (R : ℕ → ℕ → Type 0) (meet : MeetBy R C) (live :
   abbrev i : ℕ → ℕ
   i = C .second .input
 
-  abbrev Made : Triple → List ℕ → List ℕ → List Move → Type 0
+  abbrev Made : Triple → List ℕ → List ℕ → List Edges → Type 0
   Made s p1 p2 ms = AcceptingMoves K value C s ms × (path1 ms ≡ p1) × (path2 ms ≡ p2)
 
   abbrev Makes : ℕ → Type 0

@@ -17,7 +17,7 @@ use Rattle.calls.specs.Sequences.{World, Call, opening, expand, finalWeight, re
 use Rattle.calls.proofs.ExpandCases.{expand-late}
 use Rattle.calls.proofs.OpenCases.{open-refusals}
 use Rattle.readings.specs.Worlds.{worldOf, expandIn, finalIn, runIn, OpeningsRefused}
-use Rattle.readings.proofs.Grows.{Kept}
+use Rattle.readings.proofs.Grows.{KeptWorld}
 use Rattle.readings.proofs.CallsKept.{expand-numbers, final-numbers, run-onto}
 use Rattle.readings.proofs.CallLists.{one-call}
 
@@ -38,7 +38,7 @@ turn-eight {A} say quiet o h t = go (o .answer) refl
     go (refused k) e z = h (e ∙ ap refused (ap numberOf z))
 
 module _ (l : Lent) (c : Composition) where
-  expand-eight : (w : World) → Kept l c w → (n : ℕ) → expandIn l w n .answer ≢ refused 8
+  expand-eight : (w : World) → KeptWorld l c w → (n : ℕ) → expandIn l w n .answer ≢ refused 8
   expand-eight w h n e = go (decLt n (w .session .used .states))
     where
       go : Dec (n < w .session .used .states) → ⊥
@@ -47,7 +47,7 @@ module _ (l : Lent) (c : Composition) where
           let z : _≡_ {A = ℕ} 9 8 = refused-is (sym (ap (λ (o : Outcome Part). o .answer) (expand-late l (w .session) (w .memory) c (h .sound .enters) n (omega arith))) ∙ e) in
           omega (arith, z)
 
-  final-eight : (w : World) → Kept l c w → (n : ℕ) → finalIn l w n .answer ≢ refused 8
+  final-eight : (w : World) → KeptWorld l c w → (n : ℕ) → finalIn l w n .answer ≢ refused 8
   unfolding finalWeightOf enteredAt
   final-eight w h n e = go (decLt n (w .session .used .states))
     where
@@ -55,14 +55,14 @@ module _ (l : Lent) (c : Composition) where
       go (yes i) = let r = final-numbers l c w h n i 8 e in omega (arith, r)
       go (no i) = let z : _≡_ {A = ℕ} 9 8 = refused-is (rw (h .sound .enters, le-leb (w .session .used .states) n (omega arith)) at e) in omega (arith, z)
 
-  run-eight : (w : World) → Kept l c w → runIn l w .answer ≢ refused 8
+  run-eight : (w : World) → KeptWorld l c w → runIn l w .answer ≢ refused 8
   run-eight w h e =
       let r = run-onto l c w h in
       let q = r .is .stops 8 e in
       let z = expand-numbers l c (worldOf (runIn l w)) (r .onto .kept) (r .is .stop) (q .0) 8 (q .1) in
       omega (arith, z .0)
 
-  call-eight : (w : World) → Kept l c w → (x : Call) (t : Session) → callOf l w x .reply ≢ answered (refusal 8) t
+  call-eight : (w : World) → KeptWorld l c w → (x : Call) (t : Session) → callOf l w x .reply ≢ answered (refusal 8) t
   unfolding callOf
   call-eight w h (opening s k) =
       turn-eight (λ u. accepted) (λ a t. refl) (openOf s k (w .session) (w .memory)) (λ e. ⊎-elim (λ z. omega (arith, z)) (λ z. omega (arith, z)) (open-refusals s k (w .session) (w .memory) 8 e))
@@ -71,7 +71,7 @@ module _ (l : Lent) (c : Composition) where
   call-eight w h (records n) = λ t z. let a : _≡_ {A = ℕ} 0 8 = ap numberOf z in omega (arith, a)
   call-eight w h run = turn-eight (λ u. accepted) (λ a t. refl) (runIn l w) (run-eight w h)
 
-  pub never-eight : (w : World) (cs : List Call) → Kept l c w → OpeningsRefused l w cs → (r : Reply) → In r (replies l w cs) → (t : Session) → r ≢ answered (refusal 8) t
+  pub never-eight : (w : World) (cs : List Call) → KeptWorld l c w → OpeningsRefused l w cs → (r : Reply) → In r (replies l w cs) → (t : Session) → r ≢ answered (refusal 8) t
   unfolding replies
   never-eight w [] h o r i t z = List·Memᴰ·not-nil i
   never-eight w (x ∷ cs) h o r i t z =

@@ -20,14 +20,14 @@ use Rattle.calls.proofs.OpenKept.{open-kept}
 use Rattle.calls.proofs.OpenCases.{openedAs, Begins, by-open, open-empty, open-begun, side-refusals, begun-triple, begun-field, begun-whole}
 use Rattle.readings.specs.Worlds.{worldOf, Expanded, Found, at-start, as-target}
 use Rattle.readings.specs.Answers.{HasStart, Opens}
-use Rattle.readings.proofs.Grows.{Kept}
+use Rattle.readings.proofs.Grows.{KeptWorld}
 
 module _ (s : Settings) (l : Lent) (side : Side) (rule : sideFor s l ≡ good side) (m : Memory) where
   abbrev c : Composition
   c = compositionOf s l side
 
   -- without a start no state is found
-  empty-kept : startAt c ≡ none → entered l (openedAs s side (cleared m) .session) (openedAs s side (cleared m) .memory) ≡ good c → Kept l c (worldOf (openedAs s side (cleared m)))
+  empty-kept : startAt c ≡ none → entered l (openedAs s side (cleared m) .session) (openedAs s side (cleared m) .memory) ≡ good c → KeptWorld l c (worldOf (openedAs s side (cleared m)))
   unfolding cleared
   empty-kept h e = record {
     whole = λ n i. absurd (omega arith);
@@ -59,7 +59,7 @@ module _ (s : Settings) (l : Lent) (side : Side) (rule : sideFor s l ≡ good si
         let b = subst (λ k. expandedAt (w .memory .states) k ≡ 1) z (x .1) in
         omega (arith, a, b)
 
-    start-kept : entered l (w .session) (w .memory) ≡ good c → Kept l c w
+    start-kept : entered l (w .session) (w .memory) ≡ good c → KeptWorld l c w
     unfolding cleared add
     start-kept e =
         let whole = begun-whole s l side t rule h m begins in
@@ -83,18 +83,18 @@ module _ (s : Settings) (l : Lent) (side : Side) (rule : sideFor s l ≡ good si
 
 -- the side is the one that the rule gives
 pub open-keeps : (s : Settings) (l : Lent) (got : Session) (m : Memory) → openOf s l got m .answer ≡ good tt → (side : Side) → sideFor s l ≡ good side
-    → Kept l (compositionOf s l side) (worldOf (openOf s l got m))
+    → KeptWorld l (compositionOf s l side) (worldOf (openOf s l got m))
 open-keeps s l got m e side rule =
     let o = open-kept s l got m tt e in
     let q : entered l (openOf s l got m .session) (openOf s l got m .memory) ≡ good (compositionOf s l side) = o .kept ∙ ap (λ x. good (compositionOf s l x)) (good-is (sym (o .rule) ∙ rule)) in
     let r =
-    by-open s l got m (λ (o : Outcome (Unit {0})). o .answer ≡ good tt → (x : Side) × (sideFor s l ≡ good x) × (entered l (o .session) (o .memory) ≡ good (compositionOf s l x) → Kept l (compositionOf s l x) (worldOf o)))
+    by-open s l got m (λ (o : Outcome (Unit {0})). o .answer ≡ good tt → (x : Side) × (sideFor s l ≡ good x) × (entered l (o .session) (o .memory) ≡ good (compositionOf s l x) → KeptWorld l (compositionOf s l x) (worldOf o)))
     (λ k r z. absurd (good≢refused (sym z)))
     (λ x r h z. (x, r, empty-kept s l x r m h))
     (λ x t r h z. absurd (good≢refused (sym z)))
     (λ x t r h b z. (x, r, start-kept s l x r m t h b))
     e in
-    subst (λ x. entered l (openOf s l got m .session) (openOf s l got m .memory) ≡ good (compositionOf s l x) → Kept l (compositionOf s l x) (worldOf (openOf s l got m))) (good-is (sym (r .1) ∙ rule)) (r .2) q
+    subst (λ x. entered l (openOf s l got m .session) (openOf s l got m .memory) ≡ good (compositionOf s l x) → KeptWorld l (compositionOf s l x) (worldOf (openOf s l got m))) (good-is (sym (r .1) ∙ rule)) (r .2) q
 
 -- no state is expanded by an opening
 pub open-unexpanded : (s : Settings) (l : Lent) (got : Session) (m : Memory) → openOf s l got m .answer ≡ good tt → (n : ℕ) → Expanded (worldOf (openOf s l got m)) n → ⊥

@@ -7,7 +7,7 @@ use Rattle.lists.specs.Lists.{At, interval}
 use Rattle.lists.proofs.Members.{in-interval, of-interval}
 use Rattle.lists.proofs.Once.{one-place}
 use Rattle.lists.proofs.Places.{at-in, in-at, at-length, at-place}
-use Rattle.papers.specs.Composition.{Triple, Move as Edges, Kept as KeptMove}
+use Rattle.papers.specs.Composition.{Triple, Edges, KeptMove}
 use Rattle.words.specs.Matches.{MatchType}
 use Rattle.words.specs.Steps.{Composition, Kept, Step, keptAt}
 use Rattle.words.specs.AsPapers.{exact, edgesOf, composedOf, matchesOf, inputBy, outputBy}

@@ -7,7 +7,7 @@ use Prim.Native.Nat.{ℕ, _<_}
 use borrow.Author.Tests.{lt-leb}
 use Rattle.papers.specs.Machine.{Machine}
 use Rattle.papers.specs.Weight.{Kind, semiring}
-use Rattle.papers.specs.Composition.{finalWeightOf as productAt}
+use Rattle.papers.specs.Composition.{finalProduct as productAt}
 use Rattle.papers.specs.Paths.{Ends, EndsBoth}
 use Rattle.papers.proofs.SemiringLaws.{semiring-laws}
 use Rattle.papers.proofs.PathLaws.{ends-both}

@@ -19,7 +19,7 @@ use Rattle.calls.specs.Sequences.{World, opening, run, callOf, after}
 use Rattle.calls.specs.Listing.{settingsOf}
 use Rattle.calls.proofs.Cases.{Holds}
 use Rattle.calls.proofs.StarCases.{plain, lend, session, world}
-use Rattle.readings.specs.Places.{placeOf}
+use Rattle.readings.specs.Places.{placeAmong}
 use Rattle.readings.specs.Merge.{mergeUpTo}
 use Rattle.readings.specs.Listed.{goods, listedAt, pickOf}
 use Rattle.readings.specs.Worlds.{inputOf, outputOf}
@@ -77,7 +77,7 @@ pub costs-by-sequence : Shown (settingsOf (plain 0 0)) (lend words1 words2) (onl
     ((1 ∷ 2 ∷ []) ∷ (1 ∷ 2 ∷ []) ∷ (3 ∷ []) ∷ (3 ∷ []) ∷ [])
     ((7 ∷ 8 ∷ []) ∷ (9 ∷ []) ∷ (7 ∷ 8 ∷ []) ∷ (9 ∷ []) ∷ [])
     (finite 13 ∷ finite 14 ∷ finite 20 ∷ finite 21 ∷ [])
-unfolding Holds movesOfRecords recordsOfMoves placeOf mergeUpTo listedAt goods word finishedTest walks shallow
+unfolding Holds movesOfRecords recordsOfMoves placeAmong mergeUpTo listedAt goods word finishedTest walks shallow
 costs-by-sequence = record {
   rule = refl;
   opens = refl;
@@ -111,7 +111,7 @@ pub counts-by-alternate : Shown (settingsOf (plain 1 1)) (lend words1 words2) (o
     ((1 ∷ 2 ∷ []) ∷ (1 ∷ 2 ∷ []) ∷ (3 ∷ []) ∷ (3 ∷ []) ∷ [])
     ((9 ∷ []) ∷ (7 ∷ 8 ∷ []) ∷ (7 ∷ 8 ∷ []) ∷ (9 ∷ []) ∷ [])
     (72 ∷ 48 ∷ 240 ∷ 360 ∷ [])
-unfolding Holds movesOfRecords recordsOfMoves placeOf mergeUpTo listedAt goods word finishedTest walks shallow
+unfolding Holds movesOfRecords recordsOfMoves placeAmong mergeUpTo listedAt goods word finishedTest walks shallow
 counts-by-alternate = record {
   rule = refl;
   opens = refl;
@@ -152,7 +152,7 @@ pub costs-by-match : Shown (settingsOf (plain 0 2)) (lend words1max words2marked
     ((3 ∷ []) ∷ (1 ∷ 2 ∷ []) ∷ (1 ∷ 2 ∷ []) ∷ (3 ∷ []) ∷ [])
     ((7 ∷ 8 ∷ []) ∷ (9 ∷ []) ∷ (7 ∷ 8 ∷ []) ∷ (9 ∷ []) ∷ [])
     (infinite ∷ finite 14 ∷ finite 13 ∷ infinite ∷ [])
-unfolding Holds movesOfRecords recordsOfMoves placeOf mergeUpTo listedAt goods word finishedTest walks shallow
+unfolding Holds movesOfRecords recordsOfMoves placeAmong mergeUpTo listedAt goods word finishedTest walks shallow
 costs-by-match = record {
   rule = refl;
   opens = refl;

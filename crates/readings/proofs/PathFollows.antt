@@ -5,7 +5,7 @@ use mathlib.Core.List.{List, [], _∷_, map, List·Memᴰ as In}
 use mathlib.Core.Logic.{_≢_}
 use Prim.Native.Nat.{ℕ, _-_, _<_}
 use Rattle.papers.specs.Weight.{semiring}
-use Rattle.papers.specs.Composition.{Triple, Move as Edges, inputOf, outputOf}
+use Rattle.papers.specs.Composition.{Triple, Edges, composedInput, composedOutput}
 use Rattle.papers.specs.Paths.{AcceptingMoves, movesWeight}
 use Rattle.words.specs.Labels.{noLabel}
 use Rattle.words.specs.Weights.{zeroOf}
@@ -87,8 +87,8 @@ module _ (l : Lent) (c : Composition) (w : World) (W : Whole l c w) where
       (labels1 : (q t : ℕ) → In t (c .operand1 .machine .list q) → c .operand1 .machine .input t ≢ noLabel)
       (labels2 : (q t : ℕ) → In t (c .operand2 .machine .list q) → c .operand2 .machine .output t ≢ noLabel) where
     labels : (rs : List ℕ) (ms : List Edges) (n : ℕ) → Follows l c w n rs ms
-        → (map (λ r. trField (w .memory .trs) (r - 1) 0) rs ≡ map (inputOf (composedOf c)) ms)
-        × (map (λ r. trField (w .memory .trs) (r - 1) 1) rs ≡ map (outputOf (composedOf c)) ms)
+        → (map (λ r. trField (w .memory .trs) (r - 1) 0) rs ≡ map (composedInput (composedOf c)) ms)
+        × (map (λ r. trField (w .memory .trs) (r - 1) 1) rs ≡ map (composedOutput (composedOf c)) ms)
     labels [] [] n h = (refl, refl)
     labels [] (m ∷ ms) n h = absurd h
     labels (r ∷ rs) [] n h = absurd h
@@ -100,8 +100,8 @@ module _ (l : Lent) (c : Composition) (w : World) (W : Whole l c w) where
 
     -- accepting records have the labels of their moves
     pub records-labels : (rs : List ℕ) (n : ℕ) → n < w .session .used .states → AcceptingFrom l w n rs
-        → (map (λ r. trField (w .memory .trs) (r - 1) 0) rs ≡ map (inputOf (composedOf c)) (movesOfRecords c w n rs))
-        × (map (λ r. trField (w .memory .trs) (r - 1) 1) rs ≡ map (outputOf (composedOf c)) (movesOfRecords c w n rs))
+        → (map (λ r. trField (w .memory .trs) (r - 1) 0) rs ≡ map (composedInput (composedOf c)) (movesOfRecords c w n rs))
+        × (map (λ r. trField (w .memory .trs) (r - 1) 1) rs ≡ map (composedOutput (composedOf c)) (movesOfRecords c w n rs))
     records-labels rs n u h = labels rs (movesOfRecords c w n rs) n (of-records rs n u h)
 
   module _ (n : ℕ) (u : n < w .session .used .states) where

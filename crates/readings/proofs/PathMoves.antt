@@ -8,7 +8,7 @@ use lib.ListN.{length, length-map}
 use borrow.Author.Tests.{ne-eqb}
 use Rattle.lists.specs.Lists.{At}
 use Rattle.lists.proofs.Places.{at-map, of-at-map, in-at}
-use Rattle.papers.specs.Composition.{Leaves, outer, Triple, Move as Edges, inputOf, outputOf}
+use Rattle.papers.specs.Composition.{Leaves, outer, Triple, Edges, composedInput, composedOutput}
 use Rattle.papers.specs.Machine.{Machine}
 use Rattle.words.specs.Labels.{noLabel, Checked, good, refused, andThen}
 use Rattle.words.specs.Matches.{MatchType, Match, loop, own, viaSigma}
@@ -38,16 +38,16 @@ unwritten σ M q x label (viaSigma t) e n i = go (σ .rewriteBoth)
 pub unwritten-both : (c : Composition) → c .operand1 .sigma .label ≡ noLabel → c .operand2 .sigma .label ≡ noLabel
     → ((q t : ℕ) → In t (c .operand1 .machine .list q) → c .operand1 .machine .input t ≢ noLabel) → ((q t : ℕ) → In t (c .operand2 .machine .list q) → c .operand2 .machine .output t ≢ noLabel)
     → (s : Triple) (d : MatchType) (m : Edges) → Leaves (c .operand1 .machine) (s .s1) (m .first) → Leaves (c .operand2 .machine) (s .s2) (m .second)
-    → (inputBy c (matchesOf d (c .operand1) (c .operand2) m) ≡ inputOf (composedOf c) m) × (outputBy c (matchesOf d (c .operand1) (c .operand2) m) ≡ outputOf (composedOf c) m)
+    → (inputBy c (matchesOf d (c .operand1) (c .operand2) m) ≡ composedInput (composedOf c) m) × (outputBy c (matchesOf d (c .operand1) (c .operand2) m) ≡ composedOutput (composedOf c) m)
 unwritten-both c none1 none2 labels1 labels2 s d m l1 l2 =
     let v = matchesOf d (c .operand1) (c .operand2) m in
     let e : edgesOf v ≡ m = edges-matches d (c .operand1) (c .operand2) m in (
       unwritten (c .operand1 .sigma) (c .operand1 .machine) (s .s1) _ (c .operand1 .machine .input) (v .first) none1 (labels1 (s .s1))
           (subst (λ (z : Edges). Leaves (c .operand1 .machine) (s .s1) (z .first)) (sym e) l1)
-          ∙ ap (inputOf (composedOf c)) e,
+          ∙ ap (composedInput (composedOf c)) e,
       unwritten (c .operand2 .sigma) (c .operand2 .machine) (s .s2) _ (c .operand2 .machine .output) (v .second) none2 (labels2 (s .s2))
           (subst (λ (z : Edges). Leaves (c .operand2 .machine) (s .s2) (z .second)) (sym e) l2)
-          ∙ ap (outputOf (composedOf c)) e,
+          ∙ ap (composedOutput (composedOf c)) e,
     )
 
 -- where each kept move has a step

@@ -7,7 +7,7 @@ use native.Mathlib.Omega.{arith}
 use Rattle.lists.specs.Lists.{At}
 use Rattle.lists.proofs.Members.{in-interval, of-interval}
 use Rattle.lists.proofs.Places.{at-in, in-at, at-length, at-place}
-use Rattle.papers.specs.Composition.{Move as Edges, Kept as KeptMove}
+use Rattle.papers.specs.Composition.{Edges, KeptMove}
 use Rattle.words.specs.Labels.{good}
 use Rattle.words.specs.Matches.{MatchType}
 use Rattle.words.specs.Steps.{Composition}

@@ -4,7 +4,7 @@ use Prim.Native.Nat.{ℕ}
 use Rattle.lists.specs.Lists.{keepIf}
 use Rattle.papers.specs.Weight.{Semiring}
 use Rattle.papers.specs.Filter.{MoveKind}
-use Rattle.papers.specs.Composition.{Edge, Composed, Triple, Move, Enabled, reached}
+use Rattle.papers.specs.Composition.{Edge, Composed, Triple, Edges, Enabled, reached}
 use Rattle.papers.specs.Paths.{word, taken, path1, path2, Agree, Matching, AcceptingMoves}
 use Rattle.papers.proofs.Forms.{by-form}
 use Rattle.readings.specs.Readings.{MeetBy}
@@ -21,7 +21,7 @@ module _ (R : ℕ → ℕ → Type 0) (C : Composed) (meet : MeetBy R C) (q1 q2 
   abbrev Extended : MoveKind → Edge → Edge → Type 0
   Extended k e1 e2 = Agree R (word (map o (taken e1 ++ p1))) (word (map i (taken e2 ++ p2)))
 
-  matching-step : (k : MoveKind) (m : Move) → Enabled C q1 q2 k m → Extended k (m .first) (m .second)
+  matching-step : (k : MoveKind) (m : Edges) → Enabled C q1 q2 k m → Extended k (m .first) (m .second)
   matching-step k m en =
       by-form (C .first) (C .second) o i (C .meets) q1 q2 Extended
       (λ t l e. rw (word-ε (o t) (map o p1) e) h)
@@ -31,7 +31,7 @@ module _ (R : ℕ → ℕ → Type 0) (C : Composed) (meet : MeetBy R C) (q1 q2 
       k (m .first) (m .second) en
 
 module _ (K : Semiring) (value : ℕ → K .Element) where
-  pub matching : (R : ℕ → ℕ → Type 0) (C : Composed) → MeetBy R C → (s : Triple) (ms : List Move) → AcceptingMoves K value C s ms
+  pub matching : (R : ℕ → ℕ → Type 0) (C : Composed) → MeetBy R C → (s : Triple) (ms : List Edges) → AcceptingMoves K value C s ms
       → Matching R (C .first) (C .second) (path1 ms) (path2 ms)
   unfolding flatMap word keepIf
   matching R C meet s [] h = tt

@@ -15,7 +15,7 @@ use Rattle.lists.proofs.Members.{and-left, and-right, every-in}
 use Rattle.papers.specs.Machine.{ε, Machine}
 use Rattle.papers.specs.Weight.{Semiring, CommutativeSemiring}
 use Rattle.papers.specs.Filter.{MoveKind, lone1, lone2, bothEpsilon, aLabel, noEpsilon, onlyEpsilons, factsOf}
-use Rattle.papers.specs.Composition.{Edge, Composed, Triple, Move, Enabled, reached}
+use Rattle.papers.specs.Composition.{Edge, Composed, Triple, Edges, Enabled, reached}
 use Rattle.papers.specs.Paths.{taken, path1, path2, Accepting, AcceptingMoves}
 use Rattle.papers.specs.Laws.{fits, begins, then1, then2, Lawful}
 use Rattle.papers.proofs.Forms.{by-form}
@@ -44,7 +44,7 @@ path-fits K value labelOf M q (t ∷ p) h =
     (implies-of _ _ (λ e. every-in (λ t. eqb (labelOf t) ε) (and-left _ (not (M .isFinal q)) e) (h .0)))
 
 -- nothing is made of two paths at their ends
-pub front-nil : (k : MoveKind) (go : List ℕ → List ℕ → List Move) → front k [] [] go ≡ []
+pub front-nil : (k : MoveKind) (go : List ℕ → List ℕ → List Edges) → front k [] [] go ≡ []
 front-nil lone1 go = refl
 front-nil lone2 go = refl
 front-nil bothEpsilon go = refl
@@ -67,9 +67,9 @@ module _ (C : Composed) (live : ℕ → Bool → Bool → Bool) (pick : Bool →
       (begins k (b1 (taken e1 ++ p1)) (b2 (taken e2 ++ p2)) ≡ true)
       × ((g : ℕ) → live g (then1 k (b1 (taken e1 ++ p1)) (b1 p1)) (then2 k (b2 (taken e2 ++ p2)) (b2 p2)) ≡ live g (b1 p1) (b2 p2))
       × (suc (length p1 + length p2) ≤ length (taken e1 ++ p1) + length (taken e2 ++ p2))
-      × ((go : List ℕ → List ℕ → List Move) → front k (taken e1 ++ p1) (taken e2 ++ p2) go ≡ move e1 e2 ∷ go p1 p2)
+      × ((go : List ℕ → List ℕ → List Edges) → front k (taken e1 ++ p1) (taken e2 ++ p2) go ≡ move e1 e2 ∷ go p1 p2)
 
-  pub opens : (q1 q2 : ℕ) (p1 p2 : List ℕ) (k : MoveKind) (m : Move) → Enabled C q1 q2 k m → Opens p1 p2 k (m .first) (m .second)
+  pub opens : (q1 q2 : ℕ) (p1 p2 : List ℕ) (k : MoveKind) (m : Edges) → Enabled C q1 q2 k m → Opens p1 p2 k (m .first) (m .second)
   opens q1 q2 p1 p2 k m en =
       by-form (C .first) (C .second) (C .first .output) (C .second .input) (C .meets) q1 q2 (Opens p1 p2)
       (λ t l e. (eq-eqb _ ε e, λ g. refl, omega arith, λ go. refl))
@@ -80,7 +80,7 @@ module _ (C : Composed) (live : ℕ → Bool → Bool → Bool) (pick : Bool →
 
   module _ (K : Semiring) (value : ℕ → K .Element) (laws : CommutativeSemiring K) (L : Lawful (C .filter) live pick) where
     -- the first move is the picked one
-    pub picked : (s : Triple) (m : Move) (ms : List Move) (h : AcceptingMoves K value C s (m ∷ ms)) → Live (h .0) (path1 ms) (path2 ms)
+    pub picked : (s : Triple) (m : Edges) (ms : List Edges) (h : AcceptingMoves K value C s (m ∷ ms)) → Live (h .0) (path1 ms) (path2 ms)
         → Live (s .f) (path1 (m ∷ ms)) (path2 (m ∷ ms)) × (pick (b1 (path1 (m ∷ ms))) (b2 (path2 (m ∷ ms))) ≡ h .1 .0)
     unfolding flatMap
     picked s m ms h l =
@@ -91,12 +91,12 @@ module _ (C : Composed) (live : ℕ → Bool → Bool → Bool) (pick : Bool →
         (path-fits K value (C .second .input) (C .second) (s .s2) (path2 (m ∷ ms)) (accepting2 K laws value C s (m ∷ ms) h))
         (o .0) (h .1 .2) (o .1 (h .0) ∙ l)
 
-    pub lives : (s : Triple) (ms : List Move) → AcceptingMoves K value C s ms → Live (s .f) (path1 ms) (path2 ms)
+    pub lives : (s : Triple) (ms : List Edges) → AcceptingMoves K value C s ms → Live (s .f) (path1 ms) (path2 ms)
     unfolding flatMap
     lives s [] h = L .end (s .f)
     lives s (m ∷ ms) h = picked s m ms h (lives (reached C s m (h .0)) ms (h .2)) .0
 
-    pub rebuilt : (n : ℕ) (s : Triple) (ms : List Move) → length (path1 ms) + length (path2 ms) ≤ n → AcceptingMoves K value C s ms
+    pub rebuilt : (n : ℕ) (s : Triple) (ms : List Edges) → length (path1 ms) + length (path2 ms) ≤ n → AcceptingMoves K value C s ms
         → mergeUpTo pick (C .first) (C .second) n (path1 ms) (path2 ms) ≡ ms
     unfolding flatMap mergeUpTo
     rebuilt zero s [] b h = refl
@@ -106,9 +106,9 @@ module _ (C : Composed) (live : ℕ → Bool → Bool → Bool) (pick : Bool →
         absurd (omega (arith, o, b))
     rebuilt (suc n) s (m ∷ ms) b h =
         let o = opens (s .s1) (s .s2) (path1 ms) (path2 ms) (h .1 .0) m (h .1 .1) in
-        let go : List ℕ → List ℕ → List Move = λ r1 r2. mergeUpTo pick (C .first) (C .second) n r1 r2 in
+        let go : List ℕ → List ℕ → List Edges = λ r1 r2. mergeUpTo pick (C .first) (C .second) n r1 r2 in
         let e = picked s m ms h (lives (reached C s m (h .0)) ms (h .2)) .1 in
         let c = o .2 in
         ap (λ k. front k (path1 (m ∷ ms)) (path2 (m ∷ ms)) go) e
         ∙ o .3 go
-        ∙ ap (λ (r : List Move). m ∷ r) (rebuilt n (reached C s m (h .0)) ms (omega (arith, c, b)) (h .2))
+        ∙ ap (λ (r : List Edges). m ∷ r) (rebuilt n (reached C s m (h .0)) ms (omega (arith, c, b)) (h .2))

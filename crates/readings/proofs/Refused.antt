@@ -6,13 +6,13 @@ use Prim.Native.Nat.{ℕ, _<_, _≤_}
 use native.Mathlib.Omega.{arith}
 use lib.ListN.{length, length-map}
 use Rattle.lists.proofs.Places.{at-in, in-at}
-use Rattle.papers.specs.Composition.{Triple, Move as Edges, Kept as KeptMove}
+use Rattle.papers.specs.Composition.{Triple, Edges, KeptMove}
 use Rattle.words.specs.Labels.{Checked, good, refused, andThen}
 use Rattle.words.specs.Matches.{MatchType}
 use Rattle.words.specs.Sides.{Side}
 use Rattle.words.specs.Steps.{Composition, Kept, Step, keptAt, stepOf, stepsAt}
 use Rattle.words.specs.Settings.{Settings, Lent, compositionOf}
-use Rattle.words.specs.AsPapers.{TooLarge, edgesOf, composedOf, directionOf, WalkedSigma, weightOf}
+use Rattle.words.specs.AsPapers.{TooLarge, edgesOf, composedOf, directionOf, WalkedSigma, weightBy}
 use Rattle.words.proofs.CheckedLaws.{refused-is, good≢refused}
 use Rattle.words.proofs.PapersOpened.{kept-as-papers, kept-refused, direction-refused, at-direction, sound-of}
 use Rattle.words.proofs.PapersSteps.{opened-as-papers}
@@ -91,7 +91,7 @@ module _ (c : Composition) (w : World) (n : ℕ) where
   says-eleven (too-large e m g r h) = absurd (omega (arith, e))
   says-eleven (no-room e h) = absurd (omega (arith, e))
 
-  pub says-twelve : RefusedFor c w n 12 → (m : Edges) × (g : ℕ) × KeptMove (composedOf c) (stateAt w n) m g × TooLarge (c .kind) (weightOf c m)
+  pub says-twelve : RefusedFor c w n 12 → (m : Edges) × (g : ℕ) × KeptMove (composedOf c) (stateAt w n) m g × TooLarge (c .kind) (weightBy c m)
   says-twelve (undirected e h) = absurd (omega (arith, e))
   says-twelve (walked-sigma e d r h) = absurd (omega (arith, e))
   says-twelve (too-large e m g r h) = (m, g, r, h)

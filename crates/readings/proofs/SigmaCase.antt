@@ -9,7 +9,7 @@ use native.Mathlib.Omega.{arith}
 use lib.ListN.{length, replicate}
 use Rattle.papers.specs.Weight.{finite, tropical, cost}
 use Rattle.papers.specs.Filter.{epsilonSequencing}
-use Rattle.papers.specs.Composition.{along, Move as Edges, Start, Kept as KeptMove}
+use Rattle.papers.specs.Composition.{along, Edges, Start, KeptMove}
 use Rattle.papers.specs.Paths.{EndsBoth, AcceptingMoves, AcceptingRun, movesWeight}
 use Rattle.words.specs.Labels.{MAX, good}
 use Rattle.words.specs.Matches.{MatchType, inputs}
@@ -28,7 +28,7 @@ use Rattle.calls.proofs.Cases.{Holds}
 use Rattle.calls.proofs.StarCases.{plain, lend, triple, session, world}
 use Rattle.readings.specs.Merge.{move}
 use Rattle.readings.specs.Listed.{goods, listedAt}
-use Rattle.readings.specs.Places.{placeOf}
+use Rattle.readings.specs.Places.{placeAmong}
 use Rattle.readings.specs.Readings.{at, filteredBy}
 use Rattle.readings.specs.Worlds.{worldOf, OpeningsRefused, stateAt, targetOf}
 use Rattle.readings.specs.StorePaths.{AcceptingRecords, movesIn, movesOfRecords, recordsOfMoves}
@@ -167,7 +167,7 @@ unfolding Holds movesOfRecords listedAt goods
 its-path = second-claim .paths all-read .paths .goes (1 ∷ []) accepting
 
 pub back-again : AcceptingRecords lent left (1 ∷ [])
-unfolding Holds recordsOfMoves placeOf listedAt goods
+unfolding Holds recordsOfMoves placeAmong listedAt goods
 back-again = second-claim .paths all-read .paths .comes (bySigma ∷ []) its-path
 
 pub weighs : finite 6 ≡ movesWeight tropical (exact cost) (composedOf c) 0 0 (bySigma ∷ [])

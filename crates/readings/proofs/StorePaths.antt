@@ -10,7 +10,7 @@ use Prim.Native.Nat.{ℕ, _<_}
 use native.Mathlib.Omega.{arith}
 use Rattle.papers.specs.Weight.{semiring}
 use Rattle.papers.specs.Filter.{MoveKind}
-use Rattle.papers.specs.Composition.{Triple, Move as Edges, reached}
+use Rattle.papers.specs.Composition.{Triple, Edges, reached}
 use Rattle.papers.specs.Paths.{word, AcceptingMoves, AcceptingRun, movesWeight}
 use Rattle.papers.proofs.SemiringLaws.{semiring-laws}
 use Rattle.papers.proofs.PathLaws.{agree-equal, moves-weigh}

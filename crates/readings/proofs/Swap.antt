@@ -8,7 +8,7 @@ use Prim.Native.Nat.{ℕ}
 use Rattle.papers.specs.Weight.{Semiring, CommutativeSemiring}
 use Rattle.papers.specs.Filter.{MoveKind, Filter, factsOf}
 use Rattle.papers.specs.Laws.{then1, then2, Lawful}
-use Rattle.papers.specs.Composition.{Composed, Triple, Move, reached}
+use Rattle.papers.specs.Composition.{Composed, Triple, Edges, reached}
 use Rattle.papers.specs.Paths.{path1, path2, AcceptingMoves, AcceptingRun}
 use Rattle.papers.proofs.PathLaws.{accepting1, accepting2}
 use Rattle.readings.specs.Readings.{filteredBy, SamePaths}
@@ -17,7 +17,7 @@ use Rattle.readings.proofs.Rebuilt.{path-fits, b1, b2, Live, opens, pic
 module _ (K : Semiring) (laws : CommutativeSemiring K) (value : ℕ → K .Element) (C : Composed) (pick : Bool → Bool → MoveKind) where
   -- from the filter state f of the other filter, if it can take the two paths to their ends
   swapped : (F G : Filter) (liveF liveG : ℕ → Bool → Bool → Bool) → Lawful F liveF pick → Lawful G liveG pick
-      → (s : Triple) (f : ℕ) (ms : List Move) → AcceptingMoves K value (filteredBy F C) s ms → Live (filteredBy G C) liveG pick f (path1 ms) (path2 ms)
+      → (s : Triple) (f : ℕ) (ms : List Edges) → AcceptingMoves K value (filteredBy F C) s ms → Live (filteredBy G C) liveG pick f (path1 ms) (path2 ms)
       → AcceptingMoves K value (filteredBy G C) (record { s1 = s .s1; s2 = s .s2; f = f }) ms
   unfolding flatMap
   swapped F G liveF liveG LF LG s f [] h v = h
@@ -37,10 +37,10 @@ module _ (K : Semiring) (laws : CommutativeSemiring K) (value : ℕ → K .Eleme
 
   module _ (F G : Filter) (liveF liveG : ℕ → Bool → Bool → Bool) (LF : Lawful F liveF pick) (LG : Lawful G liveG pick) where
     -- in the first filter state every two paths can be taken to their ends
-    accepts : (s : Triple) → s .f ≡ 0 → (ms : List Move) → AcceptingMoves K value (filteredBy F C) s ms → AcceptingMoves K value (filteredBy G C) s ms
+    accepts : (s : Triple) → s .f ≡ 0 → (ms : List Edges) → AcceptingMoves K value (filteredBy F C) s ms → AcceptingMoves K value (filteredBy G C) s ms
     accepts s e ms h = swapped F G liveF liveG LF LG s (s .f) ms h (subst (λ (f : ℕ). Live (filteredBy G C) liveG pick f (path1 ms) (path2 ms)) (sym e) (LG .start _ _))
 
-    runs : (ms : List Move) → AcceptingRun K value (filteredBy F C) ms → AcceptingRun K value (filteredBy G C) ms
+    runs : (ms : List Edges) → AcceptingRun K value (filteredBy F C) ms → AcceptingRun K value (filteredBy G C) ms
     runs ms h = (h .0, h .1, accepts (h .0) (h .1 .2) ms (h .2))
 
   pub same-by-pick : (F G : Filter) (liveF liveG : ℕ → Bool → Bool → Bool) → Lawful F liveF pick → Lawful G liveG pick → SamePaths K value (filteredBy F C) (filteredBy G C)

@@ -9,7 +9,7 @@ use native.Mathlib.Omega.{arith}
 use lib.ListN.{length}
 use Rattle.papers.specs.Weight.{Semiring, CommutativeSemiring, Kind, semiring}
 use Rattle.papers.specs.Filter.{MoveKind}
-use Rattle.papers.specs.Composition.{Composed, Move}
+use Rattle.papers.specs.Composition.{Composed, Edges}
 use Rattle.papers.specs.Paths.{path1, path2, AcceptingMoves, AcceptingRun}
 use Rattle.papers.specs.Laws.{Lawful}
 use Rattle.papers.proofs.SemiringLaws.{semiring-laws}
@@ -23,7 +23,7 @@ use Rattle.readings.proofs.Made.{made}
 
 module _ (K : Semiring) (laws : CommutativeSemiring K) (value : ℕ → K .Element) (R : ℕ → ℕ → Type 0) (C : Composed) (meet : MeetBy R C)
     (live : ℕ → Bool → Bool → Bool) (pick : Bool → Bool → MoveKind) (L : Lawful (C .filter) live pick) where
-  abbrev joined : List ℕ × List ℕ → List Move
+  abbrev joined : List ℕ × List ℕ → List Edges
   joined p = merge pick (C .first) (C .second) (p .0) (p .1)
 
   from-states : (q1 q2 : ℕ) → OneToOne (AcceptingMoves K value C (at q1 q2)) (PairFrom K value R C q1 q2) pairOf joined
@@ -39,7 +39,7 @@ module _ (K : Semiring) (laws : CommutativeSemiring K) (value : ℕ → K .Eleme
           made C R meet live pick K value laws L (length (p .0) + length (p .1)) (p .0) (p .1) (at q1 q2) (omega arith) (h .0) (h .1) (h .2) (L .start _ _)
 
   -- a run begins in the first filter state
-  begun : (ms : List Move) (h : AcceptingRun K value C ms) → AcceptingMoves K value C (at (h .0 .s1) (h .0 .s2)) ms
+  begun : (ms : List Edges) (h : AcceptingRun K value C ms) → AcceptingMoves K value C (at (h .0 .s1) (h .0 .s2)) ms
   begun ms h = subst (λ f. AcceptingMoves K value C (record { s1 = h .0 .s1; s2 = h .0 .s2; f = f }) ms) (h .1 .2) (h .2)
 
   from-starts : OneToOne (AcceptingRun K value C) (Pair K value R C) pairOf joined
@@ -61,7 +61,7 @@ readings k value R C meet live pick L = readings-by-laws (semiring k) (semiring-
 -- A machine without a start: no pair, and no accepting path of the composition.
 module _ (K : Semiring) (value : ℕ → K .Element) (R : ℕ → ℕ → Type 0) (C : Composed) where
   abbrev Nothing : Type 0
-  Nothing = ((ms : List Move) → AcceptingRun K value C ms → ⊥) × ((p : List ℕ × List ℕ) → Pair K value R C p → ⊥)
+  Nothing = ((ms : List Edges) → AcceptingRun K value C ms → ⊥) × ((p : List ℕ × List ℕ) → Pair K value R C p → ⊥)
 
   pub no-start1 : C .first .start ≡ none → Nothing
   no-start1 e = (λ ms h. Option·none-ne-some _ (sym e ∙ h .1 .0), λ p h. Option·none-ne-some _ (sym e ∙ h .0 .1))

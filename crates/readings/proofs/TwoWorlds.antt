@@ -17,7 +17,7 @@ use Rattle.words.specs.Settings.{Settings, Lent}
 use Rattle.words.proofs.FormLaws.{form}
 use Rattle.calls.specs.Store.{Store, expandedAt, firstAt, mark, Part}
 use Rattle.calls.specs.Checks.{Session, storeOf, enteredAt}
-use Rattle.calls.specs.Calls.{Outcome, storeSteps, newPart, settle, unchanged, wordsOf, openOf, expandOf, finalWeightOf, recordsOf}
+use Rattle.calls.specs.Calls.{Outcome, storeSteps, newPart, settle, unchanged, wordsOfPart, openOf, expandOf, finalWeightOf, recordsOf}
 use Rattle.calls.specs.Sequences.{World}
 use Rattle.calls.proofs.StepsKept.{longer}
 use Rattle.calls.proofs.StepsStay.{Stays, steps-stay}
@@ -27,13 +27,13 @@ use Rattle.calls.proofs.ExpandCases.{stored, expand-late, expand-stopped, expan
 use Rattle.calls.proofs.OpenCases.{by-open}
 use Rattle.calls.proofs.TwoStores.{Alike, Roomier, Twin, alike-triple, Steps2, steps-alike, mark-alike}
 use Rattle.readings.specs.Worlds.{worldOf, Refused, Expanded, partIn, stateAt}
-use Rattle.readings.proofs.Grows.{Kept, Grows, room-grows, tr-room-grows}
+use Rattle.readings.proofs.Grows.{KeptWorld, Grows, room-grows, tr-room-grows}
 use Rattle.readings.proofs.CallsKept.{expand-onto, expand-again, final-under, final-stays, records-under}
 
 pub record Same (l : Lent) (c : Composition) (w v : World) : Type 0 where
   pub session : v .session ≡ w .session
-  pub kept1 : Kept l c w
-  pub kept2 : Kept l c v
+  pub kept1 : KeptWorld l c w
+  pub kept2 : KeptWorld l c v
   pub alike : Alike (storeOf (w .session) (w .memory)) (storeOf (v .session) (v .memory))
   pub room : Roomier (storeOf (w .session) (w .memory)) (storeOf (v .session) (v .memory))
 
@@ -114,8 +114,8 @@ module _ (l : Lent) (c : Composition) (w v : World) (h : Same l c w v) where
           parts,
           record {
             session = λ i. record { settings = h .session i .settings; side = h .session i .side; used = used′ i };
-            kept1 = subst (λ (o : Outcome Part). Kept l c (worldOf o)) p (a .kept);
-            kept2 = subst (λ (o : Outcome Part). Kept l c (worldOf o)) q (b .kept);
+            kept1 = subst (λ (o : Outcome Part). KeptWorld l c (worldOf o)) p (a .kept);
+            kept2 = subst (λ (o : Outcome Part). KeptWorld l c (worldOf o)) q (b .kept);
             alike = subst (λ (r : Part). Alike (mark d′ n (newPart (w .session .used) (d′ .used) .first)) (mark e′ n (r .first))) (sym parts)
                 (mark-alike narrow d′ e′ (t .form1) (t .form2) n (newPart (w .session .used) (d′ .used) .first) (omega (arith, found, more .states)) (new-low (w .session .used) (d′ .used) (more .trs)) (t .alike));
             room = roomier-grows w v W X (subst (λ (o : Outcome Part). Grows w (worldOf o)) p (a .grows)) (subst (λ (o : Outcome Part). Grows v (worldOf o)) q (b .grows)) (h .room);
@@ -185,8 +185,8 @@ module _ (l : Lent) (c : Composition) (w v : World) (h : Same l c w v) where
     where
       go : Dec (n < w .session .used .states) → recordsOf l (v .session) (v .memory) n ≡ recordsOf l (w .session) (w .memory) n
       go (yes i) =
-          let words : wordsOf (v .memory .trs) (partIn v n) ≡ wordsOf (w .memory .trs) (partIn w n)
-          = ap (wordsOf (v .memory .trs)) (same-part n i) ∙ words-alike d e (form1 .form) (omega (arith, h .alike .trs)) n i (omega (arith, form2 .form .trs-fit, h .alike .trs)) (h .alike .word) in
+          let words : wordsOfPart (v .memory .trs) (partIn v n) ≡ wordsOfPart (w .memory .trs) (partIn w n)
+          = ap (wordsOfPart (v .memory .trs)) (same-part n i) ∙ words-alike d e (form1 .form) (omega (arith, h .alike .trs)) n i (omega (arith, form2 .form .trs-fit, h .alike .trs)) (h .alike .word) in
           records-under l c v (h .kept2) n (omega (arith, h .alike .states, i))
           ∙ (ap₂ (λ (x : ℕ) (y : List ℕ). cond (eqb x 1) y []) (same-expanded n i) words ∙ sym (records-under l c w (h .kept1) n i))
       go (no i) =

@@ -11,14 +11,14 @@ use lib.ListN.{length}
 use Rattle.lists.specs.Lists.{At, Enumerates}
 use Rattle.papers.specs.Weight.{semiring}
 use Rattle.papers.specs.Filter.{MoveKind}
-use Rattle.papers.specs.Composition.{Triple, Move as Edges, Kept as KeptMove, reached}
+use Rattle.papers.specs.Composition.{Triple, Edges, KeptMove, reached}
 use Rattle.papers.specs.Paths.{word, AcceptingRun, movesWeight}
 use Rattle.papers.specs.Sums.{SumIs, PairOf, weightOfPair, ComposedWeighs}
 use Rattle.words.specs.Labels.{good, refused}
 use Rattle.words.specs.Matches.{MatchType}
 use Rattle.words.specs.Steps.{Composition}
 use Rattle.words.specs.Settings.{Lent}
-use Rattle.words.specs.AsPapers.{exact, TooLarge, composedOf, directionOf, WalkedSigma, matchesOf, inputBy, outputBy, weightOf as weightBy}
+use Rattle.words.specs.AsPapers.{exact, TooLarge, composedOf, directionOf, WalkedSigma, matchesOf, inputBy, outputBy, weightBy}
 use Rattle.calls.specs.Store.{Part, stateRoom, trRoom}
 use Rattle.calls.specs.Sequences.{World}
 use Rattle.readings.specs.Correspondence.{OneToOne}

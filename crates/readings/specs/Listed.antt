@@ -3,7 +3,7 @@ use mathlib.Core.Bool.{Bool}
 use mathlib.Core.List.{List, [], _∷_, map}
 use Prim.Native.Nat.{ℕ, zero, suc}
 use Rattle.papers.specs.Filter.{MoveKind}
-use Rattle.papers.specs.Composition.{Triple, Move as Edges}
+use Rattle.papers.specs.Composition.{Triple, Edges}
 use Rattle.words.specs.Labels.{Checked, good, refused}
 use Rattle.words.specs.Steps.{Composition, Kept, keptAt}
 use Rattle.words.specs.AsPapers.{edgesOf}

@@ -10,7 +10,7 @@ use lib.ListN.{getElem?}
 use Rattle.papers.specs.Weight.{Kind, semiring}
 use Rattle.papers.specs.Filter.{MoveKind}
 use Rattle.papers.specs.Machine.{Machine}
-use Rattle.papers.specs.Composition.{Triple, Move as Edges}
+use Rattle.papers.specs.Composition.{Triple, Edges}
 use Rattle.papers.specs.Paths.{word, AcceptingPath, pathWeight}
 use Rattle.words.specs.Labels.{noLabel, Checked, good, refused}
 use Rattle.words.specs.Weights.{zeroOf}
@@ -22,7 +22,7 @@ use Rattle.readings.specs.Correspondence.{OneToOne}
 use Rattle.readings.specs.Merge.{merge}
 use Rattle.readings.specs.Readings.{pairOf}
 use Rattle.readings.specs.Listed.{listedAt}
-use Rattle.readings.specs.Places.{thenMoves, placeOf}
+use Rattle.readings.specs.Places.{thenMoves, placeAmong}
 use Rattle.readings.specs.Worlds.{finalIn, UsedState, Expanded, stateAt, partIn, recordsIn, inputOf, outputOf, weightOf, targetOf}
 
 -- "with no sigma label set, once all found states are expanded and no found state's final weight would be refused"
@@ -77,7 +77,7 @@ thenRecord (some p) go = go (p .0)
 unfoldable pub recordsOfMoves : Composition → World → ℕ → List Edges → List ℕ
 recordsOfMoves c w n [] = []
 recordsOfMoves c w n (m ∷ ms) =
-    thenRecord (placeOf m (movesIn c w n)) (λ k. (partIn w n .first + k) ∷ recordsOfMoves c w (targetOf w (partIn w n .first + k)) ms)
+    thenRecord (placeAmong m (movesIn c w n)) (λ k. (partIn w n .first + k) ∷ recordsOfMoves c w (targetOf w (partIn w n .first + k)) ms)
 
 -- "a composed path's pair is the machine 1 records and the machine 2 records of its moves, in order"
 abbrev pub pairOfRecords : Composition → World → List ℕ → List ℕ × List ℕ

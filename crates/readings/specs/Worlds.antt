@@ -12,7 +12,7 @@ use Rattle.words.specs.Steps.{Composition, Step, stepsAt, startAt}
 use Rattle.words.specs.Settings.{Settings, Lent}
 use Rattle.calls.specs.Store.{Part, partAt, tripleAt, expandedAt, inputAt, outputAt, weightAt, targetAt}
 use Rattle.calls.specs.Checks.{storeOf, entered}
-use Rattle.calls.specs.Calls.{Outcome, wordsOf, openOf, expandOf, finalWeightOf, runOf, recordsOf}
+use Rattle.calls.specs.Calls.{Outcome, wordsOfPart, openOf, expandOf, finalWeightOf, runOf, recordsOf}
 use Rattle.calls.specs.Sequences.{World, Call, opening, expand, finalWeight, records, run, callOf}
 
 -- "Each call gets the session last returned, at first the opening's, and memory as last left"
@@ -75,7 +75,7 @@ abbrev pub recordsIn : World → ℕ → List ℕ
 recordsIn w n = interval (partIn w n .first) (partIn w n .count)
 
 abbrev pub wordsIn : World → ℕ → List ℕ
-wordsIn w n = wordsOf (w .memory .trs) (partIn w n)
+wordsIn w n = wordsOfPart (w .memory .trs) (partIn w n)
 
 -- of transition record r: "machine 1's input, machine 2's output .. the product of their weights and the state reached"; records count from 1
 abbrev pub inputOf : World → ℕ → ℕ

@@ -5,7 +5,7 @@ ghost use lib.ListN.{length};
 ghost use Rattle.replay.specs.Places.{newPlace, roomAt, placeEnded, placeByte, placeAfter};
 use crate::order::print_order;
 use fst::word;
-use lazy_fst::Listed;
+use lazy_fst::AllowedLists;
 use libc::STDOUT_FILENO;
 use listing::listing;
 use listing_read::LineReader;
@@ -81,7 +81,7 @@ fn answer(words: &[u32], ends: &[u32]) {
     let allowed2 = words_of(words, ends, 3);
     let m1 = words_of(words, ends, 4);
     let m2 = words_of(words, ends, 5);
-    let listed = Listed {
+    let listed = AllowedLists {
         first: has_words(ends, 2),
         second: has_words(ends, 3),
     };

@@ -5,8 +5,8 @@ ghost use Rattle.calls.specs.Store.{trSize};
 use compose_state_tuple::ComposeStateTuple;
 use fst::REFUSED_SETTINGS;
 use fst::StateId;
+use lazy_fst::AllowedLists;
 use lazy_fst::Answer;
-use lazy_fst::Listed;
 use lazy_fst::PartAnswer;
 use lazy_fst::Session;
 use lazy_fst::WeightAnswer;
@@ -100,7 +100,7 @@ fn expand(
     m2: &[u32],
     allowed1: &[u32],
     allowed2: &[u32],
-    listed: Listed,
+    listed: AllowedLists,
     heads: &mut [u32],
     states: &mut [u32],
     trs: &mut [u32],
@@ -135,7 +135,7 @@ fn expand_all(
     m2: &[u32],
     allowed1: &[u32],
     allowed2: &[u32],
-    listed: Listed,
+    listed: AllowedLists,
     heads: &mut [u32],
     states: &mut [u32],
     trs: &mut [u32],
@@ -172,7 +172,7 @@ fn print_states(
     m2: &[u32],
     allowed1: &[u32],
     allowed2: &[u32],
-    listed: Listed,
+    listed: AllowedLists,
     heads: &[u32],
     states: &[u32],
     trs: &[u32],
@@ -222,7 +222,7 @@ fn opened(
     m2: &[u32],
     allowed1: &[u32],
     allowed2: &[u32],
-    listed: Listed,
+    listed: AllowedLists,
     heads: &mut [u32],
     states: &mut [u32],
     trs: &mut [u32],
@@ -268,7 +268,7 @@ fn print_in(
     m2: &[u32],
     allowed1: &[u32],
     allowed2: &[u32],
-    listed: Listed,
+    listed: AllowedLists,
     heads: &mut [u32],
     states: &mut [u32],
     trs: &mut [u32],
@@ -314,7 +314,7 @@ pub fn print_order(
     m2: &[u32],
     allowed1: &[u32],
     allowed2: &[u32],
-    listed: Listed,
+    listed: AllowedLists,
 ) {
     let mut line = [0u8; 64];
     if words.len() != SETTINGS_WORDS {

@@ -13,19 +13,19 @@ use Rattle.words.specs.Settings.{Lent}
 use Rattle.words.specs.Steps.{Composition}
 use Rattle.calls.specs.Store.{Memory, Store, Part, roomOf, trRoom, firstAt, expandedAt, partAt}
 use Rattle.calls.specs.Checks.{Session, storeOf, enteredAt}
-use Rattle.calls.specs.Calls.{openOf, expandOf, finalWeightOf, runOf, wordsOf, recordsBy, recordsOf}
+use Rattle.calls.specs.Calls.{openOf, expandOf, finalWeightOf, runOf, wordsOfPart, recordsBy, recordsOf}
 use Rattle.calls.specs.Sequences.{World, Call, opening, expand, finalWeight, records, run, Said, accepted, part, weight, answered, handed, saidOf, callOf, replies, after}
 use Rattle.calls.proofs.RecordLaws.{room-words}
 use Rattle.calls.proofs.ExpandKept.{entered-is}
 use Rattle.calls.proofs.Parts.{part-within}
 use Rattle.lazy_fst.proofs.CallLaws.{at-entered}
 use Rattle.rinkolza.specs.Exported.{sessionWords, sessionAt, numberOf, answerOf, handedPart, Left, openWords, expandWords, finalWeightWords, runWords, recordsWords}
-use Rattle.rinkolza.specs.Caller.{exported, partOf, weightOf, saidBy, heard, Made, lefts, heardAll, heldAfter}
+use Rattle.rinkolza.specs.Caller.{exported, partOf, weightHeard, saidBy, heard, CallMade, lefts, heardAll, heldAfter}
 use Rattle.rinkolza.proofs.WordLaws.{words-of-session}
 use Rattle.rinkolza.proofs.Numbers.{Numbered, open-numbered, expand-numbered, final-numbered, run-numbered}
 
 -- no words, no part
-none-handed : (trs states : List ℕ) (n : ℕ) → wordsOf trs (handedPart states n []) ≡ []
+none-handed : (trs states : List ℕ) (n : ℕ) → wordsOfPart trs (handedPart states n []) ≡ []
 unfolding roomOf
 none-handed trs states n = refl
 
@@ -35,22 +35,22 @@ room-of trs a k h f = omega (arith, length-take (5 * k) (drop a trs), length-dro
 
 -- the words of a part that lies within the slice name it
 part-handed : (trs states : List ℕ) (n : ℕ) (p : Part) → p .first ≡ firstAt states n → 5 * (p .first - 1) + 5 * p .count ≤ length trs → p .count ≤ 65535
-    → wordsOf trs (handedPart states n (wordsOf trs p)) ≡ wordsOf trs p
+    → wordsOfPart trs (handedPart states n (wordsOfPart trs p)) ≡ wordsOfPart trs p
 part-handed trs states n p e within few = go (p .count) refl (room-of trs (5 * (p .first - 1)) (p .count) within few)
   where
-    go : (k : ℕ) → p .count ≡ k → roomOf 5 (take (5 * p .count) (drop (5 * (p .first - 1)) trs)) ≡ p .count → wordsOf trs (handedPart states n (wordsOf trs p)) ≡ wordsOf trs p
+    go : (k : ℕ) → p .count ≡ k → roomOf 5 (take (5 * p .count) (drop (5 * (p .first - 1)) trs)) ≡ p .count → wordsOfPart trs (handedPart states n (wordsOfPart trs p)) ≡ wordsOfPart trs p
     go zero z r = rw (r, z)
     go (suc k) z r = rw (r, z, ne-eqb (suc k) 0 (λ q. omega (arith, q)), ← e)
 
 -- handing back in words: the part that the answer names holds the words that are handed back
-pub handed-part : (l : Lent) (s : Session) (m : Memory) (n : ℕ) → wordsOf (m .trs) (handedPart (m .states) n (recordsOf l s m n)) ≡ recordsOf l s m n
+pub handed-part : (l : Lent) (s : Session) (m : Memory) (n : ℕ) → wordsOfPart (m .trs) (handedPart (m .states) n (recordsOf l s m n)) ≡ recordsOf l s m n
 unfolding recordsOf trRoom partAt
 handed-part l s m n = go (enteredAt l s m n) refl
   where
     d : Store
     d = storeOf s m
 
-    by-mark : (c : Composition) (b : Bool) → enteredAt l s m n ≡ good c → let ws = cond b (wordsOf (m .trs) (partAt d n)) [] in wordsOf (m .trs) (handedPart (m .states) n ws) ≡ ws
+    by-mark : (c : Composition) (b : Bool) → enteredAt l s m n ≡ good c → let ws = cond b (wordsOfPart (m .trs) (partAt d n)) [] in wordsOfPart (m .trs) (handedPart (m .states) n ws) ≡ ws
     by-mark c false e = none-handed (m .trs) (m .states) n
     by-mark c true e =
         let a = at-entered l s m n c e in
@@ -59,7 +59,7 @@ handed-part l s m n = go (enteredAt l s m n) refl
         let within = part-within d d form (omega arith) n (a .1) in
         part-handed (m .trs) (m .states) n (partAt d n) refl (omega (arith, within, fit .1)) (omega (arith, within, fit .0))
 
-    go : (x : Checked Composition) → enteredAt l s m n ≡ x → wordsOf (m .trs) (handedPart (m .states) n (recordsBy x d n)) ≡ recordsBy x d n
+    go : (x : Checked Composition) → enteredAt l s m n ≡ x → wordsOfPart (m .trs) (handedPart (m .states) n (recordsBy x d n)) ≡ recordsBy x d n
     go (refused k) e = none-handed (m .trs) (m .states) n
     go (good c) e = by-mark c (eqb (expandedAt (m .states) n) 1) e
 
@@ -69,7 +69,7 @@ said-part old (good p) h = refl
 said-part old (refused zero) h = absurd (omega (arith, h .0))
 said-part old (refused (suc k)) h = refl
 
-said-weight : (old : List ℕ) (x : Checked (Option ℕ)) → Numbered x → let said = saidOf weight x in saidBy (numberOf said) (weight (weightOf (answerOf old said))) ≡ said
+said-weight : (old : List ℕ) (x : Checked (Option ℕ)) → Numbered x → let said = saidOf weight x in saidBy (numberOf said) (weight (weightHeard (answerOf old said))) ≡ said
 said-weight old (good none) h = refl
 said-weight old (good (some w)) h = refl
 said-weight old (refused zero) h = absurd (omega (arith, h .0))
@@ -95,7 +95,7 @@ exported-same l s m a b (records n) = record { reply = ap handed (handed-part l 
 exported-same l s m a b run = record { reply = ap (λ (x : Said). answered x (runOf l s m .session)) (said-alone (runOf l s m .answer) (run-numbered l s m)); session = refl; memory = refl }
 
 -- A list of exported calls: what the caller reads off is what the list of calls replies. So demand 3, a claim about those replies, carries over.
-pub heard-all : (l : Lent) (s : Session) (m : Memory) (ds : List Made) → heardAll ds (lefts l (sessionWords s) m ds) ≡ replies l (record { session = s; memory = m }) (map (λ d. d .call) ds)
+pub heard-all : (l : Lent) (s : Session) (m : Memory) (ds : List CallMade) → heardAll ds (lefts l (sessionWords s) m ds) ≡ replies l (record { session = s; memory = m }) (map (λ d. d .call) ds)
 unfolding lefts heardAll replies
 heard-all l s m [] = refl
 heard-all l s m (d ∷ ds) =
@@ -105,7 +105,7 @@ heard-all l s m (d ∷ ds) =
     λ i. same .reply i ∷ ((λ j. heardAll ds (lefts l (same .session j) (same .memory j) ds)) ∙ heard-all l (w .session) (w .memory) ds) i
 
 -- and the words held after it are those of the world after it
-pub held-after : (l : Lent) (s : Session) (m : Memory) (ds : List Made)
+pub held-after : (l : Lent) (s : Session) (m : Memory) (ds : List CallMade)
     → let w = after l (record { session = s; memory = m }) (map (λ d. d .call) ds) in heldAfter l (sessionWords s) m ds ≡ record { session = sessionWords (w .session); memory = w .memory }
 unfolding heldAfter after
 held-after l s m [] = refl
@@ -115,5 +115,5 @@ held-after l s m (d ∷ ds) =
     (λ j. heldAfter l (same .session j) (same .memory j) ds) ∙ held-after l (w .session) (w .memory) ds
 
 -- the same for any nine words
-pub heard-from : (l : Lent) (w : List ℕ) (m : Memory) (ds : List Made) → length w ≡ 9 → heardAll ds (lefts l w m ds) ≡ replies l (record { session = sessionAt w; memory = m }) (map (λ d. d .call) ds)
+pub heard-from : (l : Lent) (w : List ℕ) (m : Memory) (ds : List CallMade) → length w ≡ 9 → heardAll ds (lefts l w m ds) ≡ replies l (record { session = sessionAt w; memory = m }) (map (λ d. d .call) ds)
 heard-from l w m ds e = ap (λ (v : List ℕ). heardAll ds (lefts l v m ds)) (sym (words-of-session w e)) ∙ heard-all l (sessionAt w) m ds

@@ -14,7 +14,7 @@ use Rattle.words.specs.Settings.{Lent}
 use Rattle.words.specs.Steps.{Composition}
 use Rattle.calls.specs.Store.{Memory, Part, roomOf, trRoom, expandedAt, firstAt, partAt}
 use Rattle.calls.specs.Checks.{Session, storeOf, enteredAt}
-use Rattle.calls.specs.Calls.{Outcome, wordsOf, expandOf, recordsOf}
+use Rattle.calls.specs.Calls.{Outcome, wordsOfPart, expandOf, recordsOf}
 use Rattle.calls.specs.Sequences.{World, expand, records, part, answered, handed, turnOf, callOf}
 use Rattle.calls.proofs.RecordLaws.{room-words}
 use Rattle.calls.proofs.ExpandKept.{entered-is}
@@ -29,7 +29,7 @@ none-room = refl
 
 -- the words of an expanded state name its list
 part-is : (l : Lent) (s : Session) (m : Memory) (n : ℕ) (c : Composition) → enteredAt l s m n ≡ good c
-    → let p = partAt (storeOf s m) n in roomOf 5 (wordsOf (m .trs) p) ≢ 0 → handedPart (m .states) n (wordsOf (m .trs) p) ≡ p
+    → let p = partAt (storeOf s m) n in roomOf 5 (wordsOfPart (m .trs) p) ≢ 0 → handedPart (m .states) n (wordsOfPart (m .trs) p) ≡ p
 unfolding trRoom partAt
 part-is l s m n c e any =
     let d = storeOf s m in
@@ -39,7 +39,7 @@ part-is l s m n c e any =
     let fit = room-words (m .trs) (s .used .trs) (form .trs-fit) in
     let within = part-within d d form (omega arith) n (a .1) in
     let count = room-of (m .trs) (5 * (p .first - 1)) (p .count) (omega (arith, within, fit .1)) (omega (arith, within, fit .0)) in
-    rw (ne-eqb (roomOf 5 (wordsOf (m .trs) p)) 0 any) (ap (λ (k : ℕ). record { first = firstAt (m .states) n; count = k }) count)
+    rw (ne-eqb (roomOf 5 (wordsOfPart (m .trs) p)) 0 any) (ap (λ (k : ℕ). record { first = firstAt (m .states) n; count = k }) count)
 
 -- where the part that is named has a record, expand answers it and changes nothing
 pub names-part : (l : Lent) (s : Session) (m : Memory) (n : ℕ) → roomOf 5 (recordsOf l s m n) ≢ 0

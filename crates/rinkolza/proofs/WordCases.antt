@@ -22,13 +22,13 @@ use Rattle.calls.specs.Forms.{fits, headsOk, tripleOk, expandedOk, stateFormOk,
 use Rattle.calls.specs.Checks.{sideFor, sessionOk, entered, enteredAt}
 use Rattle.calls.specs.Calls.{cleared, begun, openOf, reach, storeStep, storeSteps, expansion, expandOf, finalWeightOf, runFrom, runOf, recordsOf}
 use Rattle.rinkolza.specs.Exported.{Left, leaves, openWords, expandWords, finalWeightWords, runWords, recordsWords}
-use Rattle.rinkolza.specs.Caller.{Made, lefts}
+use Rattle.rinkolza.specs.Caller.{CallMade, lefts}
 
 abbrev memory : List ℕ → List ℕ → List ℕ → Slices
 memory heads states trs = record { heads = heads; states = states; trs = trs }
 
 -- a call whose answer's slice holds 7 and 7
-abbrev made : Call → Made
+abbrev made : Call → CallMade
 made c = record { call = c; first = 7; second = 7 }
 
 -- words of no meaning before the opening: two heads, room for four states and three transitions
@@ -56,7 +56,7 @@ memory2 =
 abbrev says : ℕ → ℕ → ℕ → Left
 says number a b = leaves number session2 (a ∷ b ∷ []) memory2
 
-abbrev calls : List Made
+abbrev calls : List CallMade
 calls =
     made (opening (settingsOf (plain 0 0)) (lend example1 example2)) ∷ made run
     ∷ made (finalWeight 2) ∷ made (finalWeight 3) ∷ made (finalWeight 4)

@@ -12,7 +12,7 @@ use Rattle.calls.specs.Calls.{Outcome, openOf, expandOf, finalWeightOf, runOf, 
 use Rattle.calls.specs.Sequences.{Said, refusal, accepted, part, weight, saidOf}
 use Rattle.calls.specs.Listing.{settingsSize, settingsOf}
 use Rattle.lazy_fst.specs.Meaning.{lentWith}
-use Rattle.lazy_fst.specs.declared.Listed.{Listed}
+use Rattle.lazy_fst.specs.declared.AllowedLists.{AllowedLists}
 
 -- "kind, filter, sigma 1, mode 1, sigma 2, mode 2"; `settingsOf` reads them
 abbrev pub settingsWords : Settings → List ℕ
@@ -37,7 +37,7 @@ abbrev pub two : List ℕ → Bool
 two w = eqb (length w) 2
 
 -- "no list: all; empty list: none": each list comes with a word, which is 0 where there is no list
-abbrev pub listedBy : ℕ → ℕ → Listed
+abbrev pub listedBy : ℕ → ℕ → AllowedLists
 listedBy has1 has2 = record { first = not (eqb has1 0); second = not (eqb has2 0) }
 
 abbrev pub lentWords : (m1 m2 allowed1 : List ℕ) → ℕ → List ℕ → ℕ → Lent

@@ -53,7 +53,10 @@ pub fn leave_part(session: &mut [u32], words: &mut [u32], answer: PartAnswer) ->
 // Of final weight: whether the state is final, and its weight. The session that it hands back is the one that it got.
 pub fn leave_weight(words: &mut [u32], answer: WeightAnswer) -> u32
     requires { ⌜ length (now words) ≡ 2 ⌝ }
-    ensures { λ r. ⌜ ((m : Memory) → leaves r (sessionWords (weightLeft answer m .session)) (now (words .exit)) m ≡ inWords weight (now (words .entry)) (weightLeft answer m)) ⌝ }
+    ensures { λ r. ⌜ (
+        (m : Memory) →
+        leaves r (sessionWords (weightLeft answer m .session)) (now (words .exit)) m ≡ inWords weight (now (words .entry)) (weightLeft answer m)
+        ) ⌝ }
 {
     match answer {
         WeightAnswer::Weight(w, _) => {

@@ -36,7 +36,12 @@ pub extern "C" fn rinkolza_open(
     states: &mut [u32],
     trs: &mut [u32],
 ) -> u32
-    ensures { λ r. ⌜ leaves r (now (session .exit)) [] (memoryOf (now (heads .exit)) (now (states .exit)) (now (trs .exit))) ≡ openWords (now (settings .entry)) (lentWords (now (m1 .entry)) (now (m2 .entry)) (now (allowed1 .entry)) has1 (now (allowed2 .entry)) has2) (now (session .entry)) (memoryOf (now (heads .entry)) (now (states .entry)) (now (trs .entry))) ⌝ }
+    ensures { λ r. ⌜ (
+        let l = lentWords (now (m1 .entry)) (now (m2 .entry)) (now (allowed1 .entry)) has1 (now (allowed2 .entry)) has2 in
+        let m = memoryOf (now (heads .entry)) (now (states .entry)) (now (trs .entry)) in
+        let m′ = memoryOf (now (heads .exit)) (now (states .exit)) (now (trs .exit)) in
+        leaves r (now (session .exit)) [] m′ ≡ openWords (now (settings .entry)) l (now (session .entry)) m
+        ) ⌝ }
 {
     if settings.len() != SETTINGS_WORDS {
         return REFUSED_SETTINGS;
@@ -77,7 +82,12 @@ pub extern "C" fn rinkolza_expand(
     n: u32,
     answer: &mut [u32],
 ) -> u32
-    ensures { λ r. ⌜ leaves r (now (session .exit)) (now (answer .exit)) (memoryOf (now (heads .exit)) (now (states .exit)) (now (trs .exit))) ≡ expandWords (lentWords (now (m1 .entry)) (now (m2 .entry)) (now (allowed1 .entry)) has1 (now (allowed2 .entry)) has2) (now (session .entry)) (now (answer .entry)) (memoryOf (now (heads .entry)) (now (states .entry)) (now (trs .entry))) n ⌝ }
+    ensures { λ r. ⌜ (
+        let l = lentWords (now (m1 .entry)) (now (m2 .entry)) (now (allowed1 .entry)) has1 (now (allowed2 .entry)) has2 in
+        let m = memoryOf (now (heads .entry)) (now (states .entry)) (now (trs .entry)) in
+        let m′ = memoryOf (now (heads .exit)) (now (states .exit)) (now (trs .exit)) in
+        leaves r (now (session .exit)) (now (answer .exit)) m′ ≡ expandWords l (now (session .entry)) (now (answer .entry)) m n
+        ) ⌝ }
 {
     if !sized(session, answer) {
         return REFUSED_SETTINGS;
@@ -114,7 +124,11 @@ pub extern "C" fn rinkolza_final_weight(
     n: u32,
     answer: &mut [u32],
 ) -> u32
-    ensures { λ r. ⌜ leaves r (now (session .entry)) (now (answer .exit)) (memoryOf (now (heads .entry)) (now (states .entry)) (now (trs .entry))) ≡ finalWeightWords (lentWords (now (m1 .entry)) (now (m2 .entry)) (now (allowed1 .entry)) has1 (now (allowed2 .entry)) has2) (now (session .entry)) (now (answer .entry)) (memoryOf (now (heads .entry)) (now (states .entry)) (now (trs .entry))) n ⌝ }
+    ensures { λ r. ⌜ (
+        let l = lentWords (now (m1 .entry)) (now (m2 .entry)) (now (allowed1 .entry)) has1 (now (allowed2 .entry)) has2 in
+        let m = memoryOf (now (heads .entry)) (now (states .entry)) (now (trs .entry)) in
+        leaves r (now (session .entry)) (now (answer .exit)) m ≡ finalWeightWords l (now (session .entry)) (now (answer .entry)) m n
+        ) ⌝ }
 {
     if !sized(session, answer) {
         return REFUSED_SETTINGS;
@@ -149,7 +163,12 @@ pub extern "C" fn rinkolza_run(
     states: &mut [u32],
     trs: &mut [u32],
 ) -> u32
-    ensures { λ r. ⌜ leaves r (now (session .exit)) [] (memoryOf (now (heads .exit)) (now (states .exit)) (now (trs .exit))) ≡ runWords (lentWords (now (m1 .entry)) (now (m2 .entry)) (now (allowed1 .entry)) has1 (now (allowed2 .entry)) has2) (now (session .entry)) (memoryOf (now (heads .entry)) (now (states .entry)) (now (trs .entry))) ⌝ }
+    ensures { λ r. ⌜ (
+        let l = lentWords (now (m1 .entry)) (now (m2 .entry)) (now (allowed1 .entry)) has1 (now (allowed2 .entry)) has2 in
+        let m = memoryOf (now (heads .entry)) (now (states .entry)) (now (trs .entry)) in
+        let m′ = memoryOf (now (heads .exit)) (now (states .exit)) (now (trs .exit)) in
+        leaves r (now (session .exit)) [] m′ ≡ runWords l (now (session .entry)) m
+        ) ⌝ }
 {
     if session.len() != SESSION_WORDS {
         return REFUSED_SETTINGS;
@@ -176,7 +195,11 @@ pub extern "C" fn rinkolza_records(
     n: u32,
     answer: &mut [u32],
 )
-    ensures { λ _. ⌜ now (answer .exit) ≡ recordsWords (lentWords (now (m1 .entry)) (now (m2 .entry)) (now (allowed1 .entry)) has1 (now (allowed2 .entry)) has2) (now (session .entry)) (now (answer .entry)) (memoryOf (now (heads .entry)) (now (states .entry)) (now (trs .entry))) n ⌝ }
+    ensures { λ _. ⌜ (
+        let l = lentWords (now (m1 .entry)) (now (m2 .entry)) (now (allowed1 .entry)) has1 (now (allowed2 .entry)) has2 in
+        let m = memoryOf (now (heads .entry)) (now (states .entry)) (now (trs .entry)) in
+        now (answer .exit) ≡ recordsWords l (now (session .entry)) (now (answer .entry)) m n
+        ) ⌝ }
 {
     if answer.len() != ANSWER_WORDS {
         return;

@@ -6,7 +6,7 @@ ghost use lib.ListN.{length};
 ghost use Rattle.lazy_fst.specs.Meaning.{sessionMeans};
 ghost use Rattle.rinkolza.specs.Exported.{sessionWords, sessionAt, listedBy, nine, two};
 use fst::word;
-use lazy_fst::Listed;
+use lazy_fst::AllowedLists;
 use lazy_fst::Session;
 use session_checks::read_settings;
 use store_records::Used;
@@ -68,10 +68,10 @@ pub fn write_answer(words: &mut [u32], first: u32, second: u32)
 }
 
 // Whether there are allowed lists.
-pub fn listed_by(has1: u32, has2: u32) -> Listed
+pub fn listed_by(has1: u32, has2: u32) -> AllowedLists
     ensures { λ r. ⌜ r ≡ listedBy has1 has2 ⌝ }
 {
-    Listed {
+    AllowedLists {
         first: has1 != 0,
         second: has2 != 0,
     }

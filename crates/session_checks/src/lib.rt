@@ -8,7 +8,7 @@ ghost use Rattle.calls.specs.Listing.{settingsOf};
 ghost use Rattle.calls.specs.Checks.{sideNumber, sideFor, sessionOk, entered};
 ghost use Rattle.match_type.specs.Chosen.{sideMeans, chosenMeans};
 ghost use Rattle.store_records.specs.Meaning.{memoryOf};
-ghost use Rattle.session_checks.specs.Meaning.{settingsMeans, lentOf, sessionOf, enteredMeans, sideNumbered};
+ghost use Rattle.session_checks.specs.Meaning.{settingsMeans, lentSlices, sessionOf, enteredMeans, sideNumbered};
 use fst::Label;
 use fst::MatchType;
 use fst::REFUSED_MACHINE_1;
@@ -102,7 +102,11 @@ pub fn side_of(number: u32) -> Side
 
 // Checks 1 to 7 in their order; where none stands, the side of the rule. Allowed lists play no part.
 pub fn side_for(settings: Settings, m1: &[u32], m2: &[u32]) -> Chosen
-    ensures { λ r. ⌜ ((allowed1 allowed2 : Option (List ℕ)) → chosenMeans r ≡ sideFor (settingsMeans settings) (lentOf (now (m1 .entry)) (now (m2 .entry)) allowed1 allowed2)) ⌝ }
+    ensures { λ r. ⌜ (
+        (allowed1 allowed2 : Option (List ℕ)) →
+        let l = lentSlices (now (m1 .entry)) (now (m2 .entry)) allowed1 allowed2 in
+        chosenMeans r ≡ sideFor (settingsMeans settings) l
+        ) ⌝ }
 {
     if !settings_ok(settings) {
         return Chosen::Refused(REFUSED_SETTINGS);
@@ -129,7 +133,12 @@ fn session_ok(
     states: &[u32],
     trs: &[u32],
 ) -> bool
-    ensures { λ r. ⌜ ((six : Six) (allowed1 allowed2 : Option (List ℕ)) → r ≡ sessionOk (lentOf (now (m1 .entry)) (now (m2 .entry)) allowed1 allowed2) (sessionOf six side used) (memoryOf (now (heads .entry)) (now (states .entry)) (now (trs .entry))) (sideMeans rule)) ⌝ }
+    ensures { λ r. ⌜ (
+        (six : Six) (allowed1 allowed2 : Option (List ℕ)) →
+        let l = lentSlices (now (m1 .entry)) (now (m2 .entry)) allowed1 allowed2 in
+        let m = memoryOf (now (heads .entry)) (now (states .entry)) (now (trs .entry)) in
+        r ≡ sessionOk l (sessionOf six side used) m (sideMeans rule)
+        ) ⌝ }
 {
     if side != side_number(rule) {
         return false;
@@ -151,7 +160,12 @@ pub fn enter(
     states: &[u32],
     trs: &[u32],
 ) -> Chosen
-    ensures { λ r. ⌜ ((allowed1 allowed2 : Option (List ℕ)) → enteredMeans settings (lentOf (now (m1 .entry)) (now (m2 .entry)) allowed1 allowed2) r ≡ entered (lentOf (now (m1 .entry)) (now (m2 .entry)) allowed1 allowed2) (sessionOf (settingsMeans settings) side used) (memoryOf (now (heads .entry)) (now (states .entry)) (now (trs .entry)))) ⌝ }
+    ensures { λ r. ⌜ (
+        (allowed1 allowed2 : Option (List ℕ)) →
+        let l = lentSlices (now (m1 .entry)) (now (m2 .entry)) allowed1 allowed2 in
+        let m = memoryOf (now (heads .entry)) (now (states .entry)) (now (trs .entry)) in
+        enteredMeans settings l r ≡ entered l (sessionOf (settingsMeans settings) side used) m
+        ) ⌝ }
 {
     let chosen = side_for(settings, m1, m2);
     match chosen {

@@ -17,7 +17,7 @@ use store_records::push_state;
 use store_records::store;
 
 // A state of the table, or none with the triple.
-pub enum Found {
+pub enum FoundState {
     At(StateId),
     Missing,
 }
@@ -41,27 +41,29 @@ fn has_tuple(states: &[u32], n: StateId, tuple: ComposeStateTuple) -> bool
 }
 
 // The first state with the triple along the chain from a link, within `most` steps.
-fn find_along(states: &[u32], from: u32, most: u32, tuple: ComposeStateTuple) -> Found
-    ensures { λ r. ⌜ foundMeans r ≡ first (λ n. sameTriple (tripleAt (now (states .entry)) n) (tupleMeans tuple)) (linked (nextAt (now (states .entry))) most from) ⌝ }
+fn find_along(states: &[u32], from: u32, most: u32, tuple: ComposeStateTuple) -> FoundState
+    ensures { λ r. ⌜ (
+        foundMeans r ≡ first (λ n. sameTriple (tripleAt (now (states .entry)) n) (tupleMeans tuple)) (linked (nextAt (now (states .entry))) most from)
+        ) ⌝ }
 {
     let mut link = from;
     let mut left = most;
     while left > 0 {
         if link == 0 {
-            return Found::Missing;
+            return FoundState::Missing;
         }
         let n = StateId(link - 1);
         if has_tuple(states, n, tuple) {
-            return Found::At(n);
+            return FoundState::At(n);
         }
         link = next_of(states, n);
         left -= 1;
     }
-    Found::Missing
+    FoundState::Missing
 }
 
 // The number of a triple, on any memory.
-pub fn find_id(heads: &[u32], states: &[u32], used: u32, tuple: ComposeStateTuple) -> Found
+pub fn find_id(heads: &[u32], states: &[u32], used: u32, tuple: ComposeStateTuple) -> FoundState
     ensures { λ r. ⌜ ((trs : List ℕ) (k : ℕ) → foundMeans r ≡ find (stored (now (heads .entry)) (now (states .entry)) trs used k) (tupleMeans tuple)) ⌝ }
 {
     let head = word(heads, slot(heads, tuple));
@@ -71,7 +73,11 @@ pub fn find_id(heads: &[u32], states: &[u32], used: u32, tuple: ComposeStateTupl
 // A new state in the first unused record, at the head of its chain.
 pub fn add_state(heads: &mut [u32], states: &mut [u32], used: u32, tuple: ComposeStateTuple)
     requires { ⌜ (used < roomOf stateSize (now states)) × Packs (tupleMeans tuple) ⌝ }
-    ensures { λ _. ⌜ ((trs : List ℕ) (k : ℕ) → stored (now (heads .exit)) (now (states .exit)) trs (used + 1) k ≡ add (stored (now (heads .entry)) (now (states .entry)) trs used k) (tupleMeans tuple)) ⌝ }
+    ensures { λ _. ⌜ (
+        (trs : List ℕ) (k : ℕ) →
+        let d = stored (now (heads .entry)) (now (states .entry)) trs used k in
+        stored (now (heads .exit)) (now (states .exit)) trs (used + 1) k ≡ add d (tupleMeans tuple)
+        ) ⌝ }
 {
     let at = slot(heads, tuple);
     let head = word(heads, at);

@@ -54,7 +54,11 @@ fn state_ok(states: &[u32], n: StateId, last: u32, s1: u32, s2: u32) -> bool
 
 // All used state records. Left by the label at the first bad one.
 pub fn states_ok(states: &[u32], used: Used, s1: u32, s2: u32) -> bool
-    ensures { λ r. ⌜ ((heads trs : List ℕ) → r ≡ every (stateFormOk s1 s2 (stored heads (now (states .entry)) trs (used .states) (used .trs))) (interval 0 (used .states))) ⌝ }
+    ensures { λ r. ⌜ (
+        (heads trs : List ℕ) →
+        let d = stored heads (now (states .entry)) trs (used .states) (used .trs) in
+        r ≡ every (stateFormOk s1 s2 d) (interval 0 (used .states))
+        ) ⌝ }
 {
     let count = used.states;
     let last = used.trs;

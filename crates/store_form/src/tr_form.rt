@@ -29,7 +29,11 @@ fn tr_ok(trs: &[u32], i: u32, used: Used) -> bool
 
 // All used transition records. Left by the label at the first bad one.
 pub fn trs_ok(trs: &[u32], used: Used) -> bool
-    ensures { λ r. ⌜ ((heads states : List ℕ) → r ≡ every (trFormOk (stored heads states (now (trs .entry)) (used .states) (used .trs))) (interval 0 (used .trs))) ⌝ }
+    ensures { λ r. ⌜ (
+        (heads states : List ℕ) →
+        let d = stored heads states (now (trs .entry)) (used .states) (used .trs) in
+        r ≡ every (trFormOk d) (interval 0 (used .trs))
+        ) ⌝ }
 {
     let count = used.trs;
     let mut ok = true;

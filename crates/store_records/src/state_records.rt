@@ -103,7 +103,10 @@ pub fn push_state(states: &mut [u32], used: u32, tuple: ComposeStateTuple, next:
 
 // State n is expanded, and its list begins with record `first`.
 pub fn mark_expanded(states: &mut [u32], n: StateId, first: u32)
-    ensures { λ _. ⌜ ((heads trs : List ℕ) (u k : ℕ) → stored heads (now (states .exit)) trs u k ≡ mark (stored heads (now (states .entry)) trs u k) (n .0) first) ⌝ }
+    ensures { λ _. ⌜ (
+        (heads trs : List ℕ) (u k : ℕ) →
+        stored heads (now (states .exit)) trs u k ≡ mark (stored heads (now (states .entry)) trs u k) (n .0) first
+        ) ⌝ }
 {
     let at = STATE_SIZE * (n.0 as usize);
     store(states, at + STATE_EXPANDED, 1);

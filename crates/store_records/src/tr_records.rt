@@ -78,7 +78,11 @@ fn write_tr(tail: &mut [u32], tr: Tr, next: u32)
 // A new transition in the first unused record: the tail from there on is lent.
 pub fn push_tr(trs: &mut [u32], used: u32, tr: Tr, next: u32)
     requires { ⌜ used < roomOf trSize (now trs) ⌝ }
-    ensures { λ _. ⌜ ((heads states : List ℕ) (n : ℕ) (to : Triple) → stored heads states (now (trs .exit)) n (used + 1) ≡ append (stored heads states (now (trs .entry)) n used) (stepMeans tr to) (tr .nextstate .0) next) ⌝ }
+    ensures { λ _. ⌜ (
+        (heads states : List ℕ) (n : ℕ) (to : Triple) →
+        let d = stored heads states (now (trs .entry)) n used in
+        stored heads states (now (trs .exit)) n (used + 1) ≡ append d (stepMeans tr to) (tr .nextstate .0) next
+        ) ⌝ }
 {
     let at = TR_SIZE * used as usize;
     write_tr(&mut trs[at..], tr, next);

@@ -8,7 +8,7 @@ use lib.ListN.{length, getD, take, drop, length-drop}
 use lib.Seq.{length-take-le, getD-take, getD-drop, ext-getD}
 use Rattle.lists.specs.Lists.{linked}
 use Rattle.calls.specs.Store.{Store, stateRoom, trRoom, stateField, trNextAt, firstAt, partAt}
-use Rattle.calls.specs.Calls.{wordsOf}
+use Rattle.calls.specs.Calls.{wordsOfPart}
 use Rattle.calls.proofs.RecordLaws.{room-words}
 use Rattle.calls.proofs.StoreForms.{Form}
 use Rattle.store_records.specs.Meaning.{stored}
@@ -69,7 +69,7 @@ module _ {S1 S2 : ℕ} (d : Store) (form : Form S1 S2 d (d .used .trs)) (states 
       let l = linked-inside (trNextAt (d .memory .trs)) (trNextAt trs) V′ V′ (stateField (d .memory .states) n 3) rises next-rest (form .state n h .first) in
       rw (f, l)
 
-  pub words-rest : (n : ℕ) → n < d .used .states → wordsOf trs (partAt d n) ≡ wordsOf (d .memory .trs) (partAt d n)
+  pub words-rest : (n : ℕ) → n < d .used .states → wordsOfPart trs (partAt d n) ≡ wordsOfPart (d .memory .trs) (partAt d n)
   unfolding partAt trRoom
   words-rest n h =
       let f = firstAt (d .memory .states) n in

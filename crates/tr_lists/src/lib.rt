@@ -5,7 +5,7 @@ ghost use Prim.Native.Nat.{ℕ, _+_, _*_};
 ghost use lib.ListN.{length};
 ghost use Rattle.lists.specs.Lists.{linked};
 ghost use Rattle.calls.specs.Store.{trNextAt, partAt};
-ghost use Rattle.calls.specs.Calls.{wordsOf, placeOf};
+ghost use Rattle.calls.specs.Calls.{wordsOfPart, placeOf};
 ghost use Rattle.store_records.specs.Meaning.{stored};
 ghost use Rattle.tr_lists.specs.Meaning.{partMeans};
 use fst::StateId;
@@ -49,7 +49,7 @@ pub fn part_of(states: &[u32], trs: &[u32], used: u32, n: StateId) -> Part
 
 // The records of a list as a part of the lent slice, cut where the slice ends.
 pub fn tr_part<'a>(trs: &'a [u32], part: Part) -> &'a [u32]
-    ensures { λ r. ⌜ now r ≡ wordsOf (now (trs .entry)) (partMeans part) ⌝ }
+    ensures { λ r. ⌜ now r ≡ wordsOfPart (now (trs .entry)) (partMeans part) ⌝ }
     ensures place { λ r. ⌜ r .ptr ≡ (trs .entry .ptr .0, trs .entry .ptr .1 + 4 * placeOf (now (trs .entry)) (partMeans part)) ⌝ }
 {
     let first = part.first as usize;

@@ -10,7 +10,7 @@ use Rattle.lists.specs.Lists.{every, interval}
 use Rattle.papers.specs.Weight.{finite, semiring}
 use Rattle.papers.specs.Machine.{Machine}
 use Rattle.papers.specs.Filter.{MoveKind, lone1, lone2, aLabel, noEpsilon, onlyEpsilons}
-use Rattle.papers.specs.Composition.{Edge, rest, along, Triple, Move as Edges, Kept as KeptMove}
+use Rattle.papers.specs.Composition.{Edge, rest, along, Triple, Edges, KeptMove}
 use Rattle.papers.specs.Paths.{AcceptingRun, movesWeight}
 use Rattle.papers.proofs.Closed.{finite≢infinite}
 use Rattle.papers.proofs.Forms.{Meeting, pair-meets}

@@ -6,7 +6,7 @@ use mathlib.Core.Option.{Option, none, some, Option·none-ne-some, Option·some-
 use Prim.Native.Nat.{ℕ, _≤_}
 use Rattle.papers.specs.Machine.{Machine}
 use Rattle.papers.specs.Weight.{semiring}
-use Rattle.papers.specs.Composition.{Triple, finalWeightOf}
+use Rattle.papers.specs.Composition.{Triple, finalProduct}
 use Rattle.papers.proofs.SemiringLaws.{semiring-laws}
 use Rattle.words.specs.Labels.{MAX, Checked, good, refused}
 use Rattle.words.specs.Weights.{Kind, isZero, times}
@@ -34,7 +34,7 @@ module _ (c : Composition) (s : Triple) where
   N = c .operand2 .machine
 
   abbrev e : semiring (c .kind) .Element
-  e = finalWeightOf (semiring (c .kind)) (exact (c .kind)) (composedOf c) (s .s1) (s .s2)
+  e = finalProduct (semiring (c .kind)) (exact (c .kind)) (composedOf c) (s .s1) (s .s2)
 
   abbrev Answers : Checked (Option ℕ) → Type 0
   Answers r = Answer k M N (s .s1) (s .s2) e r

@@ -8,7 +8,7 @@ use Rattle.lists.specs.Lists.{Distinct}
 use Rattle.lists.proofs.Places.{at-in}
 use Rattle.lists.proofs.Apart.{Apart, apart-flat, apart-place}
 use Rattle.papers.specs.Filter.{Facts}
-use Rattle.papers.specs.Composition.{Triple, Move as Edges}
+use Rattle.papers.specs.Composition.{Triple, Edges}
 use Rattle.words.specs.Labels.{Checked, good, refused}
 use Rattle.words.specs.Matches.{MatchType, inputs, outputs}
 use Rattle.words.specs.Sigmas.{Operand}

@@ -9,7 +9,7 @@ use lib.Dec.{eqb}
 use Rattle.lists.proofs.Members.{in-flat, of-flat}
 use Rattle.papers.specs.Machine.{Machine}
 use Rattle.papers.specs.Filter.{MoveKind, noEpsilon, onlyEpsilons}
-use Rattle.papers.specs.Composition.{Edge, rest, along, Meets, Triple, Move as Edges, Kept as KeptMove}
+use Rattle.papers.specs.Composition.{Edge, rest, along, Meets, Triple, Edges, KeptMove}
 use Rattle.papers.specs.Sigma.{specialOf1, specialOf2}
 use Rattle.papers.proofs.Forms.{Meeting}
 use Rattle.papers.proofs.Mirror.{mirrorKind, mirror-twice, mirrorMeets, met-mirror}

@@ -10,7 +10,7 @@ use lib.ListN.{length}
 use borrow.Author.Tests.{eqb-false, eq-eqb}
 use Rattle.papers.specs.Machine.{Machine}
 use Rattle.papers.specs.Filter.{MoveKind}
-use Rattle.papers.specs.Composition.{Edge, along, Meets, equal, Triple, Move as Edges, Kept as KeptMove}
+use Rattle.papers.specs.Composition.{Edge, along, Meets, equal, Triple, Edges, KeptMove}
 use Rattle.papers.proofs.Forms.{met-change, Meeting, by-form, form1, form2, formε, formx}
 use Rattle.words.specs.Labels.{epsLabel, noLabel, Checked, good, refused, refuseIf}
 use Rattle.words.specs.Matches.{MatchType, inputs, outputs}

@@ -9,7 +9,7 @@ use Prim.Native.Nat.{ℕ}
 use Rattle.lists.specs.Lists.{At}
 use Rattle.lists.proofs.Places.{at-map, of-at-map, at-in, in-at}
 use Rattle.papers.specs.Weight.{semiring}
-use Rattle.papers.specs.Composition.{nextState, outer, Triple, Start, Kept as KeptMove, edgeWeight}
+use Rattle.papers.specs.Composition.{nextState, outer, Triple, Start, KeptMove, edgeWeight}
 use Rattle.words.specs.Labels.{Checked, good, refused, andThen, collect}
 use Rattle.words.specs.Weights.{Kind, times}
 use Rattle.words.specs.Matches.{MatchType, inputs, outputs, Match, loop, own, viaSigma, Tr, trOf}
@@ -18,8 +18,8 @@ use Rattle.words.specs.Sides.{Side, sideOf}
 use Rattle.words.specs.Sigmas.{Operand, replace, rewrite, given}
 use Rattle.words.specs.Steps.{Composition, asks, Kept, keptAt, Step, weighed, stepOf, stepsAt, startOf, startAt}
 use Rattle.words.specs.Settings.{Settings, Lent, operand1, operand2, compositionOf}
-use Rattle.words.specs.AsPapers.{exact, TooLarge, edgeOf, edgesOf, composedOf, directionOf, WalkedSigma, matchesOf, rewritten, weightOf}
-use Rattle.words.specs.Links.{Composable, Exactly, IsStep, Weighed, StepsExactly}
+use Rattle.words.specs.AsPapers.{exact, TooLarge, edgeOf, edgesOf, composedOf, directionOf, WalkedSigma, matchesOf, rewritten, weightBy}
+use Rattle.words.specs.Links.{Composable, Exactly, IsStep, StepWeighed, StepsExactly}
 use Rattle.words.proofs.PapersWeights.{product, times-some, times-none, exact-one}
 use Rattle.words.proofs.CheckedLaws.{good-is, refused-is, good≢refused}
 use Rattle.words.proofs.PapersOpened.{kept-as-papers, at-direction, sound-of}
@@ -75,7 +75,7 @@ module _ (c : Composition) (S : Composable c) (s : Triple) (v : Kept) where
   abbrev b : Tr
   b = given (c .kind) (c .operand2) (s .s2) (asks (c .operand1) (v .move .first)) (v .move .second)
 
-  weights : product (c .kind) (a .weight) (b .weight) ≡ weightOf c (edgesOf (v .move))
+  weights : product (c .kind) (a .weight) (b .weight) ≡ weightBy c (edgesOf (v .move))
   weights = ap₂ (semiring (c .kind) .times) (given-weight (c .kind) (c .operand1) (s .s1) _ (v .move .first)) (given-weight (c .kind) (c .operand2) (s .s2) _ (v .move .second))
 
   made : (w : ℕ) → times (c .kind) (a .weight) (b .weight) ≡ some w → (t : Step) → weighed a b (v .next) (some w) ≡ good t → IsStep c s v t
@@ -100,14 +100,14 @@ module _ (c : Composition) (S : Composable c) (s : Triple) (v : Kept) where
       go (some w) e h = made w e t h
 
   -- 12, just where the exact weight is too large
-  pub step-refused : (n : ℕ) → (stepOf c s v ≡ refused n) ↔ ((n ≡ 12) × TooLarge (c .kind) (weightOf c (edgesOf (v .move))))
+  pub step-refused : (n : ℕ) → (stepOf c s v ≡ refused n) ↔ ((n ≡ 12) × TooLarge (c .kind) (weightBy c (edgesOf (v .move))))
   unfolding stepOf
   step-refused n = (
     λ h. go (times (c .kind) (a .weight) (b .weight)) refl h,
     λ h. rw (times-none (c .kind) (a .weight) (b .weight) .1 (rw weights (h .1)), h .0),
   )
     where
-      go : (o : Option ℕ) → times (c .kind) (a .weight) (b .weight) ≡ o → weighed a b (v .next) o ≡ refused n → (n ≡ 12) × TooLarge (c .kind) (weightOf c (edgesOf (v .move)))
+      go : (o : Option ℕ) → times (c .kind) (a .weight) (b .weight) ≡ o → weighed a b (v .next) o ≡ refused n → (n ≡ 12) × TooLarge (c .kind) (weightBy c (edgesOf (v .move)))
       go none e h = (cc, rw (← weights) (times-none (c .kind) (a .weight) (b .weight) .0 e))
       go (some w) e h = absurd (good≢refused h)
 
@@ -136,11 +136,11 @@ steps-as-papers c S s d e =
     of-good E k t (refused n) i h = absurd (good≢refused h)
 
     of-refused : Exactly d c s (keptAt c s) → (k n : ℕ) (x : Checked Kept) → At (keptAt c s) k x → refused n ≡ step x
-        → ((n ≡ 11) × WalkedSigma d (c .operand1) (c .operand2) (s .s1) (s .s2)) ⊎ ((n ≡ 12) × ((v : Kept) × At (keptAt c s) k (good v) × TooLarge (c .kind) (weightOf c (edgesOf (v .move)))))
+        → ((n ≡ 11) × WalkedSigma d (c .operand1) (c .operand2) (s .s1) (s .s2)) ⊎ ((n ≡ 12) × ((v : Kept) × At (keptAt c s) k (good v) × TooLarge (c .kind) (weightBy c (edgesOf (v .move)))))
     of-refused E k n (good v) i h = let r = step-refused c S s v n .0 (sym h) in inr (r .0, (v, i, r .1))
     of-refused E k n (refused m) i h = let r = E .refusals m .0 (at-in (keptAt c s) k i) in inl (refused-is h ∙ r .0, r .1)
 
-    weigh : (k : ℕ) (v : Kept) (r : Checked Step) → stepOf c s v ≡ r → At (map step (keptAt c s)) k r → Weighed c s (map step (keptAt c s)) k v
+    weigh : (k : ℕ) (v : Kept) (r : Checked Step) → stepOf c s v ≡ r → At (map step (keptAt c s)) k r → StepWeighed c s (map step (keptAt c s)) k v
     weigh k v (good t) h i = inl (t, i, step-good c S s v t h)
     weigh k v (refused n) h i = let r = step-refused c S s v n .0 h in inr (subst (λ (z : ℕ). At (map step (keptAt c s)) k (refused z)) (r .0) i, r .1)
 

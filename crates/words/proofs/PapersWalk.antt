@@ -11,7 +11,7 @@ use Rattle.lists.specs.Lists.{Distinct}
 use Rattle.lists.proofs.Members.{in-flat, of-flat}
 use Rattle.lists.proofs.Apart.{Apart, apart-map, apart-flat}
 use Rattle.papers.specs.Filter.{MoveKind, lone1, lone2, bothEpsilon, aLabel}
-use Rattle.papers.specs.Composition.{Edge, rest, along, Move as Edges}
+use Rattle.papers.specs.Composition.{Edge, rest, along, Edges}
 use Rattle.papers.specs.Sigma.{specialOf2}
 use Rattle.papers.proofs.Forms.{Meeting, by-form, form1, form2, formε, formx}
 use Rattle.papers.proofs.Mirror.{mirrorKind}

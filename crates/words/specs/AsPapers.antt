@@ -5,7 +5,7 @@ use mathlib.Core.List.{List·Memᴰ}
 use Prim.Native.Nat.{ℕ, _≤_, _<_}
 use lib.Dec.{eqb}
 use Rattle.papers.specs.Weight.{finite, infinite, semiring}
-use Rattle.papers.specs.Composition.{Edge, rest, along, Meets, equal, Composed, Move as Edges, inputOf, outputOf, moveWeight, finalWeightOf}
+use Rattle.papers.specs.Composition.{Edge, rest, along, Meets, equal, Composed, Edges, composedInput, composedOutput, moveWeight, finalProduct}
 use Rattle.papers.specs.Sigma.{Special, asRest, specialOf1, specialOf2}
 use Rattle.words.specs.Labels.{MAX, Checked, good, refused}
 use Rattle.words.specs.Weights.{Kind, cost, count}
@@ -97,14 +97,14 @@ rewritten σ x (viaSigma t) l = cond (σ .rewriteBoth) (replace (σ .label) x l)
 
 -- "machine 1's input, machine 2's output (both after any rewriting)" of the composed transition that the two matches make
 abbrev pub inputBy : Composition → Move → ℕ
-inputBy c v = rewritten (c .operand1 .sigma) (asks (c .operand2) (v .second)) (v .first) (inputOf (composedOf c) (edgesOf v))
+inputBy c v = rewritten (c .operand1 .sigma) (asks (c .operand2) (v .second)) (v .first) (composedInput (composedOf c) (edgesOf v))
 
 abbrev pub outputBy : Composition → Move → ℕ
-outputBy c v = rewritten (c .operand2 .sigma) (asks (c .operand1) (v .first)) (v .second) (outputOf (composedOf c) (edgesOf v))
+outputBy c v = rewritten (c .operand2 .sigma) (asks (c .operand1) (v .first)) (v .second) (composedOutput (composedOf c) (edgesOf v))
 
 -- the exact weight of the composed transition (e1, e2), and the exact final weight of a composed state
-abbrev pub weightOf : (c : Composition) → Edges → semiring (c .kind) .Element
-weightOf c m = moveWeight (semiring (c .kind)) (exact (c .kind)) (composedOf c) m
+abbrev pub weightBy : (c : Composition) → Edges → semiring (c .kind) .Element
+weightBy c m = moveWeight (semiring (c .kind)) (exact (c .kind)) (composedOf c) m
 
 abbrev pub endWeight : (c : Composition) → Triple → semiring (c .kind) .Element
-endWeight c s = finalWeightOf (semiring (c .kind)) (exact (c .kind)) (composedOf c) (s .s1) (s .s2)
+endWeight c s = finalProduct (semiring (c .kind)) (exact (c .kind)) (composedOf c) (s .s1) (s .s2)

@@ -10,14 +10,14 @@ use lib.Dec.{eqb}
 use Rattle.lists.specs.Lists.{At, Distinct}
 use Rattle.papers.specs.Machine.{Machine}
 use Rattle.papers.specs.Weight.{semiring}
-use Rattle.papers.specs.Composition.{Triple, Move as Edges, Kept as KeptMove, reached, BothFinal}
+use Rattle.papers.specs.Composition.{Triple, Edges, KeptMove, reached, BothFinal}
 use Rattle.papers.specs.Paths.{EndsBoth}
 use Rattle.words.specs.Labels.{MAX, epsLabel, noLabel, Checked, good, refused}
 use Rattle.words.specs.Weights.{Kind}
 use Rattle.words.specs.Matches.{MatchType, inputs, outputs, loop, own, labelled}
 use Rattle.words.specs.Sigmas.{Operand, inner, lookup}
 use Rattle.words.specs.Steps.{Composition, Move, moveOf, movesOf, Kept, keptAt, Step}
-use Rattle.words.specs.AsPapers.{exact, TooLarge, edgesOf, composedIn, composedOf, WalkedSigma, matchesOf, inputBy, outputBy, weightOf, endWeight}
+use Rattle.words.specs.AsPapers.{exact, TooLarge, edgesOf, composedIn, composedOf, WalkedSigma, matchesOf, inputBy, outputBy, weightBy, endWeight}
 
 -- the epsilon transitions of a state on the inner side
 abbrev pub epsilons : Operand → ℕ → List ℕ
@@ -69,12 +69,12 @@ pub record IsStep (c : Composition) (s : Triple) (v : Kept) (t : Step) : Type 0 
   pub input : t .input ≡ inputBy c (v .move)
   pub output : t .output ≡ outputBy c (v .move)
   pub to : t .to ≡ reached (composedOf c) s (edgesOf (v .move)) (v .next)
-  pub weight : exact (c .kind) (t .weight) ≡ weightOf c (edgesOf (v .move))
+  pub weight : exact (c .kind) (t .weight) ≡ weightBy c (edgesOf (v .move))
   pub word : t .weight ≤ MAX
 
 -- what stands at place k for the kept move v: its step, or 12 where its exact weight is too large
-abbrev pub Weighed : (c : Composition) → Triple → List (Checked Step) → ℕ → Kept → Type 0
-Weighed c s l k v = ((t : Step) × At l k (good t) × IsStep c s v t) ⊎ (At l k (refused 12) × TooLarge (c .kind) (weightOf c (edgesOf (v .move))))
+abbrev pub StepWeighed : (c : Composition) → Triple → List (Checked Step) → ℕ → Kept → Type 0
+StepWeighed c s l k v = ((t : Step) × At l k (good t) × IsStep c s v t) ⊎ (At l k (refused 12) × TooLarge (c .kind) (weightBy c (edgesOf (v .move))))
 
 -- what the list of a composed state is, in direction d
 pub record StepsExactly (d : MatchType) (c : Composition) (s : Triple) (l : List (Checked Step)) : Type 0 where
@@ -85,13 +85,13 @@ pub record StepsExactly (d : MatchType) (c : Composition) (s : Triple) (l : List
   pub known : (k : ℕ) (v : Kept) → At (keptAt c s) k (good v) → matchesOf d (c .operand1) (c .operand2) (edgesOf (v .move)) ≡ v .move
   -- every move of the papers has a place
   pub complete : (m : Edges) (g : ℕ) → KeptMove (composedOf c) s m g
-      → (k : ℕ) × (v : Kept) × (edgesOf (v .move) ≡ m) × (v .next ≡ g) × At (keptAt c s) k (good v) × Weighed c s l k v
+      → (k : ℕ) × (v : Kept) × (edgesOf (v .move) ≡ m) × (v .next ≡ g) × At (keptAt c s) k (good v) × StepWeighed c s l k v
   -- and only one
   pub once : OnePlace (keptAt c s)
   -- a refusal is 11, where a walked label is sigma, or 12, in the place of a move whose exact weight is too large
   pub refusals : (k n : ℕ) → At l k (refused n)
       → ((n ≡ 11) × WalkedSigma d (c .operand1) (c .operand2) (s .s1) (s .s2))
-      ⊎ ((n ≡ 12) × ((v : Kept) × At (keptAt c s) k (good v) × TooLarge (c .kind) (weightOf c (edgesOf (v .move)))))
+      ⊎ ((n ≡ 12) × ((v : Kept) × At (keptAt c s) k (good v) × TooLarge (c .kind) (weightBy c (edgesOf (v .move)))))
   -- where a walked label is sigma, there is an 11
   pub eleven : WalkedSigma d (c .operand1) (c .operand2) (s .s1) (s .s2) → (k : ℕ) × At l k (refused 11)
 

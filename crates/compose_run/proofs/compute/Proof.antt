@@ -11,7 +11,7 @@ use Rattle.calls.specs.Calls.{runFrom}
 use Rattle.calls.proofs.RecordLaws.{room-words}
 use Rattle.compose_fst_op.specs.Composing.{lentOf, composing}
 use Rattle.store_records.specs.Meaning.{memoryOf}
-use Rattle.compose_store.specs.Meaning.{sessionOf}
+use Rattle.compose_store.specs.Meaning.{sessionUnder}
 use Rattle.compose_run.proofs.RunTurns.{run-ends, run-over, new-kept, new-turn, refused-turn}
 use borrow.Author.Needs.{needs}
 use Rattle.compose_run.proofs.compute.Statement.{statement}
@@ -20,8 +20,8 @@ use Rattle.compose_run.proofs.compute.Tie as tie
 abbrev Inv-loop : tie.InvT-loop
 Inv-loop m1 m2 a1 a2 options heads₀ states₀ trs₀ latest₀ n₀ most₀ heads states trs latest n most =
     (n + most ≤ 65535) × (length heads ≡ length heads₀) × (length states ≡ length states₀) × (length trs ≡ length trs₀)
-    × (entered (lentOf options m1 m2 a1 a2) (sessionOf options latest) (memoryOf heads states trs) ≡ good (composing options m1 m2 a1 a2))
-    × (runFrom (lentOf options m1 m2 a1 a2) most n (sessionOf options latest) (memoryOf heads states trs) ≡ runFrom (lentOf options m1 m2 a1 a2) (stateRoom (memoryOf heads₀ states₀ trs₀)) 0 (sessionOf options latest₀) (memoryOf heads₀ states₀ trs₀))
+    × (entered (lentOf options m1 m2 a1 a2) (sessionUnder options latest) (memoryOf heads states trs) ≡ good (composing options m1 m2 a1 a2))
+    × (runFrom (lentOf options m1 m2 a1 a2) most n (sessionUnder options latest) (memoryOf heads states trs) ≡ runFrom (lentOf options m1 m2 a1 a2) (stateRoom (memoryOf heads₀ states₀ trs₀)) 0 (sessionUnder options latest₀) (memoryOf heads₀ states₀ trs₀))
 
 abbrev μ-loop : tie.MeasureT-loop
 μ-loop m1 m2 a1 a2 options heads₀ states₀ trs₀ latest₀ n₀ most₀ heads states trs latest n most = most

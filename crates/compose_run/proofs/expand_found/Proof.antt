@@ -4,7 +4,7 @@ use denote.Ref.{now}
 use Rattle.store_records.specs.Meaning.{memoryOf}
 use Rattle.tr_lists.specs.Meaning.{partMeans}
 use Rattle.compose_fst_op.specs.Composing.{lentOf}
-use Rattle.compose_store.specs.Meaning.{sessionOf}
+use Rattle.compose_store.specs.Meaning.{sessionUnder}
 use Rattle.compose_run.proofs.RunTurns.{expand-listed, expand-new}
 use borrow.Author.Needs.{needs}
 use Rattle.compose_run.proofs.expand_found.Statement.{statement}
@@ -14,13 +14,13 @@ returns : tie.Need-returns
 returns c =
     let x = c .before .before .before .before .before .before .before .before .before .before .before .before .before .args in
     let p = c .before .before .before .before .before .before .before .before .before .before .before .before .before .pre in
-    expand-listed (lentOf (x .options) (now (x .m1)) (now (x .m2)) (now (x .a1)) (now (x .a2))) (sessionOf (x .options) (x .used)) (memoryOf (now (x .heads)) (now (x .states)) (now (x .trs))) (x .n .0) _ (partMeans (c .part-of .result)) (p .0) (p .1) (sym (c .before .before .before .before .is-expanded .ensures) ∙ c .before .before .before .if1 .taken) (c .part-of .ensures (now (x .heads)) (x .used .states))
+    expand-listed (lentOf (x .options) (now (x .m1)) (now (x .m2)) (now (x .a1)) (now (x .a2))) (sessionUnder (x .options) (x .used)) (memoryOf (now (x .heads)) (now (x .states)) (now (x .trs))) (x .n .0) _ (partMeans (c .part-of .result)) (p .0) (p .1) (sym (c .before .before .before .before .is-expanded .ensures) ∙ c .before .before .before .if1 .taken) (c .part-of .ensures (now (x .heads)) (x .used .states))
 
 returns-2 : tie.Need-returns-2
 returns-2 c =
     let x = c .before .before .before .before .before .before .before .before .before .before .before .before .before .before .before .before .before .before .before .before .args in
     let p = c .before .before .before .before .before .before .before .before .before .before .before .before .before .before .before .before .before .before .before .before .pre in
-    c .before .before .before .before .before .before .expand-state .ensures ∙ expand-new (lentOf (x .options) (now (x .m1)) (now (x .m2)) (now (x .a1)) (now (x .a2))) (sessionOf (x .options) (x .used)) (memoryOf (now (x .heads)) (now (x .states)) (now (x .trs))) (x .n .0) _ (p .0) (p .1) (sym (c .before .before .before .before .before .before .before .before .before .before .before .is-expanded .ensures) ∙ c .before .before .before .before .before .before .before .before .before .before .if1 .left)
+    c .before .before .before .before .before .before .expand-state .ensures ∙ expand-new (lentOf (x .options) (now (x .m1)) (now (x .m2)) (now (x .a1)) (now (x .a2))) (sessionUnder (x .options) (x .used)) (memoryOf (now (x .heads)) (now (x .states)) (now (x .trs))) (x .n .0) _ (p .0) (p .1) (sym (c .before .before .before .before .before .before .before .before .before .before .before .is-expanded .ensures) ∙ c .before .before .before .before .before .before .before .before .before .before .if1 .left)
 
 pub expand-found-spec : {M : Type 1} → statement M
 expand-found-spec =

@@ -4,7 +4,7 @@ use Prim.Native.Nat.{_+_, _-_, _^_, _<_}
 use Rattle.words.specs.Labels.{good, refused}
 use Rattle.calls.specs.Store.{stateRoom, trRoom}
 use Rattle.store_records.specs.Meaning.{stored}
-use Rattle.compose_fst_op.specs.Composing.{settingsOf, lentOf}
+use Rattle.compose_fst_op.specs.Composing.{optionSettings, lentOf}
 use Rattle.compose_moves.specs.Cursors.{stepsLeft}
 use Rattle.compose_moves.specs.Moves.{composeTrMeans}
 use Rattle.compose_weigh.specs.Weigh.{weighFrom, weighOf}
@@ -16,8 +16,8 @@ use Rattle.compose_weigh.proofs.weigh_from.Tie as tie
 abbrev Inv-loop : tie.InvT-loop
 Inv-loop m1 m2 a1 a2 heads states trs w exact used cursor₀ count₀ grown₀ cursor count grown =
     (count < 2 ^ 32) × (grown < 2 ^ 32) × (w .used .trs + count < 2 ^ 32)
-    × (weighFrom exact (stored heads states trs (w .used .states) (w .used .trs)) (stepsLeft (settingsOf (w .options)) (lentOf (w .options) m1 m2 a1 a2) (w .start)) count grown (stepsLeft (settingsOf (w .options)) (lentOf (w .options) m1 m2 a1 a2) cursor)
-    ≡ weighOf exact (stored heads states trs (w .used .states) (w .used .trs)) (stepsLeft (settingsOf (w .options)) (lentOf (w .options) m1 m2 a1 a2) (w .start)))
+    × (weighFrom exact (stored heads states trs (w .used .states) (w .used .trs)) (stepsLeft (optionSettings (w .options)) (lentOf (w .options) m1 m2 a1 a2) (w .start)) count grown (stepsLeft (optionSettings (w .options)) (lentOf (w .options) m1 m2 a1 a2) cursor)
+    ≡ weighOf exact (stored heads states trs (w .used .states) (w .used .trs)) (stepsLeft (optionSettings (w .options)) (lentOf (w .options) m1 m2 a1 a2) (w .start)))
 
 abbrev μ-loop : tie.MeasureT-loop
 μ-loop m1 m2 a1 a2 heads states trs w exact used cursor₀ count₀ grown₀ cursor count grown = 2 ^ 32 - (w .used .trs + count)
@@ -30,7 +30,7 @@ returns : tie.Need-returns Inv-loop μ-loop
 returns c =
     let a = c .before .before .before .before .before .before .before .before .before .before .before .before .before .args in
     let l = c .before .before .before .loop in
-    let S = settingsOf (a .w .options) in
+    let S = optionSettings (a .w .options) in
     let L = lentOf (a .w .options) (a .m1 .now) (a .m2 .now) (a .a1 .now) (a .a2 .now) in
     sym (weigh-none (a .exact) (stored (a .heads .now) (a .states .now) (a .trs .now) (a .w .used .states) (a .w .used .trs)) (stepsLeft S L (a .w .start)) (l .count) (l .grown) (stepsLeft S L (l .cursor))
     (rw (c .enum-told .given .1) at (c .before .before .next-step .ensures)))
@@ -41,7 +41,7 @@ returns-2 c =
     let a = c .before .before .before .before .before .before .before .before .before .before .before .before .before .before .args in
     let l = c .before .before .before .before .loop in
     let n = c .before .next .given in
-    let S = settingsOf (a .w .options) in
+    let S = optionSettings (a .w .options) in
     let L = lentOf (a .w .options) (a .m1 .now) (a .m2 .now) (a .a1 .now) (a .a2 .now) in
     sym (weigh-refused (a .exact) (stored (a .heads .now) (a .states .now) (a .trs .now) (a .w .used .states) (a .w .used .trs)) (stepsLeft S L (a .w .start)) (l .count) (l .grown) (stepsLeft S L (l .cursor)) (n .0 .0)
     (rw (n .1) at (c .before .before .before .next-step .ensures)))
@@ -53,7 +53,7 @@ returns-3 c =
     let a = c .before .before .before .before .before .before .before .before .before .before .before .before .before .before .before .before .before .args in
     let l = c .before .before .before .before .before .before .before .loop in
     let n = c .before .before .before .before .next2 .given in
-    let S = settingsOf (a .w .options) in
+    let S = optionSettings (a .w .options) in
     let L = lentOf (a .w .options) (a .m1 .now) (a .m2 .now) (a .a1 .now) (a .a2 .now) in
     sym (weigh-lacking (a .exact) (stored (a .heads .now) (a .states .now) (a .trs .now) (a .w .used .states) (a .w .used .trs)) (stepsLeft S L (a .w .start)) (l .count) (l .grown) (stepsLeft S L (l .cursor))
     (composeTrMeans (n .0 .0)) (stepsLeft S L (n .0 .1 .0)) (rw (n .1) at (c .before .before .before .before .before .before .next-step .ensures)) (rw (c .before .before .tr-room .ensures) at (c .if1 .taken)))
@@ -65,7 +65,7 @@ returns-4 c =
     let a = c .before .before .before .before .before .before .before .before .before .before .before .before .before .before .before .before .before .before .before .before .before .before .before .args in
     let l = c .before .before .before .before .before .before .before .before .before .before .before .before .before .loop in
     let n = c .before .before .before .before .before .before .before .before .before .before .next2 .given in
-    let S = settingsOf (a .w .options) in
+    let S = optionSettings (a .w .options) in
     let L = lentOf (a .w .options) (a .m1 .now) (a .m2 .now) (a .a1 .now) (a .a2 .now) in
     sym (weigh-counted (a .exact) (stored (a .heads .now) (a .states .now) (a .trs .now) (a .w .used .states) (a .w .used .trs)) (stepsLeft S L (a .w .start)) (l .count) (l .grown) (stepsLeft S L (l .cursor))
     (composeTrMeans (n .0 .0)) (stepsLeft S L (n .0 .1 .0)) (rw (n .1) at (c .before .before .before .before .before .before .before .before .before .before .before .before .next-step .ensures)) (rw (c .before .before .before .before .before .before .before .before .tr-room .ensures) at (c .before .before .before .before .before .before .if1 .left))
@@ -79,7 +79,7 @@ loop-again c =
     let l = c .before .before .before .before .before .before .before .before .before .before .before .before .before .before .loop in
     let n = c .before .before .before .before .before .before .before .before .before .before .before .next2 .given in
     let k = c .before .counted .given in
-    let S = settingsOf (a .w .options) in
+    let S = optionSettings (a .w .options) in
     let L = lentOf (a .w .options) (a .m1 .now) (a .m2 .now) (a .a1 .now) (a .a2 .now) in (
       search needs,
       search needs,

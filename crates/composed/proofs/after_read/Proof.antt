@@ -10,7 +10,7 @@ use mir.Facts.{toZ-ofZ}
 use Rattle.io.specs.Counts.{clamped}
 use borrow.Author.Needs.{needs}
 use Rattle.listing_text.specs.Chunks.{inRooms, readBytes}
-use Rattle.listing_read.specs.Meaning.{inputOf, roomsOf}
+use Rattle.listing_read.specs.Meaning.{readInput, roomsOf}
 use Rattle.listing_read.specs.Held.{held, heldBytes}
 use Rattle.composed.proofs.ReadLaws.{failed, came}
 use Rattle.composed.proofs.after_read.Statement.{statement}
@@ -23,7 +23,7 @@ returns c =
     let t : ltZ (a .got) (pos 0) ≡ true = rw (toZ-ofZ (s .fits .got)) at (c .before .before .before .before .before .before .before .before .before .before .if1 .taken) in
     let w = c .before .before .before .before .before .before .spoil in
     let e = failed (a .got) (a .chunk .now) t in (
-      w .ensures .0 ∙ ap (λ (bs : List ℕ). inRooms (roomsOf (a .settings .now) (a .first .now) (a .second .now)) (readBytes (inputOf (a .r) (a .settings .now) (a .first .now) (a .second .now)) bs)) e,
+      w .ensures .0 ∙ ap (λ (bs : List ℕ). inRooms (roomsOf (a .settings .now) (a .first .now) (a .second .now)) (readBytes (readInput (a .r) (a .settings .now) (a .first .now) (a .second .now)) bs)) e,
       w .ensures .1 ∙ ap (heldBytes (held (a .r) (a .settings .now) (a .first .now) (a .second .now))) e,
     )
 
@@ -35,7 +35,7 @@ returns-2 c =
     let w = c .before .before .before .before .before .before .read-chunk in
     let n : c .before .before .before .before .before .before .before .before .before .before .before .count .result ≡ clamped (a .got) (length (a .chunk .now)) = rw (toZ-ofZ (s .fits .got)) at (c .before .before .before .before .before .before .before .before .before .before .before .count .ensures .1) in
     let e = ap (λ (n : ℕ). take n (a .chunk .now)) n ∙ came (a .got) (a .chunk .now) t in (
-      w .ensures .0 ∙ ap (λ (bs : List ℕ). inRooms (roomsOf (a .settings .now) (a .first .now) (a .second .now)) (readBytes (inputOf (a .r) (a .settings .now) (a .first .now) (a .second .now)) bs)) e,
+      w .ensures .0 ∙ ap (λ (bs : List ℕ). inRooms (roomsOf (a .settings .now) (a .first .now) (a .second .now)) (readBytes (readInput (a .r) (a .settings .now) (a .first .now) (a .second .now)) bs)) e,
       w .ensures .1 ∙ ap (heldBytes (held (a .r) (a .settings .now) (a .first .now) (a .second .now))) e,
     )
 

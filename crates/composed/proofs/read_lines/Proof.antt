@@ -4,7 +4,7 @@ use mathlib.Core.List.{[], _∷_}
 use native.Mathlib.Omega.{arith}
 use lib.ListN.{length}
 use borrow.Author.Needs.{needs}
-use Rattle.listing_read.specs.Meaning.{inputOf, roomsOf}
+use Rattle.listing_read.specs.Meaning.{readInput, roomsOf}
 use Rattle.composed.specs.Read.{Reads}
 use Rattle.composed.proofs.ReadLaws.{none-came, more-came}
 use Rattle.composed.proofs.read_lines.Statement.{statement}
@@ -13,7 +13,7 @@ use Rattle.composed.proofs.read_lines.Tie as tie
 abbrev Inv-loop : tie.InvT-loop
 Inv-loop settings₀ first₀ second₀ chunk₀ r₀ left₀ settings first second chunk r left =
     (65536 ≡ length chunk) × (length settings ≡ length settings₀) × (length first ≡ length first₀) × (length second ≡ length second₀)
-    × Reads (roomsOf settings₀ first₀ second₀) (inputOf r settings first second)
+    × Reads (roomsOf settings₀ first₀ second₀) (readInput r settings first second)
 
 abbrev μ-loop : tie.MeasureT-loop
 μ-loop settings₀ first₀ second₀ chunk₀ r₀ left₀ settings first second chunk r left = left
@@ -28,7 +28,7 @@ returns c =
     let a = c .before .before .before .before .before .before .before .before .before .before .before .before .before .before .before .before .before .before .before .before .before .before .before .args in
     let p = c .before .before .before .before .before .before .before .before .before .before .before .before .before .before .before .before .before .loop in
     let w = c .before .before .before .before .before .before .before .before .after-read in
-    more-came (a .settings .now) (a .first .now) (a .second .now) (p .settings) (p .first) (p .second) (inputOf (p .r) (p .settings) (p .first) (p .second)) (inputOf (w .result) (w .last .1 .1 .1 .0) (w .last .1 .1 .1 .1 .0) (w .last .1 .1 .1 .1 .1 .0)) _ (p .inv .1) (p .inv .2) (p .inv .3) (p .inv .4) (w .ensures .0)
+    more-came (a .settings .now) (a .first .now) (a .second .now) (p .settings) (p .first) (p .second) (readInput (p .r) (p .settings) (p .first) (p .second)) (readInput (w .result) (w .last .1 .1 .1 .0) (w .last .1 .1 .1 .1 .0) (w .last .1 .1 .1 .1 .1 .0)) _ (p .inv .1) (p .inv .2) (p .inv .3) (p .inv .4) (w .ensures .0)
 
 loop-again : tie.Need-loop-again Inv-loop μ-loop
 loop-again c =
@@ -42,7 +42,7 @@ loop-again c =
       x ∙ p .inv .1,
       y ∙ p .inv .2,
       z ∙ p .inv .3,
-      more-came (a .settings .now) (a .first .now) (a .second .now) (p .settings) (p .first) (p .second) (inputOf (p .r) (p .settings) (p .first) (p .second)) (inputOf (w .result) (w .last .1 .1 .1 .0) (w .last .1 .1 .1 .1 .0) (w .last .1 .1 .1 .1 .1 .0)) _ (p .inv .1) (p .inv .2) (p .inv .3) (p .inv .4) (w .ensures .0),
+      more-came (a .settings .now) (a .first .now) (a .second .now) (p .settings) (p .first) (p .second) (readInput (p .r) (p .settings) (p .first) (p .second)) (readInput (w .result) (w .last .1 .1 .1 .0) (w .last .1 .1 .1 .1 .0) (w .last .1 .1 .1 .1 .1 .0)) _ (p .inv .1) (p .inv .2) (p .inv .3) (p .inv .4) (w .ensures .0),
     )
 
 returns-2 : tie.Need-returns-2 Inv-loop μ-loop
@@ -50,7 +50,7 @@ returns-2 c =
     let a = c .before .before .before .before .before .before .before .before .before .before .before .before .before .before .before .before .before .args in
     let p = c .before .before .before .before .before .before .before .before .before .before .before .loop in
     let w = c .before .before .before .before .before .before .spoil in
-    more-came (a .settings .now) (a .first .now) (a .second .now) (p .settings) (p .first) (p .second) (inputOf (p .r) (p .settings) (p .first) (p .second)) (inputOf (w .result) (w .last .1 .0) (w .last .1 .1 .0) (w .last .1 .1 .1 .0)) (33 ∷ []) (p .inv .1) (p .inv .2) (p .inv .3) (p .inv .4) (w .ensures .0)
+    more-came (a .settings .now) (a .first .now) (a .second .now) (p .settings) (p .first) (p .second) (readInput (p .r) (p .settings) (p .first) (p .second)) (readInput (w .result) (w .last .1 .0) (w .last .1 .1 .0) (w .last .1 .1 .1 .0)) (33 ∷ []) (p .inv .1) (p .inv .2) (p .inv .3) (p .inv .4) (w .ensures .0)
 
 pub read-lines-spec : {M : Type 1} → statement M
 read-lines-spec =

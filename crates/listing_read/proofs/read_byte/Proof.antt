@@ -1,6 +1,6 @@
 -- `read_byte` meets its contract, by the law of each case.
 use mathlib.Core.Path.{ap, _∙_}
-use Rattle.listing_read.specs.Meaning.{inputOf}
+use Rattle.listing_read.specs.Meaning.{readInput}
 use Rattle.listing_read.specs.Held.{held}
 use Rattle.listing_read.specs.declared.Reader.{Reader}
 use Rattle.listing_read.proofs.InputLaws.{after-third, line-feed, in-settings, in-first, in-second}
@@ -23,7 +23,7 @@ with-lines-requires c κs = search needs
 returns-2 : tie.Need-returns-2
 returns-2 c =
     let a = c .before .before .before .before .before .before .before .before .before .args in (
-      ap (λ (x : Reader). inputOf x (a .settings .now) (a .first .now) (a .second .now)) (c .with-lines .ensures) ∙ line-feed (a .r) (a .settings .now) (a .first .now) (a .second .now) (a .b) (c .before .before .if1 .left) (c .before .if2 .taken),
+      ap (λ (x : Reader). readInput x (a .settings .now) (a .first .now) (a .second .now)) (c .with-lines .ensures) ∙ line-feed (a .r) (a .settings .now) (a .first .now) (a .second .now) (a .b) (c .before .before .if1 .left) (c .before .if2 .taken),
       ap (λ (x : Reader). held x (a .settings .now) (a .first .now) (a .second .now)) (c .with-lines .ensures) ∙ held-feed (a .r) (a .settings .now) (a .first .now) (a .second .now) (a .b) (c .before .before .if1 .left) (c .before .if2 .taken),
     )
 
@@ -40,7 +40,7 @@ returns-3 : tie.Need-returns-3
 returns-3 c =
     let a = c .before .before .before .before .before .before .before .before .before .before .before .before .before .before .args in
     let w = c .before .before .before .step-byte in (
-      ap (λ (x : Reader). inputOf x (w .last .1 .1 .0) (a .first .now) (a .second .now)) (c .with-lines2 .ensures) ∙ in-settings (a .r) (a .settings .now) (a .first .now) (a .second .now) (a .b) (w .result) (w .last .1 .1 .0) (c .before .before .before .before .before .before .before .if1 .left) (c .before .before .before .before .before .before .if2 .left) (c .before .before .before .before .before .if3 .taken) (w .ensures .0),
+      ap (λ (x : Reader). readInput x (w .last .1 .1 .0) (a .first .now) (a .second .now)) (c .with-lines2 .ensures) ∙ in-settings (a .r) (a .settings .now) (a .first .now) (a .second .now) (a .b) (w .result) (w .last .1 .1 .0) (c .before .before .before .before .before .before .before .if1 .left) (c .before .before .before .before .before .before .if2 .left) (c .before .before .before .before .before .if3 .taken) (w .ensures .0),
       ap (λ (x : Reader). held x (w .last .1 .1 .0) (a .first .now) (a .second .now)) (c .with-lines2 .ensures) ∙ held-settings (a .r) (a .settings .now) (a .first .now) (a .second .now) (a .b) (w .result) (w .last .1 .1 .0) (c .before .before .before .before .before .before .before .if1 .left) (c .before .before .before .before .before .before .if2 .left) (c .before .before .before .before .before .if3 .taken) (w .ensures .1),
     )
 
@@ -57,7 +57,7 @@ returns-4 : tie.Need-returns-4
 returns-4 c =
     let a = c .before .before .before .before .before .before .before .before .before .before .before .before .before .before .before .args in
     let w = c .before .before .before .step-byte2 in (
-      ap (λ (x : Reader). inputOf x (a .settings .now) (w .last .1 .1 .0) (a .second .now)) (c .with-lines3 .ensures) ∙ in-first (a .r) (a .settings .now) (a .first .now) (a .second .now) (a .b) (w .result) (w .last .1 .1 .0) (c .before .before .before .before .before .before .before .before .if1 .left) (c .before .before .before .before .before .before .before .if2 .left) (c .before .before .before .before .before .before .if3 .left) (c .before .before .before .before .before .if4 .taken) (w .ensures .0),
+      ap (λ (x : Reader). readInput x (a .settings .now) (w .last .1 .1 .0) (a .second .now)) (c .with-lines3 .ensures) ∙ in-first (a .r) (a .settings .now) (a .first .now) (a .second .now) (a .b) (w .result) (w .last .1 .1 .0) (c .before .before .before .before .before .before .before .before .if1 .left) (c .before .before .before .before .before .before .before .if2 .left) (c .before .before .before .before .before .before .if3 .left) (c .before .before .before .before .before .if4 .taken) (w .ensures .0),
       ap (λ (x : Reader). held x (a .settings .now) (w .last .1 .1 .0) (a .second .now)) (c .with-lines3 .ensures) ∙ held-first (a .r) (a .settings .now) (a .first .now) (a .second .now) (a .b) (w .result) (w .last .1 .1 .0) (c .before .before .before .before .before .before .before .before .if1 .left) (c .before .before .before .before .before .before .before .if2 .left) (c .before .before .before .before .before .before .if3 .left) (c .before .before .before .before .before .if4 .taken) (w .ensures .1),
     )
 
@@ -74,7 +74,7 @@ returns-5 : tie.Need-returns-5
 returns-5 c =
     let a = c .before .before .before .before .before .before .before .before .before .before .before .before .before .before .before .args in
     let w = c .before .before .before .step-byte3 in (
-      ap (λ (x : Reader). inputOf x (a .settings .now) (a .first .now) (w .last .1 .1 .0)) (c .with-lines4 .ensures) ∙ in-second (a .r) (a .settings .now) (a .first .now) (a .second .now) (a .b) (w .result) (w .last .1 .1 .0) (c .before .before .before .before .before .before .before .before .if1 .left) (c .before .before .before .before .before .before .before .if2 .left) (c .before .before .before .before .before .before .if3 .left) (c .before .before .before .before .before .if4 .left) (w .ensures .0),
+      ap (λ (x : Reader). readInput x (a .settings .now) (a .first .now) (w .last .1 .1 .0)) (c .with-lines4 .ensures) ∙ in-second (a .r) (a .settings .now) (a .first .now) (a .second .now) (a .b) (w .result) (w .last .1 .1 .0) (c .before .before .before .before .before .before .before .before .if1 .left) (c .before .before .before .before .before .before .before .if2 .left) (c .before .before .before .before .before .before .if3 .left) (c .before .before .before .before .before .if4 .left) (w .ensures .0),
       ap (λ (x : Reader). held x (a .settings .now) (a .first .now) (w .last .1 .1 .0)) (c .with-lines4 .ensures) ∙ held-second (a .r) (a .settings .now) (a .first .now) (a .second .now) (a .b) (w .result) (w .last .1 .1 .0) (c .before .before .before .before .before .before .before .before .if1 .left) (c .before .before .before .before .before .before .before .if2 .left) (c .before .before .before .before .before .before .if3 .left) (c .before .before .before .before .before .if4 .left) (w .ensures .1),
     )
 

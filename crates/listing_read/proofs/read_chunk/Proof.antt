@@ -5,7 +5,7 @@ use native.Mathlib.Omega.{arith}
 use borrow.Author.Needs.{needs}
 use lib.ListN.{length, take}
 use Rattle.listing_text.specs.Chunks.{inRooms, readBytes}
-use Rattle.listing_read.specs.Meaning.{inputOf, roomsOf}
+use Rattle.listing_read.specs.Meaning.{readInput, roomsOf}
 use Rattle.listing_read.specs.Held.{held, heldBytes}
 use Rattle.listing_read.proofs.InputLaws.{input-within, same-rooms, one-on, one-more, all-read, none-read}
 use Rattle.listing_read.proofs.HeldLaws.{held-more, held-all, held-none}
@@ -15,7 +15,7 @@ use Rattle.listing_read.proofs.read_chunk.Tie as tie
 abbrev Inv-loop : tie.InvT-loop
 Inv-loop chunk settings₀ first₀ second₀ r₀ i₀ settings first second r i =
     (i ≤ length chunk) × (length settings ≡ length settings₀) × (length first ≡ length first₀) × (length second ≡ length second₀)
-    × (inputOf r settings first second ≡ inRooms (roomsOf settings₀ first₀ second₀) (readBytes (inputOf r₀ settings₀ first₀ second₀) (take i chunk)))
+    × (readInput r settings first second ≡ inRooms (roomsOf settings₀ first₀ second₀) (readBytes (readInput r₀ settings₀ first₀ second₀) (take i chunk)))
     × (held r settings first second ≡ heldBytes (held r₀ settings₀ first₀ second₀) (take i chunk))
 
 abbrev μ-loop : tie.MeasureT-loop
@@ -24,7 +24,7 @@ abbrev μ-loop : tie.MeasureT-loop
 loop-holds : tie.Need-loop-holds Inv-loop μ-loop
 loop-holds c =
     let a = c .before .before .before .before .args in
-    (omega arith, refl, refl, refl, none-read (roomsOf (a .settings .now) (a .first .now) (a .second .now)) (inputOf (a .start) (a .settings .now) (a .first .now) (a .second .now)) (a .chunk .now) (input-within (a .start) (a .settings .now) (a .first .now) (a .second .now)), held-none (held (a .start) (a .settings .now) (a .first .now) (a .second .now)) (a .chunk .now))
+    (omega arith, refl, refl, refl, none-read (roomsOf (a .settings .now) (a .first .now) (a .second .now)) (readInput (a .start) (a .settings .now) (a .first .now) (a .second .now)) (a .chunk .now) (input-within (a .start) (a .settings .now) (a .first .now) (a .second .now)), held-none (held (a .start) (a .settings .now) (a .first .now) (a .second .now)) (a .chunk .now))
 
 shared-slice-read-read-byte : tie.Need-shared-slice-read-read-byte Inv-loop μ-loop
 shared-slice-read-read-byte c = search needs
@@ -51,7 +51,7 @@ loop-again c =
     let z : length g ≡ length (l .second) = search needs in
     let t : l .i < length (a .chunk .now) = c .before .before .before .before .before .before .before .before .before .before .before .loop-test .taken in
     let u : l .i + 1 ≤ length (a .chunk .now) = one-on (l .i) (length (a .chunk .now)) t in
-    (u, x ∙ l .inv .1, y ∙ l .inv .2, z ∙ l .inv .3, one-more (roomsOf (l .settings) (l .first) (l .second)) (roomsOf (a .settings .now) (a .first .now) (a .second .now)) (inputOf (a .start) (a .settings .now) (a .first .now) (a .second .now)) (inputOf (l .r) (l .settings) (l .first) (l .second)) (inputOf (b .result) s f g) (a .chunk .now) (l .i) (same-rooms (l .settings) (l .first) (l .second) (a .settings .now) (a .first .now) (a .second .now) (l .inv .1) (l .inv .2) (l .inv .3)) t (l .inv .4) (b .ensures .0), held-more (held (a .start) (a .settings .now) (a .first .now) (a .second .now)) (held (l .r) (l .settings) (l .first) (l .second)) (held (b .result) s f g) (a .chunk .now) (l .i) t (l .inv .5) (b .ensures .1))
+    (u, x ∙ l .inv .1, y ∙ l .inv .2, z ∙ l .inv .3, one-more (roomsOf (l .settings) (l .first) (l .second)) (roomsOf (a .settings .now) (a .first .now) (a .second .now)) (readInput (a .start) (a .settings .now) (a .first .now) (a .second .now)) (readInput (l .r) (l .settings) (l .first) (l .second)) (readInput (b .result) s f g) (a .chunk .now) (l .i) (same-rooms (l .settings) (l .first) (l .second) (a .settings .now) (a .first .now) (a .second .now) (l .inv .1) (l .inv .2) (l .inv .3)) t (l .inv .4) (b .ensures .0), held-more (held (a .start) (a .settings .now) (a .first .now) (a .second .now)) (held (l .r) (l .settings) (l .first) (l .second)) (held (b .result) s f g) (a .chunk .now) (l .i) t (l .inv .5) (b .ensures .1))
 
 same-length : tie.Need-same-length Inv-loop μ-loop
 same-length c = search needs
@@ -66,7 +66,7 @@ returns : tie.Need-returns Inv-loop μ-loop
 returns c =
     let a = c .before .before .before .before .before .before .args in
     let l = c .before .loop in (
-      all-read (roomsOf (a .settings .now) (a .first .now) (a .second .now)) (inputOf (a .start) (a .settings .now) (a .first .now) (a .second .now)) (inputOf (l .r) (l .settings) (l .first) (l .second)) (a .chunk .now) (l .i) (c .loop-test .left) (l .inv .4),
+      all-read (roomsOf (a .settings .now) (a .first .now) (a .second .now)) (readInput (a .start) (a .settings .now) (a .first .now) (a .second .now)) (readInput (l .r) (l .settings) (l .first) (l .second)) (a .chunk .now) (l .i) (c .loop-test .left) (l .inv .4),
       held-all (held (a .start) (a .settings .now) (a .first .now) (a .second .now)) (held (l .r) (l .settings) (l .first) (l .second)) (a .chunk .now) (l .i) (c .loop-test .left) (l .inv .5),
     )
 

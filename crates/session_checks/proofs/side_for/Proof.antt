@@ -2,7 +2,7 @@
 use Rattle.fst.proofs.Tests.{fails, holds}
 use Rattle.calls.specs.Checks.{sideFor}
 use Rattle.match_type.proofs.SideLaws.{side-of-call}
-use Rattle.session_checks.specs.Meaning.{settingsMeans, lentOf}
+use Rattle.session_checks.specs.Meaning.{settingsMeans, lentSlices}
 use denote.Ref.{now}
 use borrow.Author.Needs.{needs}
 use Rattle.session_checks.proofs.side_for.Statement.{statement}
@@ -27,7 +27,7 @@ returns-4 : tie.Need-returns-4
 unfolding sideFor
 returns-4 c =
     let x = c .before .before .before .before .before .before .before .before .before .before .before .args in
-    λ a1 a2. rw (holds (c .before .before .before .before .before .before .before .before .settings-ok .ensures) (c .before .before .before .before .before .before .before .if1 .left), holds (c .before .before .before .before .before .before .well-formed .ensures) (c .before .before .before .before .before .if2 .left), holds (c .before .before .before .before .well-formed2 .ensures) (c .before .before .before .if3 .left), side-of-call (settingsMeans (x .settings)) (lentOf (now (x .m1)) (now (x .m2)) a1 a2)) (c .match-type .ensures)
+    λ a1 a2. rw (holds (c .before .before .before .before .before .before .before .before .settings-ok .ensures) (c .before .before .before .before .before .before .before .if1 .left), holds (c .before .before .before .before .before .before .well-formed .ensures) (c .before .before .before .before .before .if2 .left), holds (c .before .before .before .before .well-formed2 .ensures) (c .before .before .before .if3 .left), side-of-call (settingsMeans (x .settings)) (lentSlices (now (x .m1)) (now (x .m2)) a1 a2)) (c .match-type .ensures)
 
 pub side-for-spec : {M : Type 1} → statement M
 side-for-spec =

@@ -16,7 +16,7 @@ use Rattle.fst.specs.Meaning.{onOf}
 use Rattle.lists.proofs.Runs.{run-turn, run-end, run-cut}
 use Rattle.fst_properties.proofs.Bits.{none-seen}
 use Rattle.fst_properties.proofs.Falls.{listSorted, sorted-lists, far-list}
-use Rattle.fst_properties.proofs.Walked.{fromOn, Sound, Walked, from-end, from-turn, begins, meets, goes-on}
+use Rattle.fst_properties.proofs.Walked.{fromOn, SeenSorted, Walked, from-end, from-turn, begins, meets, goes-on}
 use borrow.Author.Needs.{needs}
 use Rattle.fst_properties.proofs.properties.lists_sorted.Statement.{statement}
 use Rattle.fst_properties.proofs.properties.lists_sorted.Tie as tie
@@ -34,7 +34,7 @@ abbrev μ-list : tie.MeasureT-list
 
 abbrev Inv-states : tie.InvT-states
 Inv-states m on n seen₀ ok₀ s₀ seen ok s =
-    (ok ≡ true) × (s ≤ n) × Sound (onOf on) m seen × (every (listSorted (onOf on) m) (interval s (n - s)) ≡ sorted (onOf on) (machineOf m))
+    (ok ≡ true) × (s ≤ n) × SeenSorted (onOf on) m seen × (every (listSorted (onOf on) m) (interval s (n - s)) ≡ sorted (onOf on) (machineOf m))
 
 abbrev μ-states : tie.MeasureT-states
 μ-states m on n seen₀ ok₀ s₀ seen ok s = n - s

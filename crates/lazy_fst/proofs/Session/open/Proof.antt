@@ -6,7 +6,7 @@ use Rattle.calls.specs.Calls.{openOf}
 use Rattle.calls.proofs.ExpandKept.{sided}
 use Rattle.matchers.specs.Meaning.{allowedOf}
 use Rattle.match_type.specs.Chosen.{chosenMeans}
-use Rattle.session_checks.specs.Meaning.{settingsMeans, lentOf}
+use Rattle.session_checks.specs.Meaning.{settingsMeans, lentSlices}
 use borrow.Author.Needs.{needs}
 use Rattle.lazy_fst.proofs.Session.open.Statement.{statement}
 use Rattle.lazy_fst.proofs.Session.open.Tie as tie
@@ -14,7 +14,7 @@ use Rattle.lazy_fst.proofs.Session.open.Tie as tie
 begin-requires : tie.Need-begin-requires
 begin-requires c κs =
     let x = c .before .before .before .before .before .before .before .before .before .before .before .before .before .args in
-    let z = sided (settingsMeans (x .settings)) (lentOf (now (x .m1)) (now (x .m2)) none none) _ (sym (c .before .before .before .before .before .side-for .ensures none none) ∙ ap chosenMeans (c .before .before .before .chosen2 .given .1)) in
+    let z = sided (settingsMeans (x .settings)) (lentSlices (now (x .m1)) (now (x .m2)) none none) _ (sym (c .before .before .before .before .before .side-for .ensures none none) ∙ ap chosenMeans (c .before .before .before .chosen2 .given .1)) in
     (z .formed1, z .formed2)
 
 returns : tie.Need-returns

@@ -4,7 +4,7 @@ use Prim.Native.Nat.{ℕ, _+_, _*_}
 use denote.Ref.{now}
 use Rattle.store_records.specs.Meaning.{memoryOf}
 use Rattle.fst.proofs.Tests.{fails, holds}
-use Rattle.calls.specs.Calls.{wordsOf, placeOf}
+use Rattle.calls.specs.Calls.{wordsOfPart, placeOf}
 use Rattle.lazy_fst.specs.Meaning.{lentWith, sessionMeans}
 use Rattle.lazy_fst.proofs.CallLaws.{late-records, late-place, found-records, found-place, begins}
 use borrow.Author.Needs.{needs}
@@ -36,7 +36,7 @@ returns-3 c =
     let m = memoryOf (now (x .heads)) (now (x .states)) (now (x .trs)) in
     let is = holds (c .before .before .before .is-expanded .ensures) (c .before .before .if2 .left) in
     let part = c .before .part-of .ensures (now (x .heads)) (x .self .used .states) in (
-      c .tr-part .ensures .0 ∙ (ap (wordsOf (now (x .trs))) part ∙ (rw is at (found-records l (sessionMeans (x .self)) m (x .n .0) (c .before .before .before .before .before .before .before .before .before .before .before .before .before .before .before .pre) (c .before .before .before .before .if1 .left)))),
+      c .tr-part .ensures .0 ∙ (ap (wordsOfPart (now (x .trs))) part ∙ (rw is at (found-records l (sessionMeans (x .self)) m (x .n .0) (c .before .before .before .before .before .before .before .before .before .before .before .before .before .before .before .pre) (c .before .before .before .before .if1 .left)))),
       c .tr-part .ensures .1 ∙ ap (λ (k : ℕ). (x .trs .ptr .0, x .trs .ptr .1 + 4 * k)) (ap (placeOf (now (x .trs))) part ∙ (rw is at (found-place l (sessionMeans (x .self)) m (x .n .0) (c .before .before .before .before .before .before .before .before .before .before .before .before .before .before .before .pre) (c .before .before .before .before .if1 .left)))),
     )
 

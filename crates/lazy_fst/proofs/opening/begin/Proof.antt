@@ -11,7 +11,7 @@ use Rattle.words.specs.Sides.{nonEmpty}
 use Rattle.words.specs.Steps.{startAt}
 use Rattle.calls.specs.Store.{roomOf, stateSize, stateRoom}
 use Rattle.calls.specs.Calls.{begun, cleared}
-use Rattle.compose_fst_op.specs.Composing.{startMeans}
+use Rattle.compose_fst_op.specs.Composing.{composeStartMeans}
 use Rattle.lazy_fst.proofs.OpeningLaws.{start-packs}
 use borrow.Author.Needs.{needs}
 use Rattle.lazy_fst.proofs.opening.begin.Statement.{statement}
@@ -26,7 +26,7 @@ add-state-requires c κs =
     let x = c .before .before .before .before .before .before .before .before .before .before .before .before .before .before .before .before .before .before .args in
     let lacking = or-false (eqb (roomOf stateSize (now (x .states))) 0) (not (nonEmpty (now (x .heads)))) (sym (c .before .before .before .before .before .before .before .lacks-room .ensures) ∙ c .before .before .before .before .before .before .if1 .left) in
     let some-room : roomOf stateSize (now (x .states)) ≢ 0 = eqb-false _ _ (lacking .0) in
-    let at = sym (c .before .before .before .before .before .before .before .before .before .before .before .before .before .compute-start .ensures) ∙ ap startMeans (c .before .before .before .before .before .before .before .before .before .before .before .first .given .1) in
+    let at = sym (c .before .before .before .before .before .before .before .before .before .before .before .before .before .compute-start .ensures) ∙ ap composeStartMeans (c .before .before .before .before .before .before .before .before .before .before .before .first .given .1) in
     (omega (arith, some-room), start-packs (now (x .m1)) (now (x .m2)) _ (c .before .before .before .before .before .before .before .before .before .before .before .before .before .before .before .before .before .before .pre .0) (c .before .before .before .before .before .before .before .before .before .before .before .before .before .before .before .before .before .before .pre .1) at)
 
 returns-2 : tie.Need-returns-2
