@@ -22,7 +22,7 @@ use Rattle.words.proofs.FormLaws.{form}
 use Rattle.calls.specs.Store.{Memory, Store, stateRoom, stateField, tripleWords, tripleAt, headOf, find, chainOf, add}
 use Rattle.calls.specs.Checks.{Session, sideNumber, sideFor}
 use Rattle.calls.specs.Calls.{Outcome, cleared, begun, openOf}
-use Rattle.calls.proofs.StoreForms.{some-head}
+use Rattle.calls.proofs.StoreForms.{some-head, of-some-head}
 use Rattle.calls.proofs.ChainLaws.{add-new, add-holds}
 use Rattle.calls.proofs.OpenKept.{cleared-form}
 use Rattle.calls.proofs.ExpandKept.{sided}
@@ -72,11 +72,7 @@ module _ (s : Settings) (l : Lent) (got : Session) (m : Memory) where
 
   pub open-begun : (side : Side) (t : Triple) → sideFor s l ≡ good side → startAt (compositionOf s l side) ≡ some t → Begins m → openOf s l got m ≡ openedAs s side (add (cleared m) t)
   unfolding openOf begun
-  open-begun side t e h b = rw (e, h, ne-eqb (stateRoom m) 0 (λ z. omega (arith, z, b .room)), go (m .heads) (b .headed))
-    where
-      go : (x : List ℕ) → 0 < length x → nonEmpty x ≡ true
-      go [] i = absurd (omega arith)
-      go (y ∷ ys) i = refl
+  open-begun side t e h b = rw (e, h, ne-eqb (stateRoom m) 0 (λ z. omega (arith, z, b .room)), of-some-head (m .heads) (b .headed))
 
 -- "Opening checks 1 to 7, then 13"
 pub side-refusals : (s : Settings) (l : Lent) (k : ℕ) → sideFor s l ≡ refused k → k ≤ 7

@@ -46,7 +46,7 @@ pub some-head : (l : List ℕ) → nonEmpty l ≡ true → 0 < length l
 some-head [] e = absurd (false≢true e)
 some-head (x ∷ xs) e = omega arith
 
-of-some-head : (l : List ℕ) → 0 < length l → nonEmpty l ≡ true
+pub of-some-head : (l : List ℕ) → 0 < length l → nonEmpty l ≡ true
 of-some-head [] h = absurd (omega arith)
 of-some-head (x ∷ xs) h = refl
 

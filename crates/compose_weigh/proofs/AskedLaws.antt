@@ -8,12 +8,8 @@ use Rattle.words.specs.Labels.{Checked, good, refused}
 use Rattle.words.specs.Steps.{Triple, Step}
 use Rattle.calls.specs.Store.{sameTriple}
 use Rattle.compose_moves.specs.Walks.{gives, ends, refuses, asked}
+use Rattle.compose_moves.proofs.Collected.{asked-ends}
 use Rattle.compose_weigh.specs.Weigh.{reachedWithin}
-
-pub none-left : (l : List (Checked Step)) → ends ≡ asked l → l ≡ []
-none-left [] e = refl
-none-left (good s ∷ l) e = cc
-none-left (refused n ∷ l) e = cc
 
 pub step-left : (l : List (Checked Step)) (s : Step) (others : List (Checked Step)) → gives s others ≡ asked l → l ≡ good s ∷ others
 step-left [] s others e = cc
@@ -30,7 +26,7 @@ refusal-left (refused m ∷ l) n e = (l, cc)
 pub within-none : (t : Triple) (k : ℕ) (l : List (Checked Step)) → ends ≡ asked l → reachedWithin t k l ≡ false
 unfolding reachedWithin
 within-none t zero l e = refl
-within-none t (suc k) l e = rw (none-left l e)
+within-none t (suc k) l e = rw (asked-ends l e)
 
 pub within-refused : (t : Triple) (k : ℕ) (l : List (Checked Step)) (n : ℕ) → refuses n ≡ asked l → reachedWithin t k l ≡ false
 unfolding reachedWithin

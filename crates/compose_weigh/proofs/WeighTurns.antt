@@ -9,12 +9,13 @@ use Rattle.words.specs.Steps.{Step}
 use Rattle.calls.specs.Store.{Store, stateRoom, trRoom}
 use Rattle.compose_moves.specs.Walks.{gives, ends, refuses, asked}
 use Rattle.compose_weigh.specs.Weigh.{isNew, countState, weighFrom}
-use Rattle.compose_weigh.proofs.AskedLaws.{none-left, step-left, refusal-left}
+use Rattle.compose_moves.proofs.Collected.{asked-ends}
+use Rattle.compose_weigh.proofs.AskedLaws.{step-left, refusal-left}
 
 module _ (exact : Bool) (d : Store) (all : List (Checked Step)) (i u : ℕ) (l : List (Checked Step)) where
   pub weigh-none : ends ≡ asked l → weighFrom exact d all i u l ≡ good tt
   unfolding weighFrom
-  weigh-none e = rw (none-left l e)
+  weigh-none e = rw (asked-ends l e)
 
   pub weigh-refused : (n : ℕ) → refuses n ≡ asked l → weighFrom exact d all i u l ≡ refused n
   unfolding weighFrom

@@ -5,9 +5,7 @@ use mathlib.Core.Option.{Option}
 use Prim.Native.Nat.{ℕ, _+_, _*_, _≤_}
 use native.Mathlib.Omega.{arith}
 use lib.ListN.{length}
-use lib.Seq.{length-take-le}
 use borrow.Author.Tests.{eq-eqb, ne-eqb}
-use Rattle.io.specs.Counts.{Counts}
 use Rattle.words.specs.Labels.{good, refused}
 use Rattle.words.specs.Steps.{Triple}
 use Rattle.words.specs.Settings.{Settings, Lent}
@@ -87,6 +85,3 @@ not-six w l h = rw (ne-eqb (length w) 6 h) refl
 pub six : (w : List ℕ) (l : Lent) (s : Settings) → s ≡ settingsOf w → length w ≡ 6 → printed (openedOf s l (noSession s) emptyMemory) ≡ listingOn w l
 unfolding composedLines openedOf ranOf
 six w l s p h = rw (eq-eqb (length w) 6 h) (ap (λ (x : Settings). printed (openedOf x l (noSession x) emptyMemory)) p)
-
-pub counted : (n : ℕ) (out : List ℕ) → n ≤ length out → Counts n out
-counted n out h = (h, sym (length-take-le n out h))

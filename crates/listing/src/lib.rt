@@ -20,7 +20,7 @@ use listing_write::put_refused;
 use session_checks::SETTINGS_WORDS;
 use session_checks::read_settings;
 pub use stages::no_session;
-use stages::opened;
+use stages::open_listing;
 use store_records::STATE_SIZE;
 use store_records::TR_SIZE;
 pub use weights::found;
@@ -57,7 +57,7 @@ pub fn listing(
     let mut heads = [0u32; HEADS];
     let mut states = [0u32; STATE_WORDS];
     let mut trs = [0u32; TR_WORDS];
-    opened(
+    open_listing(
         settings,
         m1,
         m2,

@@ -13,7 +13,7 @@ ghost use Rattle.listing_write.specs.Written.{Written};
 ghost use Rattle.listing.specs.Stages.{linesFrom, Room, Sized, FewLines, ranOf, openedOf, openedMemory};
 use crate::lines::put_listing;
 use crate::weights::AllWeights;
-use crate::weights::weigh;
+use crate::weights::take_weights;
 use lazy_fst::AllowedLists;
 use lazy_fst::Answer;
 use lazy_fst::Session;
@@ -33,7 +33,7 @@ pub fn no_session(settings: Settings) -> Session
 }
 
 // Opens, and goes on.
-pub fn opened(
+pub fn open_listing(
     settings: Settings,
     m1: &[u32],
     m2: &[u32],
@@ -73,7 +73,7 @@ pub fn opened(
     );
     match answer {
         Answer::Refused(k, _) => put_refused(out, 0, k),
-        Answer::Accepted(session) => ran(
+        Answer::Accepted(session) => run_listing(
             session,
             m1,
             m2,
@@ -89,7 +89,7 @@ pub fn opened(
 }
 
 // Runs, and goes on.
-fn ran(
+fn run_listing(
     session: Session,
     m1: &[u32],
     m2: &[u32],
@@ -122,7 +122,7 @@ fn ran(
     let answer = session.run(m1, m2, allowed1, allowed2, listed, heads, states, trs);
     match answer {
         Answer::Refused(k, _) => put_refused(out, 0, k),
-        Answer::Accepted(next) => weighed(
+        Answer::Accepted(next) => weigh_listing(
             next,
             m1,
             m2,
@@ -138,7 +138,7 @@ fn ran(
 }
 
 // Takes all final weights, and only then puts a line. After the run the checks 1 to 8 pass: they are not made again.
-fn weighed(
+fn weigh_listing(
     session: Session,
     m1: &[u32],
     m2: &[u32],
@@ -166,7 +166,7 @@ fn weighed(
         ) ⌝ }
     ensures counts { λ r. ⌜ r ≤ length (now (out .exit)) ⌝ }
 {
-    let weights = weigh(
+    let weights = take_weights(
         session,
         m1,
         m2,

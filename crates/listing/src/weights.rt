@@ -36,7 +36,7 @@ pub fn found(session: Session) -> u32
 }
 
 // Takes the final weight of each found state, in number order, up to the first refusal. The checks 1 to 8 pass, and are not made.
-pub fn weigh(
+pub fn take_weights(
     session: Session,
     m1: &[u32],
     m2: &[u32],

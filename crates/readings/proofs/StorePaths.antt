@@ -21,9 +21,7 @@ use Rattle.words.specs.Steps.{Composition, startAt}
 use Rattle.words.specs.Settings.{Settings, Lent, compositionOf}
 use Rattle.words.specs.AsPapers.{exact, composedOf, plain}
 use Rattle.words.specs.Links.{Composable}
-use Rattle.words.proofs.ListLaws.{list-member}
-use Rattle.words.proofs.FormLaws.{TrForm, form}
-use Rattle.words.proofs.PapersOpened.{plain-composition, sound-of}
+use Rattle.words.proofs.PapersOpened.{plain-composition, sound-of, listed-form}
 use Rattle.words.proofs.PapersSteps.{start-as-papers}
 use Rattle.calls.specs.Checks.{sideFor}
 use Rattle.calls.specs.Sequences.{World}
@@ -38,10 +36,6 @@ use Rattle.readings.proofs.Correspondences.{chained, exchanged}
 use Rattle.readings.proofs.Listed.{readings-of}
 use Rattle.readings.proofs.PathRecords.{Whole}
 use Rattle.readings.proofs.PathFollows.{AcceptingAt, records-alike, records-moves, records-labels}
-
--- a record in a list of a well-formed machine
-tr-of : (m : List ℕ) → wellFormed m ≡ true → (q t : ℕ) → In t (listOf m q) → TrForm m t
-tr-of m ok q t i = let r = list-member m q i in form m ok .tr t (r .0) (r .1)
 
 pub whole : (s : Settings) (l : Lent) (side : Side) → sideFor s l ≡ good side → (w : World) → Sound l (compositionOf s l side) w → AllRead l w → Whole l (compositionOf s l side) w
 whole s l side rule w S R =
@@ -121,7 +115,7 @@ store-paths s l side rule w S F =
     let W = whole s l side rule w S (record { expanded = F .expanded; weighed = F .weighed }) in
     let r = readings-of c (s .filter) refl in
     let labels = records-labels l c w W (F .sigma1) (F .sigma2)
-    (λ q t i e. let h = tr-of (l .m1) (z .formed1) q t i .input in omega (arith, h, e)) (λ q t i e. let h = tr-of (l .m2) (z .formed2) q t i .output in omega (arith, h, e)) in
+    (λ q t i e. let h = listed-form (l .m1) (z .formed1) q t i .input in omega (arith, h, e)) (λ q t i e. let h = listed-form (l .m2) (z .formed2) q t i .output in omega (arith, h, e)) in
     record {
       paths = chained (exchanged (plain-runs c (W .links) (F .sigma1) (F .sigma2)) (start-records l c w W)) (in-words c (r .paths));
       weights = λ t e rs h.

@@ -215,7 +215,7 @@ fn print_end(line: &mut [u8], states: u32, trs: u32)
 }
 
 // An accepted opening: the side, the expansions, the found states, the counts.
-fn opened(
+fn print_opened(
     session: Session,
     order: &[u32],
     m1: &[u32],
@@ -290,7 +290,7 @@ fn print_in(
     );
     match answer {
         Answer::Refused(k, _) => print_refused(line, k),
-        Answer::Accepted(session) => opened(
+        Answer::Accepted(session) => print_opened(
             session,
             order,
             m1,

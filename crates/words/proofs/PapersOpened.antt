@@ -172,8 +172,9 @@ side-nonzero A B side e =
     let r = not-four (eqb (A .sigma .label) epsLabel) (eqb (B .sigma .label) epsLabel) _ e in
     (eqb-false _ _ (r .0), eqb-false _ _ (r .1))
 
-listed : (m : List ℕ) → wellFormed m ≡ true → (s t : ℕ) → In t (listOf m s) → TrForm m t
-listed m w s t i = let r = list-member m s i in form m w .tr t (r .0) (r .1)
+-- a record in a list of a well-formed machine
+pub listed-form : (m : List ℕ) → wellFormed m ≡ true → (s t : ℕ) → In t (listOf m s) → TrForm m t
+listed-form m w s t i = let r = list-member m s i in form m w .tr t (r .0) (r .1)
 
 -- the composition that an opening fixes: its machines are well formed and its side is the one that 4 to 7 leave
 pub sound-of : (s : Settings) (l : Lent) (side : Side) → wellFormed (l .m1) ≡ true → wellFormed (l .m2) ≡ true → sideOf (operand1 s l) (operand2 s l) ≡ good side
@@ -185,8 +186,8 @@ sound-of s l side w1 w2 e =
       on2 = refl;
       distinct1 = list-distinct (l .m1);
       distinct2 = list-distinct (l .m2);
-      labels1 = λ q t i d. let h = listed (l .m1) w1 q t i .output in omega arith;
-      labels2 = λ q t i d. let h = listed (l .m2) w2 q t i .input in omega arith;
+      labels1 = λ q t i d. let h = listed-form (l .m1) w1 q t i .output in omega arith;
+      labels2 = λ q t i d. let h = listed-form (l .m2) w2 q t i .input in omega arith;
       nonzero1 = n .0;
       nonzero2 = n .1;
     }

@@ -1,4 +1,4 @@
--- `opened` meets its contract: the opening's refusal, or what comes after it.
+-- `open_listing` meets its contract: the opening's refusal, or what comes after it.
 use mathlib.Core.Path.{_≡_, refl, sym, ap, _∙_}
 use native.Mathlib.Omega.{arith}
 use lib.ListN.{length}
@@ -13,14 +13,14 @@ use Rattle.listing.proofs.LineLaws.{bytes-one}
 use Rattle.listing.proofs.StageLaws.{open-refused, open-accepted, open-left, open-ran, open-few}
 use Rattle.calls.specs.Calls.{openOf}
 use Rattle.calls.specs.Checks.{Session}
-use Rattle.listing.proofs.stages.opened.Statement.{statement}
-use Rattle.listing.proofs.stages.opened.Tie as tie
+use Rattle.listing.proofs.stages.open_listing.Statement.{statement}
+use Rattle.listing.proofs.stages.open_listing.Tie as tie
 
 put-refused-requires : tie.Need-put-refused-requires
 put-refused-requires c κs = omega (arith, c .before .before .before .before .before .before .before .before .before .before .before .before .before .before .before .before .before .before .before .before .before .before .before .pre .bytes)
 
-ran-requires : tie.Need-ran-requires
-ran-requires c κs =
+run-listing-requires : tie.Need-run-listing-requires
+run-listing-requires c κs =
     let a = c .before .before .before .before .before .before .before .before .before .before .before .before .before .before .before .before .before .before .before .before .before .before .before .before .before .before .args in
     let r = c .before .before .before .before .before .before .before .before .before .before .before .before .before .«open» in
     let e = sym (ap (λ x. left x (memoryOf (r .last .1 .1 .1 .1 .1 .1 .1 .0) (r .last .1 .1 .1 .1 .1 .1 .1 .1 .0) (r .last .1 .1 .1 .1 .1 .1 .1 .1 .1 .0))) (c .before .before .before .before .before .answer2 .given .1)) ∙ r .ensures ∙ ap (λ (x : Session). openOf (settingsMeans (a .settings)) (lentWith (a .m1 .now) (a .m2 .now) (a .allowed1 .now) (a .allowed2 .now) (a .listed)) x (memoryOf (a .heads .now) (a .states .now) (a .trs .now))) (c .before .before .before .before .before .before .before .before .before .before .before .before .before .before .before .before .before .no-session .ensures) in
@@ -41,12 +41,12 @@ returns-2 : tie.Need-returns-2
 returns-2 c =
     let a = c .before .before .before .before .before .before .before .before .before .before .before .before .before .before .before .before .before .before .before .before .before .before .before .before .before .before .before .before .before .before .before .before .before .before .before .args in
     let r = c .before .before .before .before .before .before .before .before .before .before .before .before .before .before .before .before .before .before .before .before .before .before .«open» in
-    let w = c .before .before .before .before .before .before .before .before .ran in
+    let w = c .before .before .before .before .before .before .before .before .run-listing in
     let e = sym (ap (λ x. left x (memoryOf (r .last .1 .1 .1 .1 .1 .1 .1 .0) (r .last .1 .1 .1 .1 .1 .1 .1 .1 .0) (r .last .1 .1 .1 .1 .1 .1 .1 .1 .1 .0))) (c .before .before .before .before .before .before .before .before .before .before .before .before .before .before .answer2 .given .1)) ∙ r .ensures ∙ ap (λ (x : Session). openOf (settingsMeans (a .settings)) (lentWith (a .m1 .now) (a .m2 .now) (a .allowed1 .now) (a .allowed2 .now) (a .listed)) x (memoryOf (a .heads .now) (a .states .now) (a .trs .now))) (c .before .before .before .before .before .before .before .before .before .before .before .before .before .before .before .before .before .before .before .before .before .before .before .before .before .before .no-session .ensures) in
     (same-text (ap bytesOf (open-accepted (settingsMeans (a .settings)) (lentWith (a .m1 .now) (a .m2 .now) (a .allowed1 .now) (a .allowed2 .now) (a .listed)) (noSession (settingsMeans (a .settings))) (memoryOf (a .heads .now) (a .states .now) (a .trs .now)) _ e refl)) (w .ensures .0), (w .ensures .1 .0, w .ensures .1 .1 ∙ open-ran (settingsMeans (a .settings)) (lentWith (a .m1 .now) (a .m2 .now) (a .allowed1 .now) (a .allowed2 .now) (a .listed)) (noSession (settingsMeans (a .settings))) (memoryOf (a .heads .now) (a .states .now) (a .trs .now)) _ e refl))
 
-pub opened-spec : {M : Type 1} → statement M
-opened-spec =
+pub open-listing-spec : {M : Type 1} → statement M
+open-listing-spec =
     tie.close
     (tie.spec
     (λ c κs. search needs)
@@ -54,7 +54,7 @@ opened-spec =
     (λ c. search needs)
     put-refused-requires
     (λ c. search needs)
-    ran-requires
+    run-listing-requires
     (λ c. search needs)
     (λ c. search needs)
     (λ c. search needs)

@@ -1,4 +1,4 @@
--- `weigh` meets its contract. The loop's invariant: the weights from state n on give the verdict of all.
+-- `take_weights` meets its contract. The loop's invariant: the weights from state n on give the verdict of all.
 use mathlib.Core.Path.{_≡_, ap, _∙_}
 use Prim.Native.Nat.{ℕ, _-_, _≤_}
 use native.Mathlib.Omega.{arith}
@@ -7,8 +7,8 @@ use Rattle.store_records.specs.Meaning.{memoryOf}
 use Rattle.lazy_fst.specs.Meaning.{lentWith, sessionMeans}
 use Rattle.listing.specs.Stages.{verdict, weightsFrom}
 use Rattle.listing.proofs.WeightLaws.{weights-start, weights-again, weights-stop, weights-done}
-use Rattle.listing.proofs.weights.weigh.Statement.{statement}
-use Rattle.listing.proofs.weights.weigh.Tie as tie
+use Rattle.listing.proofs.weights.take_weights.Statement.{statement}
+use Rattle.listing.proofs.weights.take_weights.Tie as tie
 
 abbrev Inv-loop : tie.InvT-loop
 Inv-loop session m1 m2 allowed1 allowed2 listed heads states trs count n₀ n =
@@ -50,8 +50,8 @@ returns-2 c =
     weights-done (lentWith (a .m1 .now) (a .m2 .now) (a .allowed1 .now) (a .allowed2 .now) (a .listed)) (sessionMeans (a .session)) (memoryOf (a .heads .now) (a .states .now) (a .trs .now)) (p .n) (f .result) (verdict (weightsFrom (lentWith (a .m1 .now) (a .m2 .now) (a .allowed1 .now) (a .allowed2 .now) (a .listed)) (sessionMeans (a .session)) (memoryOf (a .heads .now) (a .states .now) (a .trs .now)) 0 (f .result))) (c .loop-test .left) (p .inv .1)
     ∙ ap (λ (k : ℕ). verdict (weightsFrom (lentWith (a .m1 .now) (a .m2 .now) (a .allowed1 .now) (a .allowed2 .now) (a .listed)) (sessionMeans (a .session)) (memoryOf (a .heads .now) (a .states .now) (a .trs .now)) 0 k)) (f .ensures)
 
-pub weigh-spec : {M : Type 1} → statement M
-weigh-spec =
+pub take-weights-spec : {M : Type 1} → statement M
+take-weights-spec =
     tie.close
     (tie.spec
     Inv-loop

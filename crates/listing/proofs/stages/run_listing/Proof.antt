@@ -1,4 +1,4 @@
--- `ran` meets its contract: the run's refusal, or what comes after it; an accepted run leaves few lines.
+-- `run_listing` meets its contract: the run's refusal, or what comes after it; an accepted run leaves few lines.
 use mathlib.Core.Path.{_≡_, refl, sym, ap, _∙_}
 use native.Mathlib.Omega.{arith}
 use lib.ListN.{length}
@@ -11,14 +11,14 @@ use Rattle.listing_text.specs.Printing.{bytesOf}
 use Rattle.listing_write.proofs.WrittenLaws.{same-text}
 use Rattle.listing.proofs.LineLaws.{bytes-one}
 use Rattle.listing.proofs.StageLaws.{ran-refused, ran-accepted, ran-few, ran-passes, lines-room}
-use Rattle.listing.proofs.stages.ran.Statement.{statement}
-use Rattle.listing.proofs.stages.ran.Tie as tie
+use Rattle.listing.proofs.stages.run_listing.Statement.{statement}
+use Rattle.listing.proofs.stages.run_listing.Tie as tie
 
 put-refused-requires : tie.Need-put-refused-requires
 put-refused-requires c κs = omega (arith, c .before .before .before .before .before .before .before .before .before .before .before .before .before .before .before .before .before .before .before .before .before .before .pre .0 .bytes)
 
-weighed-requires : tie.Need-weighed-requires
-weighed-requires c κs =
+weigh-listing-requires : tie.Need-weigh-listing-requires
+weigh-listing-requires c κs =
     let a = c .before .before .before .before .before .before .before .before .before .before .before .before .before .before .before .before .before .before .before .before .before .before .before .before .before .args in
     let r = c .before .before .before .before .before .before .before .before .before .before .before .before .before .run in
     let g = c .before .before .before .before .before .answer2 .given .1 in
@@ -42,19 +42,19 @@ returns-2 : tie.Need-returns-2
 returns-2 c =
     let a = c .before .before .before .before .before .before .before .before .before .before .before .before .before .before .before .before .before .before .before .before .before .before .before .before .before .before .before .before .args in
     let r = c .before .before .before .before .before .before .before .before .before .before .before .before .before .before .before .before .run in
-    let w = c .before .before .weighed in
+    let w = c .before .before .weigh-listing in
     let e = sym (ap (λ x. left x (memoryOf (r .last .1 .1 .1 .1 .1 .1 .0) (r .last .1 .1 .1 .1 .1 .1 .1 .0) (r .last .1 .1 .1 .1 .1 .1 .1 .1 .0))) (c .before .before .before .before .before .before .before .before .answer2 .given .1)) ∙ r .ensures in
     (same-text (ap bytesOf (ran-accepted (lentWith (a .m1 .now) (a .m2 .now) (a .allowed1 .now) (a .allowed2 .now) (a .listed)) (sessionMeans (a .session)) (memoryOf (a .heads .now) (a .states .now) (a .trs .now)) _ e refl)) (w .ensures .0), (w .ensures .1, ap (λ (x : Outcome (Unit {0})). x .memory) e))
 
-pub ran-spec : {M : Type 1} → statement M
-ran-spec =
+pub run-listing-spec : {M : Type 1} → statement M
+run-listing-spec =
     tie.close
     (tie.spec
     (λ c κs. search needs)
     (λ c. search needs)
     put-refused-requires
     (λ c. search needs)
-    weighed-requires
+    weigh-listing-requires
     (λ c. search needs)
     (λ c. search needs)
     (λ c. search needs)

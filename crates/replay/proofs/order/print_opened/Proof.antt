@@ -1,11 +1,11 @@
 -- The line has its room throughout.
 use native.Mathlib.Omega.{arith}
 use borrow.Author.Needs.{needs}
-use Rattle.replay.proofs.order.opened.Statement.{statement}
-use Rattle.replay.proofs.order.opened.Tie as tie
+use Rattle.replay.proofs.order.print_opened.Statement.{statement}
+use Rattle.replay.proofs.order.print_opened.Tie as tie
 
-pub opened-spec : {M : Type 1} → statement M
-opened-spec =
+pub print-opened-spec : {M : Type 1} → statement M
+print-opened-spec =
     tie.close
     (tie.spec
     (λ c κs. search needs)
