@@ -4,7 +4,7 @@ use mathlib.Core.List.{List, [], _∷_}
 use Prim.Native.Nat.{ℕ, _<_}
 use Rattle.words.specs.Labels.{Checked, good, refused}
 use Rattle.words.specs.Steps.{Step}
-use Rattle.calls.specs.Store.{Memory, Part as Run}
+use Rattle.calls.specs.Store.{Memory, Part}
 use Rattle.calls.specs.Checks.{Session, sideNumber}
 use Rattle.calls.specs.Calls.{Reached as Place, Outcome}
 use Rattle.store_records.specs.declared.Used.{Used}
@@ -46,6 +46,6 @@ sessionUnder o u = record { settings = optionSettings o; side = sideNumber (side
 
 -- What an expansion leaves: the new records and the session with the new used counts; or a refusal by its number in the table of "Answers" and the session that was given.
 -- The memory is that at exit.
-abbrev pub leftBy : ComposeFstOpOptions → Used → Memory → Expansion → Outcome Run
+abbrev pub leftBy : ComposeFstOpOptions → Used → Memory → Expansion → Outcome Part
 leftBy o u m (New p v) = record { answer = good (partMeans p); session = sessionUnder o v; memory = m }
 leftBy o u m (Refused n) = record { answer = refused n; session = sessionUnder o u; memory = m }

@@ -16,7 +16,7 @@ use Rattle.calls.specs.Checks.{Session, sideNumber, storeOf, entered, enteredAt
 use Rattle.calls.specs.Calls.{settle, unchanged, wordsOfPart, placeOf, expandOf, finalWeightOf, recordsOf, recordsPlace}
 use Rattle.calls.proofs.ExpandKept.{entered-is}
 use Rattle.match_type.specs.Chosen.{sideMeans}
-use Rattle.match_type.specs.declared.Side.{Side as Direction}
+use Rattle.match_type.specs.declared.Side.{Side as CodeSide}
 use Rattle.match_type.specs.declared.Chosen.{Chosen}
 use Rattle.match_type.specs.declared.Chosen.the-variants.{By}
 use Rattle.compose_store.specs.Meaning.{sessionUnder}
@@ -33,7 +33,7 @@ numbered both = refl
 
 module _ (l : Lent) where
   -- the answer of the checks 1 to 8, where it is a side, says that they pass
-  pub passes-by : (s : Latest) (m : Memory) (r : Chosen) (side : Direction) → enteredMeans (s .settings) l r ≡ entered l (sessionMeans s) m → r ≡ By side → Passes l (sessionMeans s) m
+  pub passes-by : (s : Latest) (m : Memory) (r : Chosen) (side : CodeSide) → enteredMeans (s .settings) l r ≡ entered l (sessionMeans s) m → r ≡ By side → Passes l (sessionMeans s) m
   passes-by s m r side e h = (compositionOf (settingsMeans (s .settings)) l (sideMeans side), sym e ∙ ap (enteredMeans (s .settings) l) h)
 
   same-side : (s : Session) (m : Memory) (side : Side) → entered l s m ≡ good (compositionOf (s .settings) l side) → s .side ≡ sideNumber side
@@ -41,34 +41,34 @@ module _ (l : Lent) where
       let h = entered-is l s m _ e in
       h .same ∙ ap sideNumber (sym (ap (λ (c : Composition). c .side) (h .composition)))
 
-  session-is : (s : Latest) (m : Memory) (listed : AllowedLists) (side : Direction) → entered l (sessionMeans s) m ≡ good (compositionOf (settingsMeans (s .settings)) l (sideMeans side))
+  session-is : (s : Latest) (m : Memory) (listed : AllowedLists) (side : CodeSide) → entered l (sessionMeans s) m ≡ good (compositionOf (settingsMeans (s .settings)) l (sideMeans side))
       → sessionMeans s ≡ sessionUnder (optionsOf (s .settings) listed side) (s .used)
   session-is s m listed side e =
       ap (λ (k : ℕ). record { settings = settingsMeans (s .settings); side = k; used = usedMeans (s .used) }) (same-side (sessionMeans s) m (sideMeans side) e)
 
   -- The session, and the checks 1 to 8, in the words of the composition below.
-  pub record Goes (s : Latest) (m : Memory) (listed : AllowedLists) (side : Direction) : Type 0 where
+  pub record Goes (s : Latest) (m : Memory) (listed : AllowedLists) (side : CodeSide) : Type 0 where
     pub same : sessionMeans s ≡ sessionUnder (optionsOf (s .settings) listed side) (s .used)
     pub passes : entered l (sessionUnder (optionsOf (s .settings) listed side) (s .used)) m ≡ good (compositionOf (settingsMeans (s .settings)) l (sideMeans side))
 
-  goes-on : (s : Latest) (m : Memory) (listed : AllowedLists) (side : Direction) → entered l (sessionMeans s) m ≡ good (compositionOf (settingsMeans (s .settings)) l (sideMeans side)) → Goes s m listed side
+  goes-on : (s : Latest) (m : Memory) (listed : AllowedLists) (side : CodeSide) → entered l (sessionMeans s) m ≡ good (compositionOf (settingsMeans (s .settings)) l (sideMeans side)) → Goes s m listed side
   goes-on s m listed side e =
       let q = session-is s m listed side e in
       record { same = q; passes = subst (λ (t : Session). entered l t m ≡ good (compositionOf (settingsMeans (s .settings)) l (sideMeans side))) q e }
 
   -- what the answer of the checks 1 to 8 says
-  pub goes : (s : Latest) (m : Memory) (listed : AllowedLists) (r : Chosen) (side : Direction) → enteredMeans (s .settings) l r ≡ entered l (sessionMeans s) m → r ≡ By side → Goes s m listed side
+  pub goes : (s : Latest) (m : Memory) (listed : AllowedLists) (r : Chosen) (side : CodeSide) → enteredMeans (s .settings) l r ≡ entered l (sessionMeans s) m → r ≡ By side → Goes s m listed side
   goes s m listed r side e h = goes-on s m listed side (sym e ∙ ap (enteredMeans (s .settings) l) h)
 
   -- where the checks pass, the composition is that of the side with the session's number
-  pub known : (s : Latest) (m : Memory) (side : Direction) → Passes l (sessionMeans s) m → sideMeans side ≡ sideNumbered (s .side)
+  pub known : (s : Latest) (m : Memory) (side : CodeSide) → Passes l (sessionMeans s) m → sideMeans side ≡ sideNumbered (s .side)
       → entered l (sessionMeans s) m ≡ good (compositionOf (settingsMeans (s .settings)) l (sideMeans side))
   known s m side p q =
       let h = entered-is l (sessionMeans s) m (p .0) (p .1) in
       let e : sideMeans side ≡ h .side = q ∙ ap sideNumbered (h .same) ∙ numbered (h .side) in
       p .1 ∙ ap good (h .composition ∙ ap (compositionOf (settingsMeans (s .settings)) l) (sym e))
 
-  pub goes-known : (s : Latest) (m : Memory) (listed : AllowedLists) (side : Direction) → Passes l (sessionMeans s) m → sideMeans side ≡ sideNumbered (s .side) → Goes s m listed side
+  pub goes-known : (s : Latest) (m : Memory) (listed : AllowedLists) (side : CodeSide) → Passes l (sessionMeans s) m → sideMeans side ≡ sideNumbered (s .side) → Goes s m listed side
   goes-known s m listed side p q = goes-on s m listed side (known s m side p q)
 
   -- a state that is not found yet: 9

@@ -6,13 +6,13 @@ use Rattle.words.specs.Labels.{good, refused, andThen}
 use Rattle.words.specs.Sides.{Side}
 use Rattle.words.specs.Steps.{startAt}
 use Rattle.words.specs.Settings.{Settings, Lent, compositionOf}
-use Rattle.calls.specs.Store.{Memory, Part as Run}
+use Rattle.calls.specs.Store.{Memory, Part}
 use Rattle.calls.specs.Checks.{Session as Opened, sideNumber}
 use Rattle.calls.specs.Calls.{Outcome, settle, begun, opened}
 use Rattle.matchers.specs.Meaning.{allowedOf}
 use Rattle.tr_lists.specs.Meaning.{partMeans}
 use Rattle.session_checks.specs.Meaning.{settingsMeans, lentSlices, sessionOf}
-use Rattle.match_type.specs.declared.Side.{Side as Direction}
+use Rattle.match_type.specs.declared.Side.{Side as CodeSide}
 use Rattle.compose_fst_op.specs.declared.ComposeFstOpOptions.{ComposeFstOpOptions}
 use Rattle.session_checks.specs.declared.Settings.{Settings as Six}
 use Rattle.lazy_fst.specs.declared.Session.{Session}
@@ -38,7 +38,7 @@ left (Accepted s) m = record { answer = good tt; session = sessionMeans s; memor
 left (Refused n s) m = record { answer = refused n; session = sessionMeans s; memory = m }
 
 -- what expand leaves: "their first and count"
-abbrev pub partLeft : PartAnswer → Memory → Outcome Run
+abbrev pub partLeft : PartAnswer → Memory → Outcome Part
 partLeft (APart p s) m = record { answer = good (partMeans p); session = sessionMeans s; memory = m }
 partLeft (NotExpanded n s) m = record { answer = refused n; session = sessionMeans s; memory = m }
 
@@ -49,7 +49,7 @@ weightLeft (NotFinal s) m = record { answer = good none; session = sessionMeans 
 weightLeft (NoWeight n s) m = record { answer = refused n; session = sessionMeans s; memory = m }
 
 -- the composition's settings in the code: the six settings, the side, and whether there are allowed lists
-abbrev pub optionsOf : Six → AllowedLists → Direction → ComposeFstOpOptions
+abbrev pub optionsOf : Six → AllowedLists → CodeSide → ComposeFstOpOptions
 optionsOf s listed side = record {
   kind = s .kind;
   filter = s .filter;
