@@ -4,13 +4,14 @@ use mathlib.Core.Bool.{cond}
 use mathlib.Core.List.{[]}
 use Prim.Native.Nat.{ℕ, _+_, _*_, _≤_, _<_}
 use native.Mathlib.Omega.{arith}
-use lib.Dec.{eqb}
-use borrow.Author.Tests.{le-leb, lt-leb}
+use lib.Dec.{eqb, leb}
+use borrow.Author.Tests.{le-leb, lt-leb, leb-false}
 use Rattle.words.specs.Labels.{good, refused, andThen}
 use Rattle.words.specs.Matches.{inputs, outputs}
 use Rattle.words.specs.Sides.{Side, only, both}
 use Rattle.words.specs.Settings.{Lent, compositionOf}
 use Rattle.words.specs.Steps.{Composition, finalAt}
+use Rattle.words.proofs.CheckedLaws.{past-check, past-then}
 use Rattle.calls.specs.Store.{Memory, tripleAt, expandedAt, partAt}
 use Rattle.calls.specs.Checks.{Session, sideNumber, storeOf, entered, enteredAt, Passes}
 use Rattle.calls.specs.Calls.{settle, unchanged, wordsOfPart, placeOf, expandOf, finalWeightOf, recordsOf, recordsPlace}
@@ -32,6 +33,14 @@ numbered (only outputs) = refl
 numbered both = refl
 
 module _ (l : Lent) where
+  -- the checks 1 to 9 are the checks 1 to 8, and that the state is found
+  pub at-entered : (s : Session) (m : Memory) (n : ℕ) (c : Composition) → enteredAt l s m n ≡ good c → (entered l s m ≡ good c) × (n < s .used .states)
+  unfolding enteredAt
+  at-entered s m n c e =
+      let x = past-then (entered l s m) _ c e in
+      let k = past-check (leb (s .used .states) n) 9 _ c (x .2) in
+      (x .1 ∙ k .1, leb-false _ _ (k .0))
+
   -- the answer of the checks 1 to 8, where it is a side, says that they pass
   pub passes-by : (s : Latest) (m : Memory) (r : Chosen) (side : CodeSide) → enteredMeans (s .settings) l r ≡ entered l (sessionMeans s) m → r ≡ By side → Passes l (sessionMeans s) m
   passes-by s m r side e h = (compositionOf (settingsMeans (s .settings)) l (sideMeans side), sym e ∙ ap (enteredMeans (s .settings) l) h)

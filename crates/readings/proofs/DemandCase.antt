@@ -4,7 +4,7 @@ use mathlib.Core.Path.{_≡_, refl, sym, _∙_, subst}
 use mathlib.Core.List.{List, [], _∷_, List·Memᴰ as In}
 use mathlib.Core.Logic.{inl}
 use mathlib.Core.Option.{some}
-use Prim.Native.Nat.{ℕ}
+use Prim.Native.Nat.{ℕ, _<_}
 use native.Mathlib.Omega.{arith}
 use lib.ListN.{replicate}
 use Rattle.words.specs.Labels.{good, refused}
@@ -20,10 +20,10 @@ use Rattle.calls.specs.Sequences.{World, Call, opening, expand, finalWeight, re
 use Rattle.calls.specs.Listing.{settingsOf}
 use Rattle.calls.proofs.Cases.{Holds}
 use Rattle.calls.proofs.StarCases.{plain, lend, session, world, listPart, example1, example2}
-use Rattle.readings.specs.Worlds.{worldOf, handedIn, OpeningsRefused, Sound}
-use Rattle.readings.specs.Answers.{ExpandedBy}
+use Rattle.readings.specs.Worlds.{worldOf, finalIn, handedIn, OpeningsRefused, stateAt, Sound}
+use Rattle.readings.specs.Answers.{ExpandedBy, Answers}
 use Rattle.readings.specs.Again.{replyAfter}
-use Rattle.readings.specs.Larger.{SameUntil}
+use Rattle.readings.specs.Larger.{NoShorter, SameUntil}
 use Rattle.readings.specs.StorePaths.{Finished, Paths}
 use Rattle.readings.specs.Listed.{pickOf}
 use Rattle.readings.specs.Demands.{Demand3}
@@ -80,13 +80,18 @@ saidSmall =
     ∷ answered (refusal 9) (with 3 2)
     ∷ []
 
+pub rule : sideFor set both ≡ good (only outputs)
+unfolding Holds
+rule = refl
+
+-- both memories have a head and a state record
 pub opens-large : openOf set both got large .answer ≡ good tt
 unfolding Holds
-opens-large = refl
+opens-large = opens set both got large .accepts .1 (only outputs, rule, λ t. (omega arith, omega arith))
 
 pub opens-small : openOf set both got small .answer ≡ good tt
 unfolding Holds
-opens-small = refl
+opens-small = opens set both got small .accepts .1 (only outputs, rule, λ t. (omega arith, omega arith))
 
 pub replies-large : replies both (from large) calls ≡ said
 unfolding Holds
@@ -104,10 +109,6 @@ refused-small : OpeningsRefused both (from small) calls
 unfolding Holds
 refused-small = (tt, tt)
 
-pub rule : sideFor set both ≡ good (only outputs)
-unfolding Holds
-rule = refl
-
 abbrev pub c : Composition
 c = compositionOf set both (only outputs)
 
@@ -123,9 +124,29 @@ claimed = claims large opens-large refused-large
 pub claimed-small : Demand3 set both small c (from small) calls
 claimed-small = claims small opens-small refused-small
 
+-- what it leaves: states (0, 0, 0), (1, 0, 0), (1, 1, 0), (2, 2, 0), three of them with one transition
+abbrev left : World
+left =
+    world (with 4 3) (1 ∷ 4 ∷ 3 ∷ [])
+    (0 ∷ 0 ∷ 1 ∷ 1 ∷ 0 ∷ 65536 ∷ 0 ∷ 1 ∷ 2 ∷ 0 ∷ 65537 ∷ 0 ∷ 1 ∷ 3 ∷ 0 ∷ 131074 ∷ 0 ∷ 1 ∷ 0 ∷ 2 ∷ replicate 4 8)
+    (1 ∷ 0 ∷ 1 ∷ 1 ∷ 0 ∷ 0 ∷ 7 ∷ 4 ∷ 2 ∷ 0 ∷ 2 ∷ 8 ∷ 3 ∷ 3 ∷ 0 ∷ replicate 2 6)
+
+pub left-there : after both (from large) calls ≡ left
+unfolding Holds
+left-there = refl
+
 -- its world at the end is sound
 pub sound-there : Sound both c (after both (from large) calls)
 sound-there = claimed .sound calls [] refl
+
+-- its states have one number each
+pub one-number : (i j : ℕ) → i < 4 → j < 4 → stateAt left i ≡ stateAt left j → i ≡ j
+one-number = subst (Sound both c) left-there sound-there .distinct
+
+-- state 3 has document 01's final weight
+pub final-there : finalIn both left 3 .answer ≡ good (some 3)
+unfolding Holds
+final-there = subst (Answers both c) left-there (claimed .answers calls [] refl) .finals 3 (omega arith)
 
 -- state 1, expanded in the run, has its words again at the end
 pub again-there : handedIn both (after both (from large) calls) 1 ≡ 0 ∷ 7 ∷ 4 ∷ 2 ∷ 0 ∷ []
@@ -141,17 +162,6 @@ pub given-there : (t : Session) × (replyAfter both (from large) (expand 0 ∷ o
 unfolding Holds
 given-there = claimed .given [] (opening (settingsOf (plain 2 0)) both ∷ run ∷ records 1 ∷ []) (finalWeight 3 ∷ []) (expand 0) refl
 
--- what it leaves: states (0, 0, 0), (1, 0, 0), (1, 1, 0), (2, 2, 0), three of them with one transition
-abbrev left : World
-left =
-    world (with 4 3) (1 ∷ 4 ∷ 3 ∷ [])
-    (0 ∷ 0 ∷ 1 ∷ 1 ∷ 0 ∷ 65536 ∷ 0 ∷ 1 ∷ 2 ∷ 0 ∷ 65537 ∷ 0 ∷ 1 ∷ 3 ∷ 0 ∷ 131074 ∷ 0 ∷ 1 ∷ 0 ∷ 2 ∷ replicate 4 8)
-    (1 ∷ 0 ∷ 1 ∷ 1 ∷ 0 ∷ 0 ∷ 7 ∷ 4 ∷ 2 ∷ 0 ∷ 2 ∷ 8 ∷ 3 ∷ 3 ∷ 0 ∷ replicate 2 6)
-
-pub left-there : after both (from large) calls ≡ left
-unfolding Holds
-left-there = refl
-
 finished-left : Finished set both left
 unfolding Holds finishedTest
 finished-left = test-finished set both left refl
@@ -163,12 +173,20 @@ finished-there = subst (Finished set both) (sym left-there) finished-left
 pub paths-there : Paths both c (pickOf 0) (after both (from large) calls)
 paths-there = claimed .paths finished-there
 
+-- the opening is accepted in the larger memory by the smaller one's claim, and hands back the same session
+more : NoShorter small large
+more = record { heads = omega arith; states = omega arith; trs = omega arith }
+
+pub opens-too : (openOf set both got large .answer ≡ good tt) × (openOf set both got large .session ≡ with 1 0)
+unfolding Holds
+opens-too = let r = claimed-small .larger got large more in (r .accepted, r .session)
+
 -- the smaller memory's answers, up to its 13, are the larger one's
 pub same-there : SameUntil saidSmall said
 same-there =
     subst (λ x. SameUntil x said) replies-small
     (subst (SameUntil (replies both (from small) calls)) replies-large
-    (claimed-small .larger got large (record { heads = omega arith; states = omega arith; trs = omega arith }) .same))
+    (claimed-small .larger got large more .same))
 
 -- none of its answers is an 8
 pub eight-there : (t : Session) → In (answered (refusal 8) t) saidSmall → ⊥

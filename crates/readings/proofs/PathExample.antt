@@ -2,8 +2,9 @@
 -- accepting and no others, and their pairs, labels and weights are computed: those of the four pairs of Example, each once. Costs with filter sequence; counts
 -- with alternate; costs with match under "both", where a transition of machine 1 costs MAX.
 use mathlib.Core.Path.{_≡_, refl, sym, _∙_, subst}
-use mathlib.Core.List.{List, [], _∷_, map, List·Memᴰ as In}
+use mathlib.Core.List.{List, [], _∷_, map, List·Memᴰ as In, List·Memᴰ·head as here}
 use mathlib.Core.Logic.{_↔_}
+use mathlib.Core.Option.{some}
 use Prim.Native.Nat.{ℕ}
 use lib.ListN.{replicate}
 use Rattle.papers.specs.Weight.{finite, infinite, semiring}
@@ -11,6 +12,7 @@ use Rattle.papers.specs.Paths.{word}
 use Rattle.words.specs.Labels.{MAX, good}
 use Rattle.words.specs.Matches.{outputs}
 use Rattle.words.specs.Sides.{Side, only, both}
+use Rattle.words.specs.Steps.{Composition, startAt}
 use Rattle.words.specs.Settings.{Settings, Lent, compositionOf}
 use Rattle.words.proofs.CheckedLaws.{good-is}
 use Rattle.calls.specs.Checks.{sideFor}
@@ -18,12 +20,12 @@ use Rattle.calls.specs.Calls.{openOf}
 use Rattle.calls.specs.Sequences.{World, opening, run, callOf, after}
 use Rattle.calls.specs.Listing.{settingsOf}
 use Rattle.calls.proofs.Cases.{Holds}
-use Rattle.calls.proofs.StarCases.{plain, lend, session, world}
+use Rattle.calls.proofs.StarCases.{plain, lend, session, triple, world}
 use Rattle.readings.specs.Places.{placeAmong}
 use Rattle.readings.specs.Merge.{mergeUpTo}
 use Rattle.readings.specs.Listed.{goods, listedAt, pickOf}
 use Rattle.readings.specs.Worlds.{inputOf, outputOf}
-use Rattle.readings.specs.StorePaths.{Finished, AcceptingRecords, movesOfRecords, recordsOfMoves, pairOfRecords, recordsOfPair, recordsWeight, Paths}
+use Rattle.readings.specs.StorePaths.{Finished, AcceptingRecords, machine1, machine2, weightFrom, movesOfRecords, recordsOfMoves, pairOfRecords, recordsOfPair, recordsWeight, Paths}
 use Rattle.readings.proofs.Example.{words1, words2, long, short}
 use Rattle.readings.proofs.StoreWalks.{finishedTest, test-finished, walks, shallow, just-walks}
 use Rattle.readings.proofs.Demands.{demand-3}
@@ -165,3 +167,26 @@ costs-by-match = record {
   their-outputs = refl;
   their-weights = refl;
 }
+
+-- So the pair of the first of its paths weighs infinite, by the claim; it reads 3 and writes 7 8.
+abbrev c3 : Composition
+c3 = compositionOf (settingsOf (plain 0 2)) (lend words1max words2marked) both
+
+first3 : AcceptingRecords (lend words1max words2marked) left3 (1 ∷ 5 ∷ [])
+first3 = costs-by-match .just-these (1 ∷ 5 ∷ []) .1 (here refl)
+
+start3 : startAt c3 ≡ some (triple 0 0 0)
+unfolding Holds
+start3 = refl
+
+pub pair-weighs : semiring (c3 .kind) .times (weightFrom c3 (machine1 c3) 0 short) (weightFrom c3 (machine2 c3) 0 long) ≡ infinite
+unfolding Holds movesOfRecords listedAt goods
+pair-weighs = sym (paths-of costs-by-match .weights (triple 0 0 0) start3 (1 ∷ 5 ∷ []) first3)
+
+pub pair-reads : word (map (machine1 c3 .input) short) ≡ 3 ∷ []
+unfolding Holds movesOfRecords listedAt goods word
+pair-reads = sym (paths-of costs-by-match .inputs (1 ∷ 5 ∷ []) first3)
+
+pub pair-writes : word (map (machine2 c3 .output) long) ≡ 7 ∷ 8 ∷ []
+unfolding Holds movesOfRecords listedAt goods word
+pair-writes = sym (paths-of costs-by-match .outputs (1 ∷ 5 ∷ []) first3)

@@ -1,6 +1,6 @@
 -- Demand 3c: "After the list, with no sigma label set, once all found states are expanded and no found state's final weight would be refused: accepting paths
--- (final weight not zero) correspond one to one, paired as in document 01, with all pairs of accepting paths whose inner labels (outputs of the first, inputs of
--- the second) agree, epsilons left out, and weigh the product of both."
+-- (final weight not zero) correspond one to one, paired as in document 01, with all pairs of accepting paths whose inner labels (outputs of the first, inputs
+-- of the second) agree, epsilons left out, and weigh the product of both."
 use mathlib.Core.Path.{_≡_}
 use mathlib.Core.Bool.{Bool}
 use mathlib.Core.List.{List, [], _∷_, map, List·Memᴰ}
