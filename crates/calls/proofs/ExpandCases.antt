@@ -87,7 +87,7 @@ step-refused d next st k e =
     (stop-if (leb (trRoom (d .memory)) (d .used .trs)) 13 _ k e)
 
 -- steps are refused by 13, or by a refusal among them
-stored-refused : (d : Store) (steps : List (Checked Step)) (k : ℕ) → storeSteps d steps ≡ refused k → (k ≡ 13) ⊎ In (refused k) steps
+pub stored-refused : (d : Store) (steps : List (Checked Step)) (k : ℕ) → storeSteps d steps ≡ refused k → (k ≡ 13) ⊎ In (refused k) steps
 unfolding storeSteps
 stored-refused d [] k e = absurd (good≢refused e)
 stored-refused d (refused n ∷ others) k e = inr (here (ap refused (refused-is (sym e))))

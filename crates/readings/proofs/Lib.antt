@@ -16,8 +16,8 @@ pub mod PathRecords
 pub mod PathFollows
 pub mod Refused
 pub mod StorePaths
-pub mod StoreWalks
 pub mod WordPaths
+pub mod StoreWalks
 pub mod Grows
 pub mod Expansions
 pub mod CallsKept

@@ -1,40 +1,26 @@
--- Why the expansion of a found state is refused: a refusal stands in 01's list of its steps, or a record is lacking.
-use mathlib.Core.Path.{_≡_, refl, sym, _∙_, ap}
-use mathlib.Core.List.{List, [], _∷_, _++_, map, List·Memᴰ as In, List·Memᴰ·not-nil, List·Memᴰ·cases-cons, nil≢cons, head-eq-of-cons-eq, tail-eq-of-cons-eq}
-use mathlib.Core.Logic.{⊎-elim, inl, inr}
-use Prim.Native.Nat.{ℕ, _<_, _≤_}
+-- Why the expansion of a found state is refused, but for a record that is lacking: a refusal stands in 01's list of its steps.
+use mathlib.Core.Path.{_≡_, refl, _∙_, ap}
+use mathlib.Core.List.{List·Memᴰ as In, List·Memᴰ·not-nil, List·Memᴰ·cases-cons}
+use mathlib.Core.Logic.{_≢_, ⊎-elim}
+use Prim.Native.Nat.{ℕ}
 use native.Mathlib.Omega.{arith}
-use lib.ListN.{length, length-map}
 use Rattle.lists.proofs.Places.{at-in, in-at}
-use Rattle.papers.specs.Composition.{Triple, Edges, KeptMove}
-use Rattle.words.specs.Labels.{Checked, good, refused, andThen}
+use Rattle.papers.specs.Composition.{Edges, KeptMove}
+use Rattle.words.specs.Labels.{Checked, good, refused}
 use Rattle.words.specs.Matches.{MatchType}
 use Rattle.words.specs.Sides.{Side}
-use Rattle.words.specs.Steps.{Composition, Kept, Step, keptAt, stepOf, stepsAt}
+use Rattle.words.specs.Steps.{Composition, keptAt, stepsAt}
 use Rattle.words.specs.Settings.{Settings, Lent, compositionOf}
 use Rattle.words.specs.AsPapers.{TooLarge, edgesOf, composedOf, directionOf, WalkedSigma, weightBy}
 use Rattle.words.proofs.CheckedLaws.{refused-is, good≢refused}
 use Rattle.words.proofs.PapersOpened.{kept-as-papers, kept-refused, direction-refused, at-direction, sound-of}
 use Rattle.words.proofs.PapersSteps.{opened-as-papers}
 use Rattle.calls.specs.Checks.{storeOf, sideFor, entered}
-use Rattle.calls.specs.Calls.{expandOf}
 use Rattle.calls.specs.Sequences.{World}
 use Rattle.calls.proofs.ExpandKept.{sided}
-use Rattle.calls.proofs.ExpandCases.{by-expand}
-use Rattle.calls.proofs.StepsLack.{Short, Lacking, steps-lack}
-use Rattle.readings.specs.Listed.{goods, entryOf, listedAt}
-use Rattle.readings.specs.Worlds.{stateAt}
-use Rattle.readings.specs.StorePaths.{movesIn}
-use Rattle.readings.specs.Follows.{RefusedFor, undirected, walked-sigma, too-large, no-room}
-
--- as many steps as stand before any refusal come from as many kept moves
-few : (c : Composition) (s : Triple) (vs : List (Checked Kept)) (steps : List Step) (later : List (Checked Step)) → map (λ v. andThen v (stepOf c s)) vs ≡ map good steps ++ later
-    → length steps ≤ length (goods vs)
-unfolding goods
-few c s vs [] later e = omega arith
-few c s [] (t ∷ steps) later e = absurd (nil≢cons e)
-few c s (refused n ∷ vs) (t ∷ steps) later e = absurd (good≢refused (sym (head-eq-of-cons-eq e)))
-few c s (good v ∷ vs) (t ∷ steps) later e = let r = few c s vs steps later (tail-eq-of-cons-eq e) in omega (arith, r)
+use Rattle.calls.proofs.ExpandCases.{by-expand, stored-refused}
+use Rattle.readings.specs.Worlds.{expandIn, UsedState, stateAt}
+use Rattle.readings.specs.Follows.{RefusedFor, undirected, walked-sigma, too-large}
 
 module _ (s : Settings) (l : Lent) (side : Side) (rule : sideFor s l ≡ good side) (w : World) where
   abbrev c : Composition
@@ -60,21 +46,11 @@ module _ (s : Settings) (l : Lent) (side : Side) (rule : sideFor s l ≡ good si
           too-large (h .0) (edgesOf (v .move)) (v .next) (at-direction c (stateAt w n) d e (edgesOf (v .move)) (v .next) .1 listed) (h .1 .2))
           (opened-as-papers s l side (z .formed1) (z .formed2) (z .rule) (stateAt w n) d e .refusals (p .0) k (p .1))
 
-  -- a record that is lacking
-  lacking : (n k : ℕ) → k ≡ 13 → Lacking (storeOf (w .session) (w .memory)) (stepsAt c (stateAt w n)) → RefusedFor c w n k
-  unfolding stepsAt listedAt
-  lacking n k e h =
-      let b = few c (stateAt w n) (keptAt c (stateAt w n)) (h .0) (h .1) (h .2) in
-      let m : length (movesIn c w n) ≡ length (goods (keptAt c (stateAt w n))) = length-map (goods (keptAt c (stateAt w n))) entryOf in
-      no-room e (⊎-elim (λ x. inl (omega (arith, x, b, m))) (λ x. inr (omega (arith, x, b, m))) (h .3))
-
-  pub refused-for : entered l (w .session) (w .memory) ≡ good c → (n : ℕ) → n < w .session .used .states → (k : ℕ) → expandOf l (w .session) (w .memory) n .answer ≡ refused k → RefusedFor c w n k
-  refused-for enters n u k =
+  pub refused-for : entered l (w .session) (w .memory) ≡ good c → (n : ℕ) → UsedState w n → (k : ℕ) → k ≢ 13 → expandIn l w n .answer ≡ refused k → RefusedFor c w n k
+  refused-for enters n u k other =
       by-expand l (w .session) (w .memory) c enters n (λ o. o .answer ≡ refused k → RefusedFor c w n k)
       (λ a e. absurd (omega (arith, a, u))) (λ a x e. absurd (good≢refused e))
-      (λ a b j y e.
-      ⊎-elim (in-list n k) (λ h. lacking n k (h .0) (h .1))
-      (steps-lack (storeOf (w .session) (w .memory)) (stepsAt c (stateAt w n)) k (y ∙ ap refused (refused-is e))))
+      (λ a b j y e. ⊎-elim (λ h. absurd (other h)) (in-list n k) (stored-refused (storeOf (w .session) (w .memory)) (stepsAt c (stateAt w n)) k (y ∙ ap refused (refused-is e))))
       (λ a b d g e. absurd (good≢refused e))
 
 -- what each number says
@@ -83,22 +59,13 @@ module _ (c : Composition) (w : World) (n : ℕ) where
   says-ten (undirected e h) = h
   says-ten (walked-sigma e d r h) = absurd (omega (arith, e))
   says-ten (too-large e m g r h) = absurd (omega (arith, e))
-  says-ten (no-room e h) = absurd (omega (arith, e))
 
   pub says-eleven : RefusedFor c w n 11 → (d : MatchType) × (directionOf c (stateAt w n) ≡ good d) × WalkedSigma d (c .operand1) (c .operand2) (stateAt w n .s1) (stateAt w n .s2)
   says-eleven (undirected e h) = absurd (omega (arith, e))
   says-eleven (walked-sigma e d r h) = (d, r, h)
   says-eleven (too-large e m g r h) = absurd (omega (arith, e))
-  says-eleven (no-room e h) = absurd (omega (arith, e))
 
   pub says-twelve : RefusedFor c w n 12 → (m : Edges) × (g : ℕ) × KeptMove (composedOf c) (stateAt w n) m g × TooLarge (c .kind) (weightBy c m)
   says-twelve (undirected e h) = absurd (omega (arith, e))
   says-twelve (walked-sigma e d r h) = absurd (omega (arith, e))
   says-twelve (too-large e m g r h) = (m, g, r, h)
-  says-twelve (no-room e h) = absurd (omega (arith, e))
-
-  pub says-thirteen : RefusedFor c w n 13 → Short (storeOf (w .session) (w .memory)) (length (movesIn c w n))
-  says-thirteen (undirected e h) = absurd (omega (arith, e))
-  says-thirteen (walked-sigma e d r h) = absurd (omega (arith, e))
-  says-thirteen (too-large e m g r h) = absurd (omega (arith, e))
-  says-thirteen (no-room e h) = h

@@ -4,7 +4,7 @@ use mathlib.Core.Path.{_≡_, refl, sym, _∙_, ap, subst}
 use mathlib.Core.List.{List, [], _∷_, List·Memᴰ·head as here}
 use mathlib.Core.Logic.{_⊎_}
 use mathlib.Core.Option.{none, some}
-use Prim.Native.Nat.{ℕ, zero, suc, _+_, _<_, _≤_}
+use Prim.Native.Nat.{ℕ, zero, suc, _<_, _≤_}
 use native.Mathlib.Omega.{arith}
 use lib.ListN.{length, replicate}
 use Rattle.papers.specs.Weight.{finite, tropical, cost}
@@ -16,7 +16,7 @@ use Rattle.words.specs.Matches.{MatchType, inputs}
 use Rattle.words.specs.Sides.{only}
 use Rattle.words.specs.Steps.{Composition}
 use Rattle.words.specs.Settings.{Settings, Lent, compositionOf}
-use Rattle.words.specs.AsPapers.{exact, composedOf, directionOf, endWeight}
+use Rattle.words.specs.AsPapers.{exact, composedOf, directionOf, WalkedSigma, endWeight}
 use Rattle.words.specs.Links.{NoEnd}
 use Rattle.words.proofs.CheckedLaws.{good-is}
 use Rattle.calls.specs.Store.{Memory, Part, trField}
@@ -31,10 +31,10 @@ use Rattle.readings.specs.Listed.{goods, listedAt}
 use Rattle.readings.specs.Places.{placeAmong}
 use Rattle.readings.specs.Readings.{at, filteredBy}
 use Rattle.readings.specs.Worlds.{worldOf, OpeningsRefused, stateAt, targetOf}
-use Rattle.readings.specs.StorePaths.{AcceptingRecords, movesIn, movesOfRecords, recordsOfMoves}
-use Rattle.readings.specs.Follows.{IsTransition, PapersList, AllRead}
+use Rattle.readings.specs.StorePaths.{AcceptingRecords, movesIn, movesOfRecords, recordsOfMoves, AllRead}
+use Rattle.readings.specs.Follows.{IsTransition, PapersList}
 use Rattle.readings.specs.Demands.{Demand2}
-use Rattle.readings.proofs.Refused.{says-thirteen}
+use Rattle.readings.proofs.Refused.{says-eleven}
 use Rattle.readings.proofs.Demand2.{demand-2}
 
 abbrev lent : Lent
@@ -181,20 +181,25 @@ pub from-any : (q1 q2 : ℕ) → AcceptingMoves tropical (exact cost) (filteredB
     → AcceptingMoves tropical (exact cost) (composedOf c) (at q1 q2) (bySigma ∷ [])
 from-any q1 q2 h = second-claim .filters .1 q1 q2 (bySigma ∷ []) .1 h
 
--- room for one transition where two moves are kept: 13, and the room is short
-abbrev tight : World
-tight = world (session asked 0 1 0) (1 ∷ 0 ∷ []) (0 ∷ 0 ∷ 0 ∷ 0 ∷ 0 ∷ 8 ∷ 8 ∷ 8 ∷ 8 ∷ 8 ∷ 8 ∷ []) (replicate 9 8)
+-- machine 1 with the output 9 in the place of 8: a walked label is sigma, and the expansion is refused by 11
+abbrev walking : Lent
+walking = lend (2 ∷ 2 ∷ 1 ∷ 0 ∷ 0 ∷ 0 ∷ 1 ∷ 0 ∷ 0 ∷ 0 ∷ 1 ∷ 0 ∷ 5 ∷ 6 ∷ 2 ∷ 1 ∷ 2 ∷ 5 ∷ 9 ∷ 3 ∷ 1 ∷ 0 ∷ []) (lent .m2)
 
-opens-tight : openOf set lent got (record { heads = 9 ∷ 9 ∷ []; states = replicate 11 8; trs = replicate 9 8 }) .answer ≡ good tt
+opens-walking : openOf set walking got memory .answer ≡ good tt
 unfolding Holds
-opens-tight = refl
+opens-walking = refl
 
-pub third-claim : Demand2 set lent c tight
+rule-walking : sideFor set walking ≡ good (only inputs)
+unfolding Holds
+rule-walking = refl
+
+pub third-claim : Demand2 set walking (compositionOf set walking (only inputs)) opened
 unfolding Holds
 third-claim =
-    let r = demand-2 set lent got (record { heads = 9 ∷ 9 ∷ []; states = replicate 11 8; trs = replicate 9 8 }) opens-tight in
-    subst (λ x. Demand2 set lent (compositionOf set lent x) tight) (good-is (sym (r .1) ∙ rule)) (r .2 [] tt)
+    let r = demand-2 set walking got memory opens-walking in
+    subst (λ x. Demand2 set walking (compositionOf set walking x) opened) (good-is (sym (r .1) ∙ rule-walking)) (r .2 [] tt)
 
-pub short : (1 < 0 + 2) ⊎ (2 < 1 + 2)
-unfolding Holds listedAt goods
-short = says-thirteen c tight 0 (third-claim .refusals 0 13 (omega arith) refl)
+pub walked : (d : MatchType) × (directionOf (compositionOf set walking (only inputs)) (triple 0 0 0) ≡ good d)
+    × WalkedSigma d (compositionOf set walking (only inputs) .operand1) (compositionOf set walking (only inputs) .operand2) 0 0
+unfolding Holds
+walked = says-eleven (compositionOf set walking (only inputs)) opened 0 (third-claim .refusals 0 11 (omega arith) (λ e. omega (arith, e)) refl)

@@ -3,7 +3,7 @@
 -- from the start.
 use mathlib.Core.Path.{_≡_, refl, sym, _∙_, ap, subst}
 use mathlib.Core.Bool.{Bool, true}
-use mathlib.Core.List.{List, [], _∷_, List·Memᴰ as In}
+use mathlib.Core.List.{List, [], _∷_, map, List·Memᴰ as In}
 use mathlib.Core.Logic.{_↔_}
 use mathlib.Core.Option.{none, some, Option·none-ne-some}
 use Prim.Native.Nat.{ℕ, _<_}
@@ -21,21 +21,27 @@ use Rattle.words.specs.Steps.{Composition, startAt}
 use Rattle.words.specs.Settings.{Settings, Lent, compositionOf}
 use Rattle.words.specs.AsPapers.{exact, composedOf, plain}
 use Rattle.words.specs.Links.{Composable}
-use Rattle.words.proofs.PapersOpened.{plain-composition, sound-of, listed-form}
+use Rattle.words.proofs.ListLaws.{list-member}
+use Rattle.words.proofs.FormLaws.{TrForm, form}
+use Rattle.words.proofs.PapersOpened.{plain-composition, sound-of}
 use Rattle.words.proofs.PapersSteps.{start-as-papers}
 use Rattle.calls.specs.Checks.{sideFor}
 use Rattle.calls.specs.Sequences.{World}
 use Rattle.calls.proofs.ExpandKept.{sided}
 use Rattle.readings.specs.Correspondence.{OneToOne}
-use Rattle.readings.specs.Readings.{pairOf, Pair}
+use Rattle.readings.specs.Readings.{Pair}
 use Rattle.readings.specs.Listed.{pickOf}
 use Rattle.readings.specs.Worlds.{stateAt, Found, at-start, as-target, Sound}
-use Rattle.readings.specs.StorePaths.{AgreeingPair, AcceptingRecords, movesOfRecords, recordsOfMoves, recordsOfPair, Paths, Finished}
-use Rattle.readings.specs.Follows.{AllRead, PapersPaths}
+use Rattle.readings.specs.StorePaths.{AgreeingPair, AcceptingRecords, movesOfRecords, recordsOfMoves, recordsOfPair, Paths, Finished, AllRead}
+use Rattle.readings.specs.Follows.{PapersPaths}
 use Rattle.readings.proofs.Correspondences.{chained, exchanged}
 use Rattle.readings.proofs.Listed.{readings-of}
 use Rattle.readings.proofs.PathRecords.{Whole}
 use Rattle.readings.proofs.PathFollows.{AcceptingAt, records-alike, records-moves, records-labels}
+
+-- a record in a list of a well-formed machine
+tr-of : (m : List ℕ) → wellFormed m ≡ true → (q t : ℕ) → In t (listOf m q) → TrForm m t
+tr-of m ok q t i = let r = list-member m q i in form m ok .tr t (r .0) (r .1)
 
 pub whole : (s : Settings) (l : Lent) (side : Side) → sideFor s l ≡ good side → (w : World) → Sound l (compositionOf s l side) w → AllRead l w → Whole l (compositionOf s l side) w
 whole s l side rule w S R =
@@ -72,19 +78,6 @@ module _ (l : Lent) (c : Composition) (w : World) (W : Whole l c w) where
           let f = from-start (h .0) (start-as-papers c (h .0) .1 (h .1)) in
           (f .0, subst (λ q. AcceptingAt c q ms) (sym (f .1)) (h .2))
 
--- the pairs that match, in the demand's words
-in-words : (c : Composition) {join : List ℕ × List ℕ → List Edges} → OneToOne (AcceptingRun (semiring (c .kind)) (exact (c .kind)) (plain c)) (Pair (semiring (c .kind)) (exact (c .kind)) _≡_ (plain c)) pairOf join
-    → OneToOne (AcceptingRun (semiring (c .kind)) (exact (c .kind)) (plain c)) (AgreeingPair c) pairOf join
-in-words c r = record {
-  goes = λ ms h. let p = r .goes ms h in record { first = p .0; second = p .1; inner = agree-equal _ _ .0 (p .2) };
-  comes = λ p h. r .comes p (matching p h);
-  from-to = r .from-to;
-  to-from = λ p h. r .to-from p (matching p h);
-}
-  where
-    matching : (p : List ℕ × List ℕ) → AgreeingPair c p → Pair (semiring (c .kind)) (exact (c .kind)) _≡_ (plain c) p
-    matching p h = (h .first, h .second, agree-equal _ _ .1 (h .inner))
-
 -- 2b, of every sound store whose states are all expanded and weighed, sigma set or not
 pub papers-paths : (s : Settings) (l : Lent) (side : Side) → sideFor s l ≡ good side → (w : World) → Sound l (compositionOf s l side) w → AllRead l w
     → PapersPaths l (compositionOf s l side) w
@@ -106,18 +99,24 @@ module _ (c : Composition) (P : Composable c) (none1 : c .operand1 .sigma .label
   plain-runs : (ms : List Edges) → AcceptingRun (semiring (c .kind)) (exact (c .kind)) (composedOf c) ms ↔ AcceptingRun (semiring (c .kind)) (exact (c .kind)) (plain c) ms
   plain-runs ms = (λ h. (h .0, h .1, plain-moves ms (h .0) .0 (h .2)), λ h. (h .0, h .1, plain-moves ms (h .0) .1 (h .2)))
 
+-- the pairs that match, in the demand's words
+agreeing : (c : Composition) (p : List ℕ × List ℕ) → Pair (semiring (c .kind)) (exact (c .kind)) _≡_ (plain c) p ↔ AgreeingPair c p
+agreeing c p =
+    let m = agree-equal (word (map (c .operand1 .machine .output) (p .0))) (word (map (c .operand2 .machine .input) (p .1))) in
+    (λ h. record { first = h .0; second = h .1; inner = m .0 (h .2) }, λ h. (h .first, h .second, m .1 (h .inner)))
+
 -- 3c, of every sound and finished store: whichever the filter, the side and the order of the lists
 pub store-paths : (s : Settings) (l : Lent) (side : Side) → sideFor s l ≡ good side → (w : World) → Sound l (compositionOf s l side) w → Finished s l w
     → Paths l (compositionOf s l side) (pickOf (s .filter)) w
 store-paths s l side rule w S F =
     let c = compositionOf s l side in
     let z = sided s l side rule in
-    let W = whole s l side rule w S (record { expanded = F .expanded; weighed = F .weighed }) in
+    let W = whole s l side rule w S (F .read) in
     let r = readings-of c (s .filter) refl in
     let labels = records-labels l c w W (F .sigma1) (F .sigma2)
-    (λ q t i e. let h = listed-form (l .m1) (z .formed1) q t i .input in omega (arith, h, e)) (λ q t i e. let h = listed-form (l .m2) (z .formed2) q t i .output in omega (arith, h, e)) in
+    (λ q t i e. let h = tr-of (l .m1) (z .formed1) q t i .input in omega (arith, h, e)) (λ q t i e. let h = tr-of (l .m2) (z .formed2) q t i .output in omega (arith, h, e)) in
     record {
-      paths = chained (exchanged (plain-runs c (W .links) (F .sigma1) (F .sigma2)) (start-records l c w W)) (in-words c (r .paths));
+      paths = chained (exchanged (plain-runs c (W .links) (F .sigma1) (F .sigma2)) (start-records l c w W)) (exchanged (agreeing c) (r .paths));
       weights = λ t e rs h.
           records-alike l c w W 0 (h .0) rs (h .1) .weight
           ∙ ap (λ (q : Triple). movesWeight (semiring (c .kind)) (exact (c .kind)) (composedOf c) (q .s1) (q .s2) (movesOfRecords c w 0 rs)) (S .start t e)

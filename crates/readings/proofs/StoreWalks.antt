@@ -62,8 +62,10 @@ test-finished s l w e =
     record {
       sigma1 = eqb-true _ _ (and-left (eqb (s .sigma1) noLabel) _ sigmas);
       sigma2 = eqb-true _ _ (and-right (eqb (s .sigma1) noLabel) _ sigmas);
-      expanded = λ n i. test-expanded w n (and-left (expandedTest w n) _ (each n i));
-      weighed = λ n i. good-is (finalIn l w n .answer) (and-right (expandedTest w n) _ (each n i));
+      read = record {
+        expanded = λ n i. test-expanded w n (and-left (expandedTest w n) _ (each n i));
+        weighed = λ n i. good-is (finalIn l w n .answer) (and-right (expandedTest w n) _ (each n i));
+      };
     }
 
 module _ (l : Lent) (w : World) where

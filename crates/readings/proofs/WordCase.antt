@@ -1,14 +1,15 @@
 -- A closed instance of demand 2 without sigma, under count: the store that an opening and a run leave for two machines of which the first has the paths 1:5, 1:5, 1:6 and the second
 -- 5:9, 6:9, 6:9. The four composed paths 1:9 weigh 10, 15, 4 and 28, together 57; over the middle words, (2 + 3) × 5 + 4 × (1 + 7).
 use mathlib.Core.Path.{_≡_, refl, sym, _∙_, ap, subst}
-use mathlib.Core.List.{List, [], _∷_, List·Memᴰ as In, List·Memᴰ·head as here, List·Memᴰ·tail as there, List·Memᴰ·not-nil, List·Memᴰ·cases-cons, head-eq-of-cons-eq}
+use mathlib.Core.List.{List, [], _∷_, List·Memᴰ as In, List·Memᴰ·head as here, List·Memᴰ·tail as there, List·Memᴰ·not-nil, List·Memᴰ·cases-cons}
 use mathlib.Core.Logic.{⊎-elim}
 use mathlib.Core.Option.{none, some, Option·none-ne-some}
 use Prim.Native.Nat.{ℕ, zero, suc, _<_}
 use native.Mathlib.Omega.{arith}
 use lib.ListN.{replicate}
-use Rattle.lists.specs.Lists.{interval, Enumerates}
-use Rattle.lists.proofs.Once.{distinct-map, distinct-interval}
+use Rattle.lists.specs.Lists.{Distinct, keepIf, Enumerates}
+use Rattle.lists.proofs.Compare.{eqList}
+use Rattle.lists.proofs.Listed.{once, once-distinct}
 use Rattle.papers.specs.Weight.{naturals, count}
 use Rattle.papers.specs.Paths.{word}
 use Rattle.papers.specs.Sums.{total, SumIs, PairOf, weightOfPair, ComposedWeighs}
@@ -86,7 +87,7 @@ below-two P a b (suc (suc n)) h = absurd (omega arith)
 
 finished : Finished set lent left
 unfolding Holds
-finished = record { sigma1 = refl; sigma2 = refl; expanded = below-two _ (omega arith, refl) (omega arith, refl); weighed = below-two _ (none, refl) (some 1, refl) }
+finished = record { sigma1 = refl; sigma2 = refl; read = record { expanded = below-two _ (omega arith, refl) (omega arith, refl); weighed = below-two _ (none, refl) (some 1, refl) } }
 
 -- the paths 1:9, and no others
 abbrev four : List (List ℕ)
@@ -122,10 +123,14 @@ of-four P a b d e rs i =
     (λ i. ⊎-elim (λ q. subst P (sym q) e) (λ i. absurd (List·Memᴰ·not-nil i)) (List·Memᴰ·cases-cons i)) (List·Memᴰ·cases-cons i)) (List·Memᴰ·cases-cons i))
     (List·Memᴰ·cases-cons i)
 
+each-once : once four ≡ four
+unfolding once keepIf eqList
+each-once = refl
+
 just-these : Enumerates four Reads
-unfolding Holds word interval
+unfolding Holds word
 just-these = record {
-  once = distinct-map (λ k. k ∷ []) (λ a b e. head-eq-of-cons-eq e) (interval 1 4) (distinct-interval 1 4);
+  once = subst Distinct each-once (once-distinct four);
   exactly = λ rs. (
     of-four Reads
         ((omega arith, ((omega arith, refl), here refl, (1, refl))), refl, refl)

@@ -34,7 +34,7 @@ module _ (l : Lent) (c : Composition) (pick : Bool → Bool → MoveKind) (w : W
   abbrev B : Machine
   B = c .operand2 .machine
 
-  -- a pair that matches, from x to y
+  -- an agreeing pair, from x to y
   abbrev Two : List ℕ × List ℕ → Type 0
   Two p = AgreeingPair c p × (word (map (A .input) (p .0)) ≡ x) × (word (map (B .output) (p .1)) ≡ y)
 

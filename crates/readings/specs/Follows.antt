@@ -1,12 +1,11 @@
--- Demand 2b, its parts: "They are proved to follow a definition of composition written from Mohri, Pereira and Riley and the OpenFst papers": from the calls'
--- answers to the papers in one step. MPR: Mohri, Pereira, Riley 2002. ARS: Allauzen, Riley, Schalkwyk 2009. Sigma labels may be set: `composedOf c` is the papers'
--- composition with 01's filter, in which a label meets itself, or a sigma that serves for it.
+-- Demand 2b: "They are proved to follow a definition of composition written from Mohri, Pereira and Riley and the OpenFst papers": from the calls' answers to the
+-- papers in one step. MPR: Mohri, Pereira, Riley 2002. ARS: Allauzen, Riley, Schalkwyk 2009. Sigma labels may be set: `composedOf c` is the papers' composition with
+-- 01's filter, in which a label meets itself, or a sigma that serves for it.
 use mathlib.Core.Path.{_≡_}
-use mathlib.Core.List.{List, map}
-use mathlib.Core.Logic.{_⊎_, _↔_}
 use mathlib.Core.Bool.{Bool}
-use mathlib.Core.Option.{Option}
-use Prim.Native.Nat.{ℕ, _+_, _<_}
+use mathlib.Core.List.{List, map}
+use mathlib.Core.Logic.{_↔_}
+use Prim.Native.Nat.{ℕ, _+_}
 use lib.ListN.{length}
 use Rattle.lists.specs.Lists.{At, Enumerates}
 use Rattle.papers.specs.Weight.{semiring}
@@ -19,11 +18,11 @@ use Rattle.words.specs.Matches.{MatchType}
 use Rattle.words.specs.Steps.{Composition}
 use Rattle.words.specs.Settings.{Lent}
 use Rattle.words.specs.AsPapers.{exact, TooLarge, composedOf, directionOf, WalkedSigma, matchesOf, inputBy, outputBy, weightBy}
-use Rattle.calls.specs.Store.{Part, stateRoom, trRoom}
+use Rattle.calls.specs.Store.{Part}
 use Rattle.calls.specs.Sequences.{World}
 use Rattle.readings.specs.Correspondence.{OneToOne}
-use Rattle.readings.specs.Worlds.{finalIn, UsedState, Expanded, stateAt, inputOf, outputOf, weightOf, targetOf}
-use Rattle.readings.specs.StorePaths.{machine1, machine2, AcceptingRecords, movesIn, movesOfRecords, recordsOfMoves, pairOfRecords, recordsOfPair, recordsWeight}
+use Rattle.readings.specs.Worlds.{UsedState, stateAt, inputOf, outputOf, weightOf, targetOf}
+use Rattle.readings.specs.StorePaths.{AcceptingRecords, machine1, machine2, movesIn, movesOfRecords, recordsOfMoves, pairOfRecords, recordsOfPair, recordsWeight}
 
 -- Record r is the papers' composed transition (e1, e2) from s, with the next filter state g. d is the direction at s: it tells which transition may serve as sigma.
 pub record IsTransition (c : Composition) (w : World) (d : MatchType) (s : Triple) (m : Edges) (g r : ℕ) : Type 0 where
@@ -47,7 +46,7 @@ pub record PapersList (c : Composition) (w : World) (n : ℕ) (p : Part) : Type 
   pub count : p .count ≡ length (movesIn c w n)
   pub record-of : (k : ℕ) (m : Edges) (g : ℕ) → At (movesIn c w n) k (m, g) → IsTransition c w direction (stateAt w n) m g (p .first + k)
 
--- Why the expansion of state n is refused by k: "10, then in move order 11 before a walked label's matches, and 12, 13 for each kept move. Nothing else yields them."
+-- Why the expansion of state n is refused by k, 10 to 12; 13 is about memory (`Decides`).
 pub data RefusedFor (c : Composition) (w : World) (n k : ℕ) : Type 0 where
   -- "both states need matching": it has no direction
   undirected : k ≡ 10 → directionOf c (stateAt w n) ≡ refused 10 → RefusedFor c w n k
@@ -56,14 +55,6 @@ pub data RefusedFor (c : Composition) (w : World) (n k : ℕ) : Type 0 where
       → WalkedSigma d (c .operand1) (c .operand2) (stateAt w n .s1) (stateAt w n .s2) → RefusedFor c w n k
   -- "weight too large", of a kept move of the papers
   too-large : k ≡ 12 → (m : Edges) (g : ℕ) → KeptMove (composedOf c) (stateAt w n) m g → TooLarge (c .kind) (weightBy c m) → RefusedFor c w n k
-  -- "a record .. is lacking": there are not as many unused records, of one sort, as there are kept moves
-  no-room : k ≡ 13 → (trRoom (w .memory) < w .session .used .trs + length (movesIn c w n)) ⊎ (stateRoom (w .memory) < w .session .used .states + length (movesIn c w n))
-      → RefusedFor c w n k
-
--- all found states are expanded, and no found state's final weight would be refused; sigma labels may be set
-pub record AllRead (l : Lent) (w : World) : Type 0 where
-  pub expanded : (n : ℕ) → UsedState w n → Expanded w n
-  pub weighed : (n : ℕ) → UsedState w n → (x : Option ℕ) × (finalIn l w n .answer ≡ good x)
 
 -- The accepting paths of the store are those of the papers' composition: they correspond one to one, record by move, and weigh the same.
 pub record PapersPaths (l : Lent) (c : Composition) (w : World) : Type 0 where
@@ -79,11 +70,9 @@ ReadsAs l w x y rs = AcceptingRecords l w rs × (word (map (inputOf w) rs) ≡ x
 -- MPR's equation, of the store. The machines are T1 and T2.
 pub record ByWords (l : Lent) (c : Composition) (pick : Bool → Bool → MoveKind) (w : World) (x y : List ℕ) : Type 0 where
   -- path by path: the accepting paths x:y and the pairs of accepting paths x:z, z:y, for any z, correspond one to one, and the weights multiply
-  pub paths : OneToOne (ReadsAs l w x y) (PairOf (semiring (c .kind)) (exact (c .kind)) (machine1 c) (machine2 c) x y)
-      (pairOfRecords c w) (recordsOfPair c pick w)
+  pub paths : OneToOne (ReadsAs l w x y) (PairOf (semiring (c .kind)) (exact (c .kind)) (machine1 c) (machine2 c) x y) (pairOfRecords c w) (recordsOfPair c pick w)
   pub weights : (rs : List ℕ) → ReadsAs l w x y rs
-      → recordsWeight (c .kind) l w 0 rs
-      ≡ weightOfPair (semiring (c .kind)) (exact (c .kind)) (machine1 c) (machine2 c) (pairOfRecords c w rs)
+      → recordsWeight (c .kind) l w 0 rs ≡ weightOfPair (semiring (c .kind)) (exact (c .kind)) (machine1 c) (machine2 c) (pairOfRecords c w rs)
   -- as a sum: the weights of the accepting paths x:y have the ⊕-sum e just where e = ⊕ over z of T1(x, z) ⊗ T2(z, y). Either says that its sum is finite: so the paths
   -- x:y can be listed just where the middle words z, and the paths x:z and z:y of each, can be. Where they cannot, no sum is spoken of.
   pub sum : (e : semiring (c .kind) .Element)

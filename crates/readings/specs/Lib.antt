@@ -9,12 +9,11 @@ pub mod Readings
 pub mod Places
 -- 01's lists as such lists.
 pub mod Listed
--- Demand 3 over lists of calls: the worlds of a list, what is answered there, then 3a, 3b and 3c.
+-- Demand 3 over lists of calls: the worlds of a list, what is answered there, then 3a, 3b and 3c; demand 2b, what of it the papers say; and both whole.
 pub mod Worlds
 pub mod Answers
 pub mod Again
 pub mod Larger
 pub mod StorePaths
--- Demand 2b, its parts; then demands 3 and 2b whole.
 pub mod Follows
 pub mod Demands

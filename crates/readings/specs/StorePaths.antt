@@ -1,6 +1,6 @@
 -- Demand 3c: "After the list, with no sigma label set, once all found states are expanded and no found state's final weight would be refused: accepting paths
--- (final weight not zero) correspond one to one, paired as in document 01, with all pairs of accepting paths whose inner labels (outputs of the first, inputs
--- of the second) agree, epsilons left out, and weigh the product of both."
+-- (final weight not zero) correspond one to one, paired as in document 01, with all pairs of accepting paths whose inner labels (outputs of the first, inputs of
+-- the second) agree, epsilons left out, and weigh the product of both."
 use mathlib.Core.Path.{_≡_}
 use mathlib.Core.Bool.{Bool}
 use mathlib.Core.List.{List, [], _∷_, map, List·Memᴰ}
@@ -25,12 +25,16 @@ use Rattle.readings.specs.Listed.{listedAt}
 use Rattle.readings.specs.Places.{thenMoves, placeAmong}
 use Rattle.readings.specs.Worlds.{finalIn, UsedState, Expanded, stateAt, partIn, recordsIn, inputOf, outputOf, weightOf, targetOf}
 
--- "with no sigma label set, once all found states are expanded and no found state's final weight would be refused"
+-- "all found states are expanded and no found state's final weight would be refused"
+pub record AllRead (l : Lent) (w : World) : Type 0 where
+  pub expanded : (n : ℕ) → UsedState w n → Expanded w n
+  pub weighed : (n : ℕ) → UsedState w n → (x : Option ℕ) × (finalIn l w n .answer ≡ good x)
+
+-- "with no sigma label set, once" that is so
 pub record Finished (s : Settings) (l : Lent) (w : World) : Type 0 where
   pub sigma1 : s .sigma1 ≡ noLabel
   pub sigma2 : s .sigma2 ≡ noLabel
-  pub expanded : (n : ℕ) → UsedState w n → Expanded w n
-  pub weighed : (n : ℕ) → UsedState w n → (x : Option ℕ) × (finalIn l w n .answer ≡ good x)
+  pub read : AllRead l w
 
 -- "accepting paths (final weight not zero)" of the store, as lists of record numbers from state n on
 abbrev pub AcceptingFrom : Lent → World → ℕ → List ℕ → Type 0
