@@ -11,7 +11,7 @@ use lib.Dec.{eqb, ltb}
 use lib.ListN.{getD, set, replicate}
 use borrow.Author.Tests.{eqb-true, eq-eqb}
 use Rattle.lists.proofs.Members.{and-left, and-right}
-use Rattle.fst_properties.specs.Seen.{seenIn, seenWith}
+use Rattle.fst_properties.specs.Seen.{seenRecords, seenIn, seenWith}
 
 -- the code's `1 << (t % 32)` loses nothing
 pub shifted : (t : ℕ) → 1 * 2 ^ (t % 32) % 4294967296 ≡ 2 ^ (t % 32)
@@ -59,7 +59,7 @@ set-cases (x ∷ xs) (suc i) v (suc j) = ⊎-elim inl (λ r. inr (ap suc (r .0),
 -- what is seen after record t was: t, or what was seen before
 pub seen-with : (seen : List ℕ) (t u : ℕ) → seenIn (seenWith seen t) u ≡ true → (u ≡ t) ⊎ (seenIn seen u ≡ true)
 unfolding seenIn seenWith
-seen-with seen t u h = go (ltb t 65536) h
+seen-with seen t u h = go (ltb t seenRecords) h
   where
     v : ℕ
     v = bitOr (getD seen (t / 32) 0) (2 ^ (t % 32))
@@ -69,10 +69,10 @@ seen-with seen t u h = go (ltb t 65536) h
 
     changed : u / 32 ≡ t / 32 → getD (set seen (t / 32) v) (u / 32) 0 ≡ v → seenIn (set seen (t / 32) v) u ≡ true → (u ≡ t) ⊎ (seenIn seen u ≡ true)
     changed d e p =
-        let b : v / 2 ^ (u % 32) % 2 ≡ 1 = eqb-true _ _ (rw e at (and-right (ltb u 65536) _ p)) in
+        let b : v / 2 ^ (u % 32) % 2 ≡ 1 = eqb-true _ _ (rw e at (and-right (ltb u seenRecords) _ p)) in
         ⊎-elim
         (λ (q : u % 32 ≡ t % 32). inl (omega (arith, d, q)))
-        (λ q. inr (rw (and-left (ltb u 65536) _ p, d) (eq-eqb _ _ q)))
+        (λ q. inr (rw (and-left (ltb u seenRecords) _ p, d) (eq-eqb _ _ q)))
         (or-bit (getD seen (t / 32) 0) (t % 32) (u % 32) b)
 
     go : (b : Bool) → seenIn (cond b (set seen (t / 32) v) seen) u ≡ true → (u ≡ t) ⊎ (seenIn seen u ≡ true)
@@ -88,6 +88,6 @@ zeros (suc k) (suc i) = zeros k i
 pub none-seen : (k u : ℕ) → seenIn (replicate k 0) u ≡ true → ⊥
 unfolding seenIn
 none-seen k u h =
-    let e : 0 / 2 ^ (u % 32) % 2 ≡ 1 = eqb-true _ _ (rw (zeros k (u / 32)) at (and-right (ltb u 65536) _ h)) in
+    let e : 0 / 2 ^ (u % 32) % 2 ≡ 1 = eqb-true _ _ (rw (zeros k (u / 32)) at (and-right (ltb u seenRecords) _ h)) in
     let z = div-le-self 0 (2 ^ (u % 32)) in
     absurd (omega (arith, e, z))
