@@ -1,9 +1,9 @@
 -- Bits of a word: setting one sets no other. A record is seen that was seen before, or that was seen now.
 use mathlib.Core.Path.{_≡_, refl, sym, _∙_, ap}
-use mathlib.Core.Bool.{Bool, true, false, _&&_, cond, true≢false}
+use mathlib.Core.Bool.{Bool, true, false, cond}
 use mathlib.Core.List.{List, [], _∷_}
 use mathlib.Core.Logic.{_⊎_, inl, inr, ⊎-elim}
-use Prim.Native.Nat.{ℕ, zero, suc, _+_, _*_, _/_, _%_, _^_, _≤_, _<_, max}
+use Prim.Native.Nat.{ℕ, zero, suc, _+_, _*_, _/_, _%_, _^_, _≤_, max}
 use native.Mathlib.Nat.{pow-suc, pow-succ', pow-le-pow-right, div-eq-of-lt, div-le-self, div-eq-of-eq-mul-left, div-div-eq-div-mul, mod-eq-of-lt}
 use native.Mathlib.Omega.{arith}
 use lib.Bits.{bitOr, or-shr, or-step}
@@ -34,13 +34,14 @@ one-bit zero (suc c) h =
 one-bit (suc b) zero h = let e = pow-suc 2 b in absurd (omega (arith, e, h))
 one-bit (suc b) (suc c) h =
     let e : 2 ^ suc b / 2 ≡ 2 ^ b = div-eq-of-eq-mul-left (omega arith) (pow-suc 2 b) in
-    let q : 2 ^ suc b / 2 ^ suc c ≡ 2 ^ b / 2 ^ c = ap (λ (x : ℕ). 2 ^ suc b / x) (pow-succ' 2 c) ∙ sym (div-div-eq-div-mul (2 ^ suc b) 2 (2 ^ c)) ∙ ap (λ (x : ℕ). x / 2 ^ c) e in
+    let q : 2 ^ suc b / 2 ^ suc c ≡ 2 ^ b / 2 ^ c =
+    ap (λ (x : ℕ). 2 ^ suc b / x) (pow-succ' 2 c) ∙ sym (div-div-eq-div-mul (2 ^ suc b) 2 (2 ^ c)) ∙ ap (λ (x : ℕ). x / 2 ^ c) e in
     ap suc (one-bit b c (ap (λ (x : ℕ). x % 2) (sym q) ∙ h))
 
 -- a bit of a word with bit b set is that bit, or was set
 or-bit : (x b c : ℕ) → bitOr x (2 ^ b) / 2 ^ c % 2 ≡ 1 → (c ≡ b) ⊎ (x / 2 ^ c % 2 ≡ 1)
 or-bit x b c h =
-    let e : bitOr x (2 ^ b) / 2 ^ c ≡ bitOr (x / 2 ^ c / 2) (2 ^ b / 2 ^ c / 2) * 2 + max (x / 2 ^ c % 2) (2 ^ b / 2 ^ c % 2) = or-shr x (2 ^ b) c ∙ or-step (x / 2 ^ c) (2 ^ b / 2 ^ c) in
+    let e = or-shr x (2 ^ b) c ∙ or-step (x / 2 ^ c) (2 ^ b / 2 ^ c) in
     go (x / 2 ^ c % 2) (2 ^ b / 2 ^ c % 2) (bitOr (x / 2 ^ c / 2) (2 ^ b / 2 ^ c / 2)) refl refl (ap (λ (y : ℕ). y % 2) (sym e) ∙ h)
   where
     go : (p q y : ℕ) → x / 2 ^ c % 2 ≡ p → 2 ^ b / 2 ^ c % 2 ≡ q → (y * 2 + max p q) % 2 ≡ 1 → (c ≡ b) ⊎ (p ≡ 1)

@@ -10,6 +10,7 @@ use lib.ListN.{getD, set}
 abbrev pub seenRecords : ℕ
 seenRecords = 65536
 
+-- record t was walked
 unfoldable pub seenIn : List ℕ → ℕ → Bool
 seenIn seen t = ltb t seenRecords && eqb (getD seen (t / 32) 0 / 2 ^ (t % 32) % 2) 1
 

@@ -26,8 +26,8 @@ fn least(n: u32, room: usize) -> u32
     if (n as usize) <= room { n } else { room as u32 }
 }
 
-// Walks the list of each state, down to a record that an earlier walk has seen: from there on no label falls. So each of the first 65536 records is walked once.
-// Left by the label at the first label that falls.
+// Walks the list of each state, down to a record that an earlier walk has seen: from there on no label falls. So each record that has a bit in `seen` is
+// passed once, though lists share tails. Left by the label at the first label that falls.
 fn lists_sorted(m: &[u32], on: MatchType) -> bool
     ensures { λ r. ⌜ r ≡ sortedOf (onOf on) (machineOf (now (m .entry))) ⌝ }
 {
