@@ -183,6 +183,40 @@ fn unlisted() {
     machine(&shared);
 }
 
+// Two lists that share a tail: the second, walked after the first, falls where it meets it.
+fn joint() {
+    let falls = [
+        2u32,
+        3,
+        1,
+        2,
+        2,
+        0,
+        2,
+        1,
+        0,
+        1,
+        0,
+        0,
+        9,
+        9,
+        4,
+        0,
+        2,
+        1,
+        2,
+        4,
+        0,
+        3,
+        5,
+        1,
+        5,
+        1,
+        0,
+    ];
+    machine(&falls);
+}
+
 // One state with marks, a start or a finality that is false or out of range.
 fn marks() {
     let sorted = [1u32, 2, 1, 2, 0, 0, 1, 1, 0, 1, 1, 4, 0, 2, 2, 2, 5, 0, 0];
@@ -206,6 +240,7 @@ fn main() {
     counts();
     links();
     unlisted();
+    joint();
     marks();
     weights(0);
     weights(1);

@@ -1,9 +1,9 @@
 -- Bits of a word: setting one sets no other. A record is seen that was seen before, or that was seen now.
 use mathlib.Core.Path.{_≡_, refl, sym, _∙_, ap}
-use mathlib.Core.Bool.{Bool, true, false, _&&_, cond, true≢false}
+use mathlib.Core.Bool.{Bool, true, false, cond}
 use mathlib.Core.List.{List, [], _∷_}
 use mathlib.Core.Logic.{_⊎_, inl, inr, ⊎-elim}
-use Prim.Native.Nat.{ℕ, zero, suc, _+_, _*_, _/_, _%_, _^_, _≤_, _<_, max}
+use Prim.Native.Nat.{ℕ, zero, suc, _+_, _*_, _/_, _%_, _^_, _≤_, max}
 use native.Mathlib.Nat.{pow-suc, pow-succ', pow-le-pow-right, div-eq-of-lt, div-le-self, div-eq-of-eq-mul-left, div-div-eq-div-mul, mod-eq-of-lt}
 use native.Mathlib.Omega.{arith}
 use lib.Bits.{bitOr, or-shr, or-step}
@@ -11,7 +11,7 @@ use lib.Dec.{eqb, ltb}
 use lib.ListN.{getD, set, replicate}
 use borrow.Author.Tests.{eqb-true, eq-eqb}
 use Rattle.lists.proofs.Members.{and-left, and-right}
-use Rattle.fst_properties.specs.Seen.{seenIn, seenWith}
+use Rattle.fst_properties.specs.Seen.{seenRecords, seenIn, seenWith}
 
 -- the code's `1 << (t % 32)` loses nothing
 pub shifted : (t : ℕ) → 1 * 2 ^ (t % 32) % 4294967296 ≡ 2 ^ (t % 32)
@@ -34,13 +34,14 @@ one-bit zero (suc c) h =
 one-bit (suc b) zero h = let e = pow-suc 2 b in absurd (omega (arith, e, h))
 one-bit (suc b) (suc c) h =
     let e : 2 ^ suc b / 2 ≡ 2 ^ b = div-eq-of-eq-mul-left (omega arith) (pow-suc 2 b) in
-    let q : 2 ^ suc b / 2 ^ suc c ≡ 2 ^ b / 2 ^ c = ap (λ (x : ℕ). 2 ^ suc b / x) (pow-succ' 2 c) ∙ sym (div-div-eq-div-mul (2 ^ suc b) 2 (2 ^ c)) ∙ ap (λ (x : ℕ). x / 2 ^ c) e in
+    let q : 2 ^ suc b / 2 ^ suc c ≡ 2 ^ b / 2 ^ c =
+    ap (λ (x : ℕ). 2 ^ suc b / x) (pow-succ' 2 c) ∙ sym (div-div-eq-div-mul (2 ^ suc b) 2 (2 ^ c)) ∙ ap (λ (x : ℕ). x / 2 ^ c) e in
     ap suc (one-bit b c (ap (λ (x : ℕ). x % 2) (sym q) ∙ h))
 
 -- a bit of a word with bit b set is that bit, or was set
 or-bit : (x b c : ℕ) → bitOr x (2 ^ b) / 2 ^ c % 2 ≡ 1 → (c ≡ b) ⊎ (x / 2 ^ c % 2 ≡ 1)
 or-bit x b c h =
-    let e : bitOr x (2 ^ b) / 2 ^ c ≡ bitOr (x / 2 ^ c / 2) (2 ^ b / 2 ^ c / 2) * 2 + max (x / 2 ^ c % 2) (2 ^ b / 2 ^ c % 2) = or-shr x (2 ^ b) c ∙ or-step (x / 2 ^ c) (2 ^ b / 2 ^ c) in
+    let e = or-shr x (2 ^ b) c ∙ or-step (x / 2 ^ c) (2 ^ b / 2 ^ c) in
     go (x / 2 ^ c % 2) (2 ^ b / 2 ^ c % 2) (bitOr (x / 2 ^ c / 2) (2 ^ b / 2 ^ c / 2)) refl refl (ap (λ (y : ℕ). y % 2) (sym e) ∙ h)
   where
     go : (p q y : ℕ) → x / 2 ^ c % 2 ≡ p → 2 ^ b / 2 ^ c % 2 ≡ q → (y * 2 + max p q) % 2 ≡ 1 → (c ≡ b) ⊎ (p ≡ 1)
@@ -59,7 +60,7 @@ set-cases (x ∷ xs) (suc i) v (suc j) = ⊎-elim inl (λ r. inr (ap suc (r .0),
 -- what is seen after record t was: t, or what was seen before
 pub seen-with : (seen : List ℕ) (t u : ℕ) → seenIn (seenWith seen t) u ≡ true → (u ≡ t) ⊎ (seenIn seen u ≡ true)
 unfolding seenIn seenWith
-seen-with seen t u h = go (ltb t 65536) h
+seen-with seen t u h = go (ltb t seenRecords) h
   where
     v : ℕ
     v = bitOr (getD seen (t / 32) 0) (2 ^ (t % 32))
@@ -69,10 +70,10 @@ seen-with seen t u h = go (ltb t 65536) h
 
     changed : u / 32 ≡ t / 32 → getD (set seen (t / 32) v) (u / 32) 0 ≡ v → seenIn (set seen (t / 32) v) u ≡ true → (u ≡ t) ⊎ (seenIn seen u ≡ true)
     changed d e p =
-        let b : v / 2 ^ (u % 32) % 2 ≡ 1 = eqb-true _ _ (rw e at (and-right (ltb u 65536) _ p)) in
+        let b : v / 2 ^ (u % 32) % 2 ≡ 1 = eqb-true _ _ (rw e at (and-right (ltb u seenRecords) _ p)) in
         ⊎-elim
         (λ (q : u % 32 ≡ t % 32). inl (omega (arith, d, q)))
-        (λ q. inr (rw (and-left (ltb u 65536) _ p, d) (eq-eqb _ _ q)))
+        (λ q. inr (rw (and-left (ltb u seenRecords) _ p, d) (eq-eqb _ _ q)))
         (or-bit (getD seen (t / 32) 0) (t % 32) (u % 32) b)
 
     go : (b : Bool) → seenIn (cond b (set seen (t / 32) v) seen) u ≡ true → (u ≡ t) ⊎ (seenIn seen u ≡ true)
@@ -88,6 +89,6 @@ zeros (suc k) (suc i) = zeros k i
 pub none-seen : (k u : ℕ) → seenIn (replicate k 0) u ≡ true → ⊥
 unfolding seenIn
 none-seen k u h =
-    let e : 0 / 2 ^ (u % 32) % 2 ≡ 1 = eqb-true _ _ (rw (zeros k (u / 32)) at (and-right (ltb u 65536) _ h)) in
+    let e : 0 / 2 ^ (u % 32) % 2 ≡ 1 = eqb-true _ _ (rw (zeros k (u / 32)) at (and-right (ltb u seenRecords) _ h)) in
     let z = div-le-self 0 (2 ^ (u % 32)) in
     absurd (omega (arith, e, z))

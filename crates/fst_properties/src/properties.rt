@@ -5,6 +5,7 @@ ghost use Rattle.words.specs.Machines.{sorted as sortedOf, acceptor as acceptor
 ghost use Rattle.fst.specs.Meaning.{onOf};
 use crate::records::RecordTest;
 use crate::records::all_records;
+use crate::seen::SEEN_WORDS;
 use crate::seen::is_seen;
 use crate::seen::see;
 use fst::EPS_LABEL;
@@ -25,13 +26,13 @@ fn least(n: u32, room: usize) -> u32
     if (n as usize) <= room { n } else { room as u32 }
 }
 
-// Walks the list of each state, down to a record that an earlier walk has seen: from there on no label falls. So each of the first 65536 records is walked once.
-// Left by the label at the first label that falls.
+// Walks the list of each state, down to a record that an earlier walk has seen: from there on no label falls. So each record that has a bit in `seen` is
+// passed once, though lists share tails. Left by the label at the first label that falls.
 fn lists_sorted(m: &[u32], on: MatchType) -> bool
     ensures { λ r. ⌜ r ≡ sortedOf (onOf on) (machineOf (now (m .entry))) ⌝ }
 {
     let n = least(num_states(m), m.len() / STATE_WORDS);
-    let mut seen = [0u32; 2048];
+    let mut seen = [0u32; SEEN_WORDS];
     let mut ok = true;
     let mut s: u32 = 0;
     'states: while s < n {

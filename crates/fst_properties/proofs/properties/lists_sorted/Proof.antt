@@ -57,8 +57,12 @@ ended c =
     (c .list-test .came)
 
 states-holds : tie.Need-states-holds Inv-list μ-list Inv-states μ-states
-states-holds c =
-    (refl, omega arith, λ u h. absurd (none-seen 2048 u h), rw (sub-zero, c .least .ensures, c .before .num-states .ensures, sorted-lists) (run-cut (listSorted _ _) 0 _ _ (far-list _ _)))
+states-holds c = (
+  refl,
+  omega arith,
+  λ u h. absurd (none-seen 2048 u h),
+  rw (sub-zero, c .least .ensures, c .before .num-states .ensures, sorted-lists) (run-cut (listSorted _ _) 0 _ _ (far-list _ _)),
+)
 
 list-holds : tie.Need-list-holds Inv-list μ-list Inv-states μ-states
 unfolding listSorted listOf fromOn

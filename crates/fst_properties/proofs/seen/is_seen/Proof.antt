@@ -1,6 +1,5 @@
 -- The bit of the record; a record past the bits has none.
 use borrow.Author.Tests.{lt-ltb, le-ltb}
-use native.Mathlib.Omega.{arith}
 use Rattle.fst_properties.specs.Seen.{seenIn}
 use borrow.Author.Needs.{needs}
 use Rattle.fst_properties.proofs.seen.is_seen.Statement.{statement}
