@@ -1,4 +1,4 @@
--- 01, "The listing": what `composedLines` prints, from the words of its three lines.
+-- 01, "The listing": what `composed` prints, from the words of its three lines.
 use mathlib.Core.Bool.{cond}
 use mathlib.Core.List.{List, [], _∷_, _++_, map, flatMap}
 use mathlib.Core.Option.{Option, none}
@@ -86,6 +86,6 @@ printed (refused n) = refusedLine n ∷ []
 abbrev pub listingOn : List ℕ → Lent → List Line
 listingOn w l = printed (cond (eqb (length w) settingsSize) (composedLines (settingsOf w) l) (refused 1))
 
--- "`composedLines` reads settings .. and both machines as decimal words, one line each, without allowed lists"
+-- "`composed` reads settings .. and both machines as decimal words, one line each, without allowed lists"
 unfoldable pub listing : List ℕ → List ℕ → List ℕ → List Line
 listing w m1 m2 = listingOn w (lentLines m1 m2)

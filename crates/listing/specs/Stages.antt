@@ -1,4 +1,4 @@
--- 01, "The listing", stage by stage, in any memory: "It opens, runs, then takes final weights in number order". `composed` of `calls` is `openedOf` in its own memory.
+-- 01, "The listing", stage by stage, in any memory: "It opens, runs, then takes final weights in number order". `composedLines` of `calls` is `openedOf` in its own memory.
 use mathlib.Core.Path.{_≡_}
 use mathlib.Core.List.{List, map, flatMap}
 use mathlib.Core.Option.{Option, none}

@@ -4,7 +4,7 @@ use Prim.Native.Nat.{_-_, min}
 use native.Mathlib.Omega.{arith}
 use lib.ListN.{length}
 use denote.Ref.{now}
-use Rattle.store_records.proofs.PartLaws.{part-cut}
+use Rattle.tr_lists.proofs.PartLaws.{part-cut}
 use borrow.Author.Needs.{needs}
 use Rattle.call_lists.proofs.lines.first.Statement.{statement}
 use Rattle.call_lists.proofs.lines.first.Tie as tie

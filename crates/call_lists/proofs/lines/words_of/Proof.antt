@@ -3,7 +3,7 @@ use mathlib.Core.Path.{_≡_}
 use Prim.Native.Nat.{_+_, _-_}
 use native.Mathlib.Omega.{arith}
 use denote.Ref.{now}
-use Rattle.store_records.proofs.PartLaws.{part-cut}
+use Rattle.tr_lists.proofs.PartLaws.{part-cut}
 use borrow.Author.Needs.{needs}
 use Rattle.call_lists.proofs.lines.words_of.Statement.{statement}
 use Rattle.call_lists.proofs.lines.words_of.Tie as tie
