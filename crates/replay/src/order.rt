@@ -93,7 +93,31 @@ fn less_two(k: usize) -> usize {
     if k < 2 { 0 } else { k - 2 }
 }
 
-// One expansion, and the records as they are then handed back.
+// An accepted expansion, and the records as they are then handed back.
+fn print_expanded(
+    session: Session,
+    m1: &[u32],
+    m2: &[u32],
+    allowed1: &[u32],
+    allowed2: &[u32],
+    listed: AllowedLists,
+    heads: &[u32],
+    states: &[u32],
+    trs: &[u32],
+    line: &mut [u8],
+    n: u32,
+)
+    requires { ⌜ 64 ≤ length (now line) ⌝ }
+{
+    io::write_all(STDOUT_FILENO, b"e ");
+    io::print_decimal(STDOUT_FILENO, n as u64);
+    io::write_all(STDOUT_FILENO, b"\n");
+    let s = StateId(n);
+    let records = session.records(m1, m2, allowed1, allowed2, listed, heads, states, trs, s);
+    print_records(line, records);
+}
+
+// One expansion.
 fn expand(
     session: Session,
     m1: &[u32],
@@ -117,11 +141,19 @@ fn expand(
             next
         }
         PartAnswer::Part(_, next) => {
-            io::write_all(STDOUT_FILENO, b"e ");
-            io::print_decimal(STDOUT_FILENO, n as u64);
-            io::write_all(STDOUT_FILENO, b"\n");
-            let records = next.records(m1, m2, allowed1, allowed2, listed, heads, states, trs, s);
-            print_records(line, records);
+            print_expanded(
+                next,
+                m1,
+                m2,
+                allowed1,
+                allowed2,
+                listed,
+                heads,
+                states,
+                trs,
+                line,
+                n,
+            );
             next
         }
     }
