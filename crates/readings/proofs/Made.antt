@@ -36,19 +36,19 @@ module _ (C : Composed) (R : ℕ → ℕ → Type 0) (meet : MeetBy R C) (live :
   abbrev i : ℕ → ℕ
   i = C .second .input
 
-  abbrev Made : Triple → List ℕ → List ℕ → List Edges → Type 0
-  Made s p1 p2 ms = AcceptingMoves K value C s ms × (path1 ms ≡ p1) × (path2 ms ≡ p2)
+  abbrev Joins : Triple → List ℕ → List ℕ → List Edges → Type 0
+  Joins s p1 p2 ms = AcceptingMoves K value C s ms × (path1 ms ≡ p1) × (path2 ms ≡ p2)
 
   abbrev Makes : ℕ → Type 0
   Makes n = (p1 p2 : List ℕ) (s : Triple) → length p1 + length p2 ≤ n → Accepting K value (C .first) (s .s1) p1 → Accepting K value (C .second) (s .s2) p2
-      → Matching R (C .first) (C .second) p1 p2 → Live C live pick (s .f) p1 p2 → Made s p1 p2 (mergeUpTo pick (C .first) (C .second) n p1 p2)
+      → Matching R (C .first) (C .second) p1 p2 → Live C live pick (s .f) p1 p2 → Joins s p1 p2 (mergeUpTo pick (C .first) (C .second) n p1 p2)
 
   -- the first move, of kind k, before what the rests give
   make : (n : ℕ) (k : MoveKind) (p1 p2 : List ℕ) (s : Triple) → length p1 + length p2 ≤ suc n → Accepting K value (C .first) (s .s1) p1
       → Accepting K value (C .second) (s .s2) p2 → Matching R (C .first) (C .second) p1 p2 → begins k (beginsε o p1) (beginsε i p2) ≡ true
       → (g : ℕ) → C .filter k (factsOf (C .first) (C .second) (s .s1) (s .s2)) (s .f) ≡ some g
       → ((x y : Bool) → live g (then1 k (beginsε o p1) x) (then2 k (beginsε i p2) y) ≡ true) → Makes n
-      → Made s p1 p2 (front k p1 p2 (λ r1 r2. mergeUpTo pick (C .first) (C .second) n r1 r2))
+      → Joins s p1 p2 (front k p1 p2 (λ r1 r2. mergeUpTo pick (C .first) (C .second) n r1 r2))
   unfolding flatMap
   make n lone1 [] p2 s l a b w h g e v rec = absurd (false≢true h)
   make n lone1 (t ∷ p1) p2 s l a b w h g e v rec =
