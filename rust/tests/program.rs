@@ -73,6 +73,52 @@ fn composes_the_examples() {
     }
 }
 
+/// The program with a standard error that cannot be written, and its exit status and standard output.
+fn unheard(words: &[&str], stderr: Stdio) -> (Option<i32>, Vec<u8>) {
+    let output = Command::new(env!("CARGO_BIN_EXE_rinkolza"))
+        .args(words)
+        .stdin(Stdio::null())
+        .stderr(stderr)
+        .output()
+        .expect("the program ends");
+    (output.status.code(), output.stdout)
+}
+
+/// Standard errors that cannot be written: a full device, and a pipe whose reader has gone.
+fn deaf() -> [Stdio; 2] {
+    let full = std::fs::OpenOptions::new().write(true).open("/dev/full");
+    let mut reader = Command::new("true")
+        .stdin(Stdio::piped())
+        .spawn()
+        .expect("true starts");
+    let pipe = reader.stdin.take().unwrap();
+    reader.wait().expect("true ends");
+    [full.expect("/dev/full").into(), pipe.into()]
+}
+
+#[test]
+fn a_message_that_nobody_hears_costs_no_result() {
+    let (symbols, glyphs, spacing) = (
+        example("labels.syms"),
+        example("glyphs.txt"),
+        example("spacing.txt"),
+    );
+    let words = ["compose", "--progress", "--symbols", &symbols, &glyphs];
+    for stderr in deaf() {
+        let (status, text) = unheard(&[&words[..], &[&spacing]].concat(), stderr);
+        assert_eq!((status, text), (Some(0), foundry(&[]).stdout));
+    }
+    for stderr in deaf() {
+        assert_eq!(unheard(&["juggle"], stderr), (Some(2), Vec::new()));
+    }
+    for stderr in deaf() {
+        assert_eq!(
+            unheard(&["print", "/no/such/file"], stderr),
+            (Some(3), Vec::new())
+        );
+    }
+}
+
 #[test]
 fn draws() {
     let picture = foundry(&["--to", "dot", "--triples"]);

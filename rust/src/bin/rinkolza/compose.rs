@@ -1,7 +1,7 @@
 //! `rinkolza compose`.
 
 use crate::args::{Args, Stop, INPUT, REFUSED};
-use crate::files::{self, write_out, Tables};
+use crate::files::{self, say, write_out, Tables};
 use crate::{plain_format, shown, unwritable};
 use rinkolza::{
     dot, text, to_sort, Composition, Error, Filter, Format, Machine, Options, Refusal, Rewrite,
@@ -171,17 +171,19 @@ fn say_sorted(first: &Machine, second: &Machine, options: &Options) {
     let (sort1, sort2) = to_sort(first, second, options);
     for (sorted, which, side) in [(sort1, "first", "output"), (sort2, "second", "input")] {
         if sorted {
-            eprintln!("rinkolza: note: the {which} machine's transitions were sorted by {side} label (--sort)");
+            say(format!(
+                "note: the {which} machine's transitions were sorted by {side} label (--sort)"
+            ));
         }
     }
 }
 
 fn with_progress(composition: &mut Composition) -> Result<(), Error> {
     composition.run_with(STEP, |progress| {
-        eprintln!(
-            "rinkolza: {} of {} states found are expanded, {} transitions",
+        say(format!(
+            "{} of {} states found are expanded, {} transitions",
             progress.expanded, progress.found, progress.trs
-        );
+        ));
     })
 }
 

@@ -7,7 +7,7 @@ mod compose;
 mod files;
 
 use args::{Args, Stop, INPUT};
-use files::{write_out, Tables};
+use files::{say, write_out, Tables};
 use rinkolza::{dot, text, words, By, Error, Format, Kind, Machine};
 use std::process::ExitCode;
 
@@ -17,7 +17,7 @@ fn main() -> ExitCode {
     match run() {
         Ok(()) => ExitCode::SUCCESS,
         Err(stop) => {
-            eprintln!("rinkolza: {}", stop.message);
+            say(stop.message);
             ExitCode::from(stop.status)
         }
     }
