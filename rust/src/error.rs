@@ -122,6 +122,13 @@ pub enum Error {
     },
     /// A machine cannot be built or written as asked.
     Machine(String),
+    /// Memory for so many items is not to be had.
+    Memory {
+        /// How many were asked for.
+        items: usize,
+        /// What they are: words, states, transitions.
+        what: &'static str,
+    },
 }
 
 impl Error {
@@ -130,6 +137,14 @@ impl Error {
         Error::Refused {
             refusal,
             state: None,
+        }
+    }
+
+    /// The same at a composed state, where it is a refusal.
+    pub(crate) fn at(self, at: Option<u32>) -> Error {
+        match self {
+            Error::Refused { refusal, .. } => Error::Refused { refusal, state: at },
+            other => other,
         }
     }
 
@@ -161,11 +176,22 @@ impl fmt::Display for Error {
             ),
             Error::Text { source, line, what } => write!(f, "{source}:{line}: {what}"),
             Error::Machine(what) => f.write_str(what),
+            Error::Memory { items, what } => {
+                write!(f, "there is no memory for {items} {what}")
+            }
         }
     }
 }
 
 impl std::error::Error for Error {}
+
+/// Room for so many items more, or an error; to push them then cannot fail.
+pub(crate) fn reserve<T>(list: &mut Vec<T>, more: usize, what: &'static str) -> Result<(), Error> {
+    list.try_reserve(more).map_err(|_| Error::Memory {
+        items: list.len().saturating_add(more),
+        what,
+    })
+}
 
 #[cfg(test)]
 mod tests {

@@ -2,7 +2,7 @@
 
 #![forbid(unsafe_code)]
 
-use crate::error::Error;
+use crate::error::{reserve, Error};
 
 /// The label epsilon.
 pub const EPSILON: u32 = 0;
@@ -99,6 +99,7 @@ impl Machine {
                 "a machine has at most {LARGEST_COUNT} states"
             )));
         }
+        reserve(&mut self.states, 1, "states")?;
         self.states.push(State::default());
         Ok(self.states.len() as u32 - 1)
     }
@@ -130,7 +131,9 @@ impl Machine {
                 "a machine has at most {LARGEST_COUNT} transitions"
             )));
         }
-        self.states[source as usize].trs.push(tr);
+        let trs = &mut self.states[source as usize].trs;
+        reserve(trs, 1, "transitions")?;
+        trs.push(tr);
         self.count += 1;
         Ok(())
     }

@@ -7,7 +7,7 @@
 
 #![forbid(unsafe_code)]
 
-use crate::error::{Error, Refusal};
+use crate::error::{reserve, Error, Refusal};
 use crate::machine::Machine;
 use crate::prepare::Inputs;
 use crate::settings::{Options, Room};
@@ -93,20 +93,22 @@ impl Composition {
         Composition::open_words(inputs, options.room, options.most)
     }
 
-    /// Opens the composition of two machines in document 01's words, with room that may grow up to `most`.
+    /// Opens the composition of two machines in document 01's words, with room that may grow up to `most`; both count
+    /// as [`Room::LARGEST`] where they are above it.
     pub fn open_words(inputs: Inputs, room: Room, most: Room) -> Result<Composition, Error> {
+        let (room, most) = (room.within(Room::LARGEST), most.within(Room::LARGEST));
         let mut composition = Composition {
             inputs,
             room,
             most,
-            memory: Memory::new(room),
+            memory: Memory::new(room)?,
             session: Session::default(),
             calls: Vec::new(),
             growths: 0,
             next: 0,
         };
         match composition.begin() {
-            Err(Refusal::NoRoom) => composition.grow().map_err(Error::refused)?,
+            Err(Refusal::NoRoom) => composition.grow()?,
             other => other.map_err(Error::refused)?,
         }
         Ok(composition)
@@ -115,8 +117,9 @@ impl Composition {
     /// Expands state n, where it is not yet, and gives its transitions.
     pub fn expand(&mut self, n: u32) -> Result<Trs<'_>, Error> {
         let new = !self.is_expanded(n);
+        reserve(&mut self.calls, 1, "calls")?;
         self.insist(|own| own.expand_once(n))
-            .map_err(|refusal| at(refusal, Some(n)))?;
+            .map_err(|error| error.at(Some(n)))?;
         if new {
             self.calls.push(Call::Expand(n));
         }
@@ -126,14 +129,12 @@ impl Composition {
     /// Expands all states, those that are found on the way too, in number order. Where it is refused the states
     /// expanded before stay.
     pub fn run(&mut self) -> Result<(), Error> {
+        reserve(&mut self.calls, 1, "calls")?;
         let answer = self.insist(Composition::run_once);
         if self.calls.last() != Some(&Call::Run) {
             self.calls.push(Call::Run);
         }
-        answer.map_err(|refusal| {
-            let state = self.first_unexpanded();
-            at(refusal, state)
-        })
+        answer.map_err(|error| error.at(self.first_unexpanded()))
     }
 
     /// Expands at most `count` states, the lowest numbers first, as a run does; says how far it has come. Each step
@@ -162,7 +163,7 @@ impl Composition {
     /// The final weight of state n; none where it is not final.
     pub fn final_weight(&self, n: u32) -> Result<Option<u32>, Error> {
         sys::final_weight(&self.inputs.lent(), &self.session, &self.memory, n)
-            .map_err(|number| at(known(number), Some(n)))
+            .map_err(|number| Error::refused(known(number)).at(Some(n)))
     }
 
     /// The transitions of state n, where it is expanded; else none.
@@ -287,27 +288,38 @@ impl Composition {
     fn insist(
         &mut self,
         call: impl Fn(&mut Composition) -> Result<(), Refusal>,
-    ) -> Result<(), Refusal> {
+    ) -> Result<(), Error> {
         loop {
             match call(self) {
                 Err(Refusal::NoRoom) if self.room.larger(self.most).is_some() => self.grow()?,
-                other => return other,
+                other => return other.map_err(Error::refused),
             }
         }
     }
 
     /// Opens anew in larger memory and makes the same calls again.
-    fn grow(&mut self) -> Result<(), Refusal> {
+    fn grow(&mut self) -> Result<(), Error> {
         loop {
-            let larger = self.room.larger(self.most).ok_or(Refusal::NoRoom)?;
+            let larger = self.room.larger(self.most);
+            let larger = larger.ok_or(Error::refused(Refusal::NoRoom))?;
+            self.memory = self.larger_memory(larger)?;
             self.room = larger;
-            self.memory = Memory::new(larger);
             self.growths += 1;
             match self.repeat() {
                 Err(Refusal::NoRoom) => continue,
-                other => return other,
+                other => return other.map_err(Error::refused),
             }
         }
+    }
+
+    /// Larger memory. Where it is not to be had all stays as it is, and grows no more: a run that stopped for want of
+    /// room must not be made again in more of it, where it would go on and give other numbers to what was found since.
+    fn larger_memory(&mut self, larger: Room) -> Result<Memory, Error> {
+        let memory = Memory::new(larger);
+        if memory.is_err() {
+            self.most = self.room;
+        }
+        memory
     }
 
     fn repeat(&mut self) -> Result<(), Refusal> {
@@ -387,6 +399,49 @@ fn known(number: u32) -> Refusal {
     Refusal::from_number(number).unwrap_or(Refusal::Broken)
 }
 
-fn at(refusal: Refusal, state: Option<u32>) -> Error {
-    Error::Refused { refusal, state }
+#[cfg(test)]
+mod tests {
+    use super::*;
+    use crate::machine::Tr;
+
+    /// A chain of nine states whose transitions read epsilon: composed with any machine it moves alone.
+    fn chain() -> Machine {
+        let tr = |state| Tr {
+            input: 0,
+            output: 1,
+            weight: 1,
+            target: state + 1,
+        };
+        let trs: Vec<(u32, Tr)> = (0..8).map(|state| (state, tr(state))).collect();
+        Machine::from_lists(Some(0), &trs, &[(8, 0)]).unwrap()
+    }
+
+    #[test]
+    fn without_memory_to_grow_into_all_stays() {
+        let one = Machine::from_lists(Some(0), &[], &[(0, 0)]).unwrap();
+        let room = Room {
+            heads: 1,
+            states: 4,
+            trs: 4,
+        };
+        let options = Options {
+            room,
+            ..Options::default()
+        };
+        let mut composition = Composition::open(&one, &chain(), &options).unwrap();
+        composition.expand(0).unwrap();
+        // Memory of this size is never to be had.
+        composition.room.heads = usize::MAX / 16;
+        composition.most.heads = usize::MAX;
+        let refused = composition.run().unwrap_err();
+        assert!(
+            matches!(refused, Error::Memory { what: "words", .. }),
+            "{refused}"
+        );
+        assert_eq!((composition.found(), composition.tr_count()), (4, 3));
+        assert_eq!(composition.expand(0).unwrap().len(), 1);
+        let refused = composition.run().unwrap_err();
+        assert_eq!(refused.refusal(), Some(Refusal::NoRoom));
+        assert_eq!(composition.growths(), 0);
+    }
 }

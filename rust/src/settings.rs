@@ -90,12 +90,21 @@ pub struct Room {
 }
 
 impl Room {
-    /// The most that a composition can use: 65535 records of each sort.
+    /// The largest room: 65535 records of each sort, more than which no composition can use, and as many heads.
     pub const LARGEST: Room = Room {
         heads: 65535,
         states: 65535,
         trs: 65535,
     };
+
+    /// The room, with each count that is above `most` cut down to it.
+    pub fn within(self, most: Room) -> Room {
+        Room {
+            heads: self.heads.min(most.heads),
+            states: self.states.min(most.states),
+            trs: self.trs.min(most.trs),
+        }
+    }
 
     /// Twice the room, within `most`; none where there is no more to be had.
     pub fn larger(self, most: Room) -> Option<Room> {
@@ -134,9 +143,9 @@ pub struct Options {
     pub sigma2: Sigma,
     /// What is sorted first.
     pub sort: Sort,
-    /// The room to begin with; it grows where it does not suffice.
+    /// The room to begin with; it grows where it does not suffice. What is above [`Room::LARGEST`] counts as that.
     pub room: Room,
-    /// The room beyond which it does not grow.
+    /// The room beyond which it does not grow. What is above [`Room::LARGEST`] counts as that.
     pub most: Room,
 }
 
