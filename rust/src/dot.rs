@@ -27,7 +27,7 @@ pub fn draw_named(
     name: impl Fn(u32) -> String,
 ) -> Result<String, Error> {
     let mut dot = String::from("digraph FST {\n    rankdir = LR;\n    node [shape = circle];\n");
-    for state in 0..machine.state_count() as u32 {
+    for state in machine.states() {
         dot.push_str(&node(machine, state, format, &name(state)));
         for tr in machine.trs(state) {
             let both = escaped(&labels(tr, format, ":")?);

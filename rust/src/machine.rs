@@ -3,6 +3,9 @@
 #![forbid(unsafe_code)]
 
 use crate::error::{reserve, Error};
+use crate::readings::Readings;
+use crate::settings::Kind;
+use std::ops::Range;
 
 /// The label epsilon.
 pub const EPSILON: u32 = 0;
@@ -22,6 +25,18 @@ pub struct Tr {
     pub weight: u32,
     /// The state that the transition leads to.
     pub target: u32,
+}
+
+impl Tr {
+    /// The transition that reads `input`, writes `output`, weighs `weight` and leads to `target`.
+    pub const fn new(input: u32, output: u32, weight: u32, target: u32) -> Tr {
+        Tr {
+            input,
+            output,
+            weight,
+            target,
+        }
+    }
 }
 
 /// The side of a machine by whose labels its lists are sorted.
@@ -44,15 +59,17 @@ struct State {
 /// ```
 /// use rinkolza::{By, Machine, Tr};
 ///
-/// let tr = |input, output, weight, target| Tr { input, output, weight, target };
 /// let mut machine = Machine::from_lists(
 ///     Some(0),
-///     &[(0, tr(2, 2, 5, 1)), (0, tr(1, 0, 1, 1))],
+///     &[(0, Tr::new(2, 2, 5, 1)), (0, Tr::new(1, 0, 1, 1))],
 ///     &[(1, 0)],
 /// )?;
 /// assert!(!machine.is_sorted(By::Input));
 /// machine.sort(By::Input);
-/// assert_eq!(machine.trs(0)[0], tr(1, 0, 1, 1));
+/// assert_eq!(machine.trs(0)[0], Tr::new(1, 0, 1, 1));
+/// for state in machine.states() {
+///     println!("{state}: {:?} {:?}", machine.trs(state), machine.final_weight(state));
+/// }
 /// # Ok::<(), rinkolza::Error>(())
 /// ```
 #[derive(Clone, Debug, Default, PartialEq, Eq)]
@@ -177,6 +194,38 @@ impl Machine {
         self.states.len()
     }
 
+    /// The states, by their numbers from 0 on.
+    pub fn states(&self) -> Range<u32> {
+        0..self.states.len() as u32
+    }
+
+    /// The readings: the paths from the start to a final state, the shorter (in transitions) first and those of one
+    /// length in the order of the lists. A transition or a final weight of zero (an infinite cost, a count 0) is not
+    /// there for a reading.
+    ///
+    /// A machine in which such paths have no cycle has finitely many readings, and after the last there is none. With
+    /// a cycle on a path to a final state there are infinitely many, and the iterator has no end: take as many as you
+    /// want, or as long as you want. It never searches without end: paths from which no final state can be reached
+    /// are not walked, and between two lengths that have readings there are no more lengths than there are states. For
+    /// each length up to the present one it keeps the states that matter, no more than a bit for each state.
+    ///
+    /// ```
+    /// use rinkolza::{text, Format, Kind};
+    ///
+    /// let loops = text::read("0 0 1 5 2\n0 1 2 0 3\n1\n", "m", &Format::default())?;
+    /// let short = loops.readings(Kind::Cost).take_while(|reading| reading.trs.len() <= 3);
+    /// let words: Vec<_> = short.map(|r| (r.input(), r.output(), r.weight())).collect();
+    /// assert_eq!(words, [
+    ///     (vec![2], vec![], Some(3)),
+    ///     (vec![1, 2], vec![5], Some(5)),
+    ///     (vec![1, 1, 2], vec![5, 5], Some(7)),
+    /// ]);
+    /// # Ok::<(), rinkolza::Error>(())
+    /// ```
+    pub fn readings(&self, kind: Kind) -> Readings<'_> {
+        Readings::new(self, kind)
+    }
+
     /// How many transitions there are.
     pub fn tr_count(&self) -> usize {
         self.count
@@ -240,12 +289,7 @@ mod tests {
     use super::*;
 
     fn tr(input: u32, output: u32, target: u32) -> Tr {
-        Tr {
-            input,
-            output,
-            weight: 0,
-            target,
-        }
+        Tr::new(input, output, 0, target)
     }
 
     #[test]

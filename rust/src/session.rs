@@ -14,6 +14,7 @@ use crate::settings::{Options, Room};
 use crate::sys::{self, Memory, Session};
 use crate::words::{self, Trs};
 use std::collections::hash_map::{Entry, HashMap};
+use std::ops::Range;
 
 /// The side on which the machines are matched.
 #[derive(Clone, Copy, Debug, PartialEq, Eq)]
@@ -60,13 +61,12 @@ enum Call {
 /// ```
 /// use rinkolza::{Composition, Machine, Options, Tr};
 ///
-/// let tr = |input, output, weight, target| Tr { input, output, weight, target };
-/// let first = Machine::from_lists(Some(0), &[(0, tr(1, 5, 2, 1))], &[(1, 0)])?;
-/// let second = Machine::from_lists(Some(0), &[(0, tr(5, 9, 3, 1))], &[(1, 4)])?;
+/// let first = Machine::from_lists(Some(0), &[(0, Tr::new(1, 5, 2, 1))], &[(1, 0)])?;
+/// let second = Machine::from_lists(Some(0), &[(0, Tr::new(5, 9, 3, 1))], &[(1, 4)])?;
 /// let mut composition = Composition::open(&first, &second, &Options::default())?;
 /// composition.run()?;
 /// let composed = composition.machine()?;
-/// assert_eq!(composed.trs(0), [tr(1, 9, 5, 1)]);
+/// assert_eq!(composed.trs(0), [Tr::new(1, 9, 5, 1)]);
 /// assert_eq!(composed.final_weight(1), Some(4));
 /// # Ok::<(), rinkolza::Error>(())
 /// ```
@@ -183,10 +183,10 @@ impl Composition {
     pub fn machine(&self) -> Result<Machine, Error> {
         let mut machine = Machine::new();
         let mut asked = HashMap::new();
-        for _ in 0..self.found() {
+        for _ in self.states() {
             machine.add_state()?;
         }
-        for n in 0..self.found() {
+        for n in self.states() {
             for tr in self.trs(n) {
                 machine.add_tr(n, tr)?;
             }
@@ -207,6 +207,11 @@ impl Composition {
             1 => Side::Output,
             _ => Side::Both,
         }
+    }
+
+    /// The states that are found, by their numbers from 0 on.
+    pub fn states(&self) -> Range<u32> {
+        0..self.found()
     }
 
     /// How many states are found.
@@ -406,13 +411,8 @@ mod tests {
 
     /// A chain of nine states whose transitions read epsilon: composed with any machine it moves alone.
     fn chain() -> Machine {
-        let tr = |state| Tr {
-            input: 0,
-            output: 1,
-            weight: 1,
-            target: state + 1,
-        };
-        let trs: Vec<(u32, Tr)> = (0..8).map(|state| (state, tr(state))).collect();
+        let tr = |state| (state, Tr::new(0, 1, 1, state + 1));
+        let trs: Vec<(u32, Tr)> = (0..8).map(tr).collect();
         Machine::from_lists(Some(0), &trs, &[(8, 0)]).unwrap()
     }
 

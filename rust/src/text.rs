@@ -203,7 +203,7 @@ pub fn write(machine: &Machine, format: &Format<'_>) -> Result<String, Error> {
         return Ok(text);
     };
     write_state(&mut text, machine, start, format)?;
-    for state in (0..machine.state_count() as u32).filter(|&state| state != start) {
+    for state in machine.states().filter(|&state| state != start) {
         write_state(&mut text, machine, state, format)?;
     }
     Ok(text)

@@ -31,7 +31,7 @@ pub fn encode(machine: &Machine, marks: Marks) -> Vec<u32> {
     words.push(machine.start().map_or(0, |start| start + 1));
     words.extend(header_marks(machine, marks));
     let mut used = 0;
-    for state in 0..states as u32 {
+    for state in machine.states() {
         let count = machine.trs(state).len() as u32;
         words.push(if count == 0 { 0 } else { used + 1 });
         let weight = machine.final_weight(state);
@@ -57,7 +57,7 @@ fn header_marks(machine: &Machine, marks: Marks) -> [u32; 3] {
 
 fn encode_trs(machine: &Machine, words: &mut Vec<u32>) {
     let mut own = 0;
-    for state in 0..machine.state_count() as u32 {
+    for state in machine.states() {
         let trs = machine.trs(state);
         for (place, tr) in trs.iter().enumerate() {
             own += 1;
@@ -113,12 +113,7 @@ pub(crate) fn final_weight(words: &[u32], state: u32) -> Option<u32> {
 
 /// The transition in a record of five words.
 pub(crate) fn tr_of(record: &[u32]) -> Tr {
-    Tr {
-        input: record[0],
-        output: record[1],
-        weight: record[2],
-        target: record[3],
-    }
+    Tr::new(record[0], record[1], record[2], record[3])
 }
 
 /// Transitions in records of five words, in list order.
