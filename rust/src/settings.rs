@@ -54,7 +54,9 @@ pub enum Rewrite {
     Matched,
 }
 
-/// A machine's sigma label: it matches each label that the state has no transition for.
+/// A machine's sigma label: it stands for the rest and matches each label that the state has no transition for.
+///
+/// This is what OpenFst calls *rho* today; its sigma matches every label, beside the label's own transitions.
 #[derive(Clone, Debug, Default, PartialEq, Eq)]
 pub struct Sigma {
     /// The label; none: the machine has no sigma.

@@ -10,7 +10,7 @@
 use crate::error::Error;
 use crate::machine::{Machine, Tr, LARGEST_COUNT, LARGEST_LABEL};
 use crate::settings::Kind;
-use crate::symbols::{fields, label_number, SymbolTable};
+use crate::symbols::{fields, label_number, no_mark, SymbolTable};
 use crate::weight_text;
 use std::collections::HashMap;
 
@@ -47,6 +47,7 @@ pub struct Format<'a> {
 /// # Ok::<(), rinkolza::Error>(())
 /// ```
 pub fn read(text: &str, name: &str, format: &Format<'_>) -> Result<Machine, Error> {
+    no_mark(text, name)?;
     let mut reader = Reader {
         format,
         machine: Machine::new(),
@@ -70,8 +71,13 @@ pub fn utf8<'a>(bytes: &'a [u8], name: &str) -> Result<&'a str, Error> {
             .iter()
             .filter(|&&byte| byte == b'\n')
             .count(),
-        what: "the line is not UTF-8 text (is this a compiled machine? fstprint writes it as text)"
-            .to_string(),
+        what: match bytes {
+            [0xff, 0xfe, ..] | [0xfe, 0xff, ..] => {
+                "the text begins with a byte-order mark of UTF-16: save it as UTF-8 without one"
+            }
+            _ => "the line is not UTF-8 text (is this a compiled machine? fstprint writes it as text)",
+        }
+        .to_string(),
     })
 }
 
@@ -360,6 +366,13 @@ mod tests {
             says(&states, &plain),
             "m:65536: a machine has at most 65535 states"
         );
+        assert!(
+            says("\u{feff}0 1 1 1\n", &plain).starts_with("m:1: the text begins with a byte-order")
+        );
+        assert!(utf8(b"\xff\xfe0\0", "m")
+            .unwrap_err()
+            .to_string()
+            .contains("UTF-16"));
         assert!(utf8(b"0 1\n\xff", "m")
             .unwrap_err()
             .to_string()

@@ -287,3 +287,40 @@ fn refusals_in_words() {
     assert_eq!(said(&rest).1, "0\t0\t9\t9\n0\n");
     std::fs::remove_dir_all(&folder).unwrap();
 }
+
+#[test]
+fn versions() {
+    let version = concat!("rinkolza ", env!("CARGO_PKG_VERSION"), "\n");
+    for words in [
+        &["--version"][..],
+        &["-V"],
+        &["compose", "--version"],
+        &["print", "-V", "-"],
+    ] {
+        assert_eq!(said(&call(words, "")), (0, version, ""), "{words:?}");
+    }
+}
+
+#[test]
+fn helpful_words() {
+    for (option, word) in [
+        ("--connect", "fstconnect"),
+        ("--connect=false", "fstcompose --connect=false"),
+        ("--compose_filter=match", "--filter"),
+        ("--rho2=3", "--sigma1 or --sigma2"),
+        ("--show_weight_one", "it is --show-weight-one"),
+    ] {
+        let (status, error) = complaint(&["compose", option, "-", "a"], "");
+        assert!(status == 2 && error.contains(word), "{option}: {error}");
+    }
+    let (status, error) = complaint(&["print", "-"], "\u{feff}0 1 5 6\n");
+    assert!(
+        status == 3 && error.contains("standard input:1: the text begins with a byte-order mark"),
+        "{error}"
+    );
+    let (status, error) = complaint(
+        &["print", "--symbols=-", &example("glyphs.txt")],
+        "\u{feff}A 1\n",
+    );
+    assert!(status == 3 && error.contains("byte-order mark"), "{error}");
+}

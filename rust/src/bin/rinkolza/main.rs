@@ -35,7 +35,9 @@ fn run() -> Result<(), Stop> {
         "compose" => compose::compose(&args),
         "print" | "draw" => one_machine(&args),
         "--help" | "-h" | "help" => write_out(&args, HELP),
-        "--version" => write_out(&args, concat!("rinkolza ", env!("CARGO_PKG_VERSION"), "\n")),
+        "--version" | "-V" => {
+            write_out(&args, concat!("rinkolza ", env!("CARGO_PKG_VERSION"), "\n"))
+        }
         "" => Err(Stop::usage("say what to do: compose, print or draw")),
         other => Err(Stop::usage(format!("there is no command {other}"))),
     }
