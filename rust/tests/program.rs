@@ -324,3 +324,49 @@ fn helpful_words() {
     );
     assert!(status == 3 && error.contains("byte-order mark"), "{error}");
 }
+
+#[test]
+fn a_machine_that_is_too_long_for_composed() {
+    let lines = |count: usize| "0 0 1 1\n".repeat(count);
+    // 6 words, 3 for the state, 5 for each transition: 4094 and 4099.
+    let (fits, long) = (lines(817), lines(818));
+    let words = |text: &str| call(&["print", "--words", "-"], text);
+    assert_eq!(said(&words(&fits)).2, "");
+    let output = words(&long);
+    let (status, line, note) = said(&output);
+    assert_eq!((status, line.split(' ').count()), (0, 4099));
+    assert!(
+        note.contains("composed takes 4096 words a machine, here are 4099"),
+        "{note}"
+    );
+}
+
+#[test]
+fn the_help_fits_and_names_every_option() {
+    let output = call(&["--help"], "");
+    let help = said(&output).1;
+    for line in help.lines() {
+        assert!(line.len() <= 85, "{line}");
+    }
+    let source = include_str!("../src/bin/rinkolza/args.rs");
+    let names = source.lines().filter_map(|line| {
+        let rest = line.trim().strip_prefix("known(\"")?;
+        rest.split('"').next()
+    });
+    let mut count = 0;
+    for name in names {
+        assert!(help.contains(&format!("--{name}")), "--{name}");
+        count += 1;
+    }
+    assert_eq!(count, 24);
+    for word in [
+        "65535",
+        "refused 13",
+        "include/rinkolza.h",
+        "4096",
+        "rho",
+        "--connect=false",
+    ] {
+        assert!(help.contains(word), "{word}");
+    }
+}

@@ -74,9 +74,18 @@ fn one_machine(args: &Args) -> Result<(), Stop> {
     write_out(args, &text.map_err(unwritable)?)
 }
 
+/// The words of a machine that the program `composed` takes.
+const COMPOSED_WORDS: usize = 4096;
+
 /// The machine's words with true marks, on one line.
 fn word_line(machine: &Machine) -> String {
     let words = words::encode(machine, words::Marks::True);
+    if words.len() > COMPOSED_WORDS {
+        say(format!(
+            "note: composed takes {COMPOSED_WORDS} words a machine, here are {}: it will say refused 2 or 3 (rinkolza compose takes it)",
+            words.len()
+        ));
+    }
     let digits: Vec<String> = words.iter().map(u32::to_string).collect();
     digits.join(" ") + "\n"
 }
