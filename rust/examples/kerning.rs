@@ -23,10 +23,7 @@ fn main() -> Result<(), Error> {
     ];
     let spacing = Machine::from_lists(Some(0), &rules, &[(0, 0)])?;
 
-    let options = Options {
-        filter: Filter::Sequence,
-        ..Options::default()
-    };
+    let options = Options::new().with_filter(Filter::Sequence);
     let composed = compose(&word, &spacing, &options)?;
     print!("{}", text::write(&composed, &Format::default())?);
     // It has no cycle, so its readings come to an end: with the mark, and without it for 5.

@@ -6,6 +6,7 @@ use std::fmt;
 
 /// The refusals of document 01, by their numbers.
 #[derive(Clone, Copy, Debug, PartialEq, Eq, Hash, PartialOrd, Ord)]
+#[non_exhaustive]
 pub enum Refusal {
     /// 1: kind, filter or rewrite mode outside its range.
     Settings = 1,
@@ -103,6 +104,7 @@ impl fmt::Display for Refusal {
 
 /// What the functions of this crate answer where they cannot do what was asked.
 #[derive(Clone, Debug, PartialEq, Eq)]
+#[non_exhaustive]
 pub enum Error {
     /// The composition was refused; `state` is the composed state at which, where there is one.
     Refused {

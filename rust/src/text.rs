@@ -14,8 +14,20 @@ use crate::symbols::{fields, label_number, no_mark, SymbolTable};
 use crate::weight_text;
 use std::collections::HashMap;
 
-/// How a text is read and written.
+/// How a text is read and written. It may get more fields: begin with [`Format::new`] and set what differs.
+///
+/// ```
+/// use rinkolza::{text, Format, Kind, SymbolTable};
+///
+/// let table = SymbolTable::parse("<eps> 0\nA 1\n", "glyphs.syms")?;
+/// let mut format = Format::new().with_kind(Kind::Count).with_symbols(&table);
+/// format.show_one = true;
+/// let machine = text::read("0 0 A A\n0\n", "m.txt", &format)?;
+/// assert_eq!(text::write(&machine, &format)?, "0\t0\tA\tA\t1\n0\t1\n");
+/// # Ok::<(), rinkolza::Error>(())
+/// ```
 #[derive(Clone, Copy, Debug, Default)]
+#[non_exhaustive]
 pub struct Format<'a> {
     /// What weights are.
     pub kind: Kind,
@@ -30,6 +42,35 @@ pub struct Format<'a> {
     pub isymbols: Option<&'a SymbolTable>,
     /// Names of the output labels.
     pub osymbols: Option<&'a SymbolTable>,
+}
+
+impl<'a> Format<'a> {
+    /// Costs, two labels a transition, states numbered as they are named, no symbols.
+    pub fn new() -> Format<'a> {
+        Format::default()
+    }
+
+    /// With weights of this kind.
+    #[must_use]
+    pub fn with_kind(mut self, kind: Kind) -> Format<'a> {
+        self.kind = kind;
+        self
+    }
+
+    /// With one label a transition, or two.
+    #[must_use]
+    pub fn with_acceptor(mut self, acceptor: bool) -> Format<'a> {
+        self.acceptor = acceptor;
+        self
+    }
+
+    /// With this table for input and output labels.
+    #[must_use]
+    pub fn with_symbols(mut self, table: &'a SymbolTable) -> Format<'a> {
+        self.isymbols = Some(table);
+        self.osymbols = Some(table);
+        self
+    }
 }
 
 /// Reads a machine; `name` stands for the text in errors.

@@ -20,11 +20,7 @@ struct Example {
 
 fn foundry() -> Example {
     let table = SymbolTable::parse(&example("labels.syms"), "labels.syms").unwrap();
-    let format = Format {
-        isymbols: Some(&table),
-        osymbols: Some(&table),
-        ..Format::default()
-    };
+    let format = Format::new().with_symbols(&table);
     let glyphs = text::read(&example("glyphs.txt"), "glyphs.txt", &format).unwrap();
     let spacing = text::read(&example("spacing.txt"), "spacing.txt", &format).unwrap();
     let composed = compose(&glyphs, &spacing, &Options::default()).unwrap();

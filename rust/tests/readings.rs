@@ -138,10 +138,7 @@ fn a_composition_has_one_reading_for_each_pair_that_meets() {
         let mut machine = || forward(&words::decode(&draw.machine(None, 9, 6)).unwrap());
         let (first, second) = (machine(), machine());
         for kind in [Kind::Cost, Kind::Count] {
-            let product = |a: u64, b: u64| match kind {
-                Kind::Cost => a + b,
-                Kind::Count => a * b,
-            };
+            let product = |a: u64, b: u64| if kind == Kind::Cost { a + b } else { a * b };
             let mut pairs = Vec::new();
             for (input, inner1, weight1) in said(first.readings(kind)) {
                 for (inner2, output, weight2) in said(second.readings(kind)) {
@@ -153,11 +150,7 @@ fn a_composition_has_one_reading_for_each_pair_that_meets() {
             pairs.sort();
             met += pairs.len();
             for filter in [Filter::Sequence, Filter::Alternate, Filter::Match] {
-                let options = Options {
-                    kind,
-                    filter,
-                    ..Options::default()
-                };
+                let options = Options::new().with_kind(kind).with_filter(filter);
                 let composed = compose(&first, &second, &options).unwrap();
                 assert_eq!(said(composed.readings(kind)), pairs);
             }

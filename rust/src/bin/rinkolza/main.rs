@@ -55,12 +55,9 @@ fn one_machine(args: &Args) -> Result<(), Stop> {
         ],
     )?;
     let tables = Tables::read(args)?;
-    let format = Format {
-        acceptor: args.has("acceptor"),
-        isymbols: tables.input(),
-        osymbols: tables.output(),
-        ..plain_format(args)?
-    };
+    let mut format = plain_format(args)?.with_acceptor(args.has("acceptor"));
+    format.isymbols = tables.input();
+    format.osymbols = tables.output();
     let mut machine = files::read_machine(file, &format)?;
     if let Some(by) = sort {
         machine.sort(by);
@@ -92,24 +89,21 @@ fn word_line(machine: &Machine) -> String {
 
 /// What all commands say of texts.
 fn plain_format(args: &Args) -> Result<Format<'static>, Stop> {
-    Ok(Format {
-        kind: args.choice("kind", &[("cost", Kind::Cost), ("count", Kind::Count)])?,
-        keep_numbers: args.has("keep-state-numbering"),
-        show_one: args.has("show-weight-one"),
-        ..Format::default()
-    })
+    let kind = args.choice("kind", &[("cost", Kind::Cost), ("count", Kind::Count)])?;
+    let mut format = Format::new().with_kind(kind);
+    format.keep_numbers = args.has("keep-state-numbering");
+    format.show_one = args.has("show-weight-one");
+    Ok(format)
 }
 
 /// The format to write in: without symbols where numbers are asked for.
 fn shown<'a>(args: &Args, format: &Format<'a>) -> Format<'a> {
-    match args.has("numeric") {
-        false => *format,
-        true => Format {
-            isymbols: None,
-            osymbols: None,
-            ..*format
-        },
+    let mut format = *format;
+    if args.has("numeric") {
+        format.isymbols = None;
+        format.osymbols = None;
     }
+    format
 }
 
 fn unwritable(error: Error) -> Stop {
