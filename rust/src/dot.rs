@@ -9,6 +9,10 @@ use crate::weight_text;
 
 /// The machine as a Graphviz graph: the start is bold, final states have two rings, weights stand behind a slash.
 ///
+/// # Errors
+///
+/// As for [`text::write`](crate::text::write).
+///
 /// ```
 /// use rinkolza::{dot, text, Format};
 ///
@@ -21,6 +25,10 @@ pub fn draw(machine: &Machine, format: &Format<'_>) -> Result<String, Error> {
 }
 
 /// As [`draw`], with a name of one's own in each state's ring.
+///
+/// # Errors
+///
+/// As for [`draw`].
 pub fn draw_named(
     machine: &Machine,
     format: &Format<'_>,

@@ -4,7 +4,8 @@
 
 use std::fmt;
 
-/// The refusals of document 01, by their numbers.
+/// Why a call was refused. The numbers are those of the library's header, `include/rinkolza.h`, which has the causes and
+/// the order of the checks.
 #[derive(Clone, Copy, Debug, PartialEq, Eq, Hash, PartialOrd, Ord)]
 #[non_exhaustive]
 pub enum Refusal {
@@ -54,7 +55,7 @@ const ALL: [Refusal; 13] = [
 ];
 
 impl Refusal {
-    /// The refusal's number in document 01, from 1 to 13.
+    /// The refusal's number, from 1 to 13, as in the library's header.
     pub fn number(self) -> u32 {
         self as u32
     }

@@ -87,6 +87,11 @@ impl Machine {
 
     /// The machine with these transitions, each after the state that it leaves, and these final weights.
     /// States are as many as the largest number that is named asks for.
+    ///
+    /// # Errors
+    ///
+    /// [`Error::Machine`] where a state is above 65534, a label above [`LARGEST_LABEL`], or there are more than
+    /// [`LARGEST_COUNT`] transitions; [`Error::Memory`] where there is no memory for them.
     pub fn from_lists(
         start: Option<u32>,
         trs: &[(u32, Tr)],
@@ -110,6 +115,10 @@ impl Machine {
     }
 
     /// Adds a state without transitions that is not final, and gives its number.
+    ///
+    /// # Errors
+    ///
+    /// [`Error::Machine`] where there are [`LARGEST_COUNT`] states already; [`Error::Memory`] where there is no memory for it.
     pub fn add_state(&mut self) -> Result<u32, Error> {
         if self.states.len() >= LARGEST_COUNT {
             return Err(Error::Machine(format!(
@@ -122,6 +131,10 @@ impl Machine {
     }
 
     /// Adds states until this number is a state.
+    ///
+    /// # Errors
+    ///
+    /// [`Error::Machine`] where the number is above 65534; [`Error::Memory`] where there is no memory for it.
     pub fn ensure_state(&mut self, state: u32) -> Result<(), Error> {
         if state as usize >= LARGEST_COUNT {
             return Err(Error::Machine(format!(
@@ -135,6 +148,11 @@ impl Machine {
     }
 
     /// Appends a transition to the list of `source`.
+    ///
+    /// # Errors
+    ///
+    /// [`Error::Machine`] where `source` or the target is no state, a label is above [`LARGEST_LABEL`], or there are
+    /// [`LARGEST_COUNT`] transitions already; [`Error::Memory`] where there is no memory for it.
     pub fn add_tr(&mut self, source: u32, tr: Tr) -> Result<(), Error> {
         self.known(source)?;
         self.known(tr.target)?;
@@ -156,6 +174,10 @@ impl Machine {
     }
 
     /// Makes the state the start, or the machine one without a start.
+    ///
+    /// # Errors
+    ///
+    /// [`Error::Machine`] where it is no state.
     pub fn set_start(&mut self, start: Option<u32>) -> Result<(), Error> {
         if let Some(state) = start {
             self.known(state)?;
@@ -168,6 +190,10 @@ impl Machine {
     ///
     /// A final weight of zero (an infinite cost, a count 0) counts as final for the filters, but no reading ends there.
     /// OpenFst takes such a state for one that is not final; so do the texts here, see [`text`](crate::text).
+    ///
+    /// # Errors
+    ///
+    /// [`Error::Machine`] where it is no state.
     pub fn set_final(&mut self, state: u32, weight: Option<u32>) -> Result<(), Error> {
         self.known(state)?;
         self.states[state as usize].final_weight = weight;

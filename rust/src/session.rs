@@ -2,8 +2,8 @@
 //!
 //! The library below works in memory that it is lent and refuses a call, 13, where a record is lacking. Here memory
 //! is owned: on 13 the composition is opened anew in larger memory, the calls made so far are made again in the
-//! same order, and the refused call is made again. By demand 3 of the library larger memory yields the same answer
-//! to every call before the smaller one's first 13, so that what was answered before stays as it was.
+//! same order, and the refused call is made again. It is proved of the library that larger memory yields the same
+//! answer to every call before the smaller one's first 13, so that what was answered before stays as it was.
 
 #![forbid(unsafe_code)]
 
@@ -84,6 +84,12 @@ pub struct Composition {
 
 impl Composition {
     /// Opens the composition of two machines, sorted first as the options say.
+    ///
+    /// # Errors
+    ///
+    /// [`Error::Refused`] by [`Refusal::SigmaZero`], [`Refusal::FirstUnsorted`], [`Refusal::SecondUnsorted`] or
+    /// [`Refusal::NoSide`] (the last three under [`Sort::Never`](crate::Sort::Never) alone), or by [`Refusal::NoRoom`]
+    /// where `room` and `most` leave none for a state or a head; [`Error::Memory`] where there is no memory for the room.
     pub fn open(
         first: &Machine,
         second: &Machine,
@@ -93,8 +99,12 @@ impl Composition {
         Composition::open_words(inputs, options.room, options.most)
     }
 
-    /// Opens the composition of two machines in document 01's words, with room that may grow up to `most`; both count
-    /// as [`Room::LARGEST`] where they are above it.
+    /// Opens the composition of two machines in words, see [`words`](crate::words), with room that may grow up to
+    /// `most`; both count as [`Room::LARGEST`] where they are above it.
+    ///
+    /// # Errors
+    ///
+    /// [`Error::Refused`] by the numbers 1 to 7 or 13; [`Error::Memory`] where there is no memory for the room.
     pub fn open_words(inputs: Inputs, room: Room, most: Room) -> Result<Composition, Error> {
         let (room, most) = (room.within(Room::LARGEST), most.within(Room::LARGEST));
         let mut composition = Composition {
@@ -115,6 +125,12 @@ impl Composition {
     }
 
     /// Expands state n, where it is not yet, and gives its transitions.
+    ///
+    /// # Errors
+    ///
+    /// [`Error::Refused`], with the state, by [`Refusal::NotFound`], [`Refusal::BothNeedMatching`],
+    /// [`Refusal::SigmaWalked`], [`Refusal::TooLarge`] or, where no more room is left to grow, [`Refusal::NoRoom`];
+    /// [`Error::Memory`] where memory to grow is not to be had. The composition stays as it was.
     pub fn expand(&mut self, n: u32) -> Result<Trs<'_>, Error> {
         let new = !self.is_expanded(n);
         reserve(&mut self.calls, 1, "calls")?;
@@ -126,8 +142,12 @@ impl Composition {
         Ok(self.trs(n))
     }
 
-    /// Expands all states, those that are found on the way too, in number order. Where it is refused the states
-    /// expanded before stay.
+    /// Expands all states, those that are found on the way too, in number order.
+    ///
+    /// # Errors
+    ///
+    /// As for [`Composition::expand`] at one of the states, [`Refusal::NotFound`] apart; the states expanded before it
+    /// stay.
     pub fn run(&mut self) -> Result<(), Error> {
         reserve(&mut self.calls, 1, "calls")?;
         let answer = self.insist(Composition::run_once);
@@ -139,6 +159,10 @@ impl Composition {
 
     /// Expands at most `count` states, the lowest numbers first, as a run does; says how far it has come. Each step
     /// checks machines and memory again, so that a run is faster.
+    ///
+    /// # Errors
+    ///
+    /// As for [`Composition::run`].
     pub fn step(&mut self, count: u32) -> Result<Progress, Error> {
         for _ in 0..count {
             match self.first_unexpanded() {
@@ -150,6 +174,10 @@ impl Composition {
     }
 
     /// Runs in steps of `every` states (at least one) and tells `show` after each how far it has come.
+    ///
+    /// # Errors
+    ///
+    /// As for [`Composition::run`].
     pub fn run_with(&mut self, every: u32, mut show: impl FnMut(Progress)) -> Result<(), Error> {
         loop {
             let progress = self.step(every.max(1))?;
@@ -161,6 +189,10 @@ impl Composition {
     }
 
     /// The final weight of state n; none where it is not final.
+    ///
+    /// # Errors
+    ///
+    /// [`Error::Refused`], with the state, by [`Refusal::NotFound`] or [`Refusal::TooLarge`].
     pub fn final_weight(&self, n: u32) -> Result<Option<u32>, Error> {
         sys::final_weight(&self.inputs.lent(), &self.session, &self.memory, n)
             .map_err(|number| Error::refused(known(number)).at(Some(n)))
@@ -180,6 +212,11 @@ impl Composition {
     /// The composed machine as far as it is expanded; its states are those found, 0 the start.
     ///
     /// A state's final weight depends on the final weights of its two states alone: each pair of these is asked for once.
+    ///
+    /// # Errors
+    ///
+    /// [`Error::Refused`] by [`Refusal::TooLarge`] where a final weight is; [`Error::Memory`] where there is no memory for
+    /// the machine.
     pub fn machine(&self) -> Result<Machine, Error> {
         let mut machine = Machine::new();
         let mut asked = HashMap::new();
@@ -364,6 +401,10 @@ impl Composition {
 }
 
 /// Composes two machines whole: opens, runs, and gives the composed machine.
+///
+/// # Errors
+///
+/// As for [`Composition::open`], [`Composition::run`] and [`Composition::machine`]; there is nothing half done.
 ///
 /// ```
 /// use rinkolza::{compose, text, Format, Options};

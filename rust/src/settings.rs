@@ -259,7 +259,7 @@ impl Options {
         self
     }
 
-    /// The six words of document 01's settings: kind, filter, sigma 1, mode 1, sigma 2, mode 2.
+    /// The six words of the library's settings: kind, filter, sigma 1, mode 1, sigma 2, mode 2; 4294967295 is no sigma.
     pub fn words(&self) -> [u32; 6] {
         let label = |sigma: &Sigma| sigma.label.unwrap_or(u32::MAX);
         [

@@ -26,6 +26,11 @@ pub struct SymbolTable {
 impl SymbolTable {
     /// Reads a table; `name` stands for it in errors. A symbol has one number; a number with two symbols is printed
     /// as the last, as OpenFst does.
+    ///
+    /// # Errors
+    ///
+    /// [`Error::Text`], with the line, where a line is not a symbol and a number up to 4294967294, a symbol has two
+    /// numbers, or the text begins with a byte-order mark.
     pub fn parse(text: &str, name: &str) -> Result<SymbolTable, Error> {
         let mut table = SymbolTable {
             name: name.to_string(),

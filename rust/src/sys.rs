@@ -131,8 +131,11 @@ pub fn open(
     )
 }
 
-/// Expands state n. Answers the number of its first record, from 1 on (0: none), and the count; or the refusal's
-/// number, and session and memory stay.
+/// Expands state n. Answers the number of its first record, from 1 on (0: none), and the count.
+///
+/// # Errors
+///
+/// The refusal's number, from 1 to 13; session and memory stay.
 pub fn expand(
     lent: &Lent<'_>,
     session: &mut Session,
@@ -154,7 +157,11 @@ pub fn expand(
     }
 }
 
-/// The final weight of state n, none where it is not final; or the refusal's number.
+/// The final weight of state n, none where it is not final.
+///
+/// # Errors
+///
+/// The refusal's number: 1 to 9, or 12.
 pub fn final_weight(
     lent: &Lent<'_>,
     session: &Session,

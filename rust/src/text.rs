@@ -75,6 +75,12 @@ impl<'a> Format<'a> {
 
 /// Reads a machine; `name` stands for the text in errors.
 ///
+/// # Errors
+///
+/// [`Error::Text`], with the line, where a line has another form, a label is neither in its symbol table nor, without
+/// one, a number, a weight is not whole, there are too many states or transitions, or the text begins with a byte-order
+/// mark.
+///
 /// ```
 /// use rinkolza::{text, Format};
 ///
@@ -104,7 +110,11 @@ pub fn read(text: &str, name: &str, format: &Format<'_>) -> Result<Machine, Erro
     Ok(reader.machine)
 }
 
-/// Bytes as text, or an error that names the first line that is not UTF-8.
+/// Bytes as text.
+///
+/// # Errors
+///
+/// [`Error::Text`], with the first line that is not UTF-8.
 pub fn utf8<'a>(bytes: &'a [u8], name: &str) -> Result<&'a str, Error> {
     std::str::from_utf8(bytes).map_err(|error| Error::Text {
         source: name.to_string(),
@@ -236,6 +246,10 @@ fn label(field: &str, side: &str, symbols: Option<&SymbolTable>) -> Result<u32, 
 }
 
 /// Writes a machine, the start's lines first, then the others in number order; nothing where there is no start.
+///
+/// # Errors
+///
+/// [`Error::Machine`] where a label has no symbol in its table, or as an acceptor's a transition's labels differ.
 ///
 /// ```
 /// use rinkolza::{text, Format};

@@ -1,4 +1,4 @@
-//! A machine in document 01's words.
+//! A machine as the words that the library takes; `include/rinkolza.h` describes them.
 //!
 //! Header: state count, transition count, start plus one, input mark, output mark, acceptor mark; then three words
 //! for each state (first transition, final, final weight) and five for each transition (input, output, weight,
@@ -68,6 +68,11 @@ fn encode_trs(machine: &Machine, words: &mut Vec<u32>) {
 }
 
 /// The machine that the words hold; marks are not looked at. Lists that share a tail become lists of their own.
+///
+/// # Errors
+///
+/// [`Error::Machine`] where the words are not a machine, or with lists of their own it has more than 65535 transitions;
+/// [`Error::Memory`] where there is no memory for it.
 pub fn decode(words: &[u32]) -> Result<Machine, Error> {
     let bad = || Error::Machine("these words are not a machine".to_string());
     let header = words.get(..HEADER).ok_or_else(bad)?;

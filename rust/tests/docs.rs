@@ -38,3 +38,37 @@ fn what_may_grow_is_marked() {
         assert!(all.contains(&marked), "{item}");
     }
 }
+
+/// A user of the crate has never seen the documents that the library was written from.
+#[test]
+fn no_document_is_spoken_of_that_users_lack() {
+    for (name, text) in sources() {
+        let lower = text.to_lowercase();
+        assert!(!lower.contains("document 01"), "{name}");
+        assert!(!lower.contains("demand"), "{name}");
+    }
+}
+
+/// The documentation of every public function that may fail says how.
+#[test]
+fn errors_are_documented() {
+    let mut count = 0;
+    for (name, text) in sources() {
+        let own = text.split("#[cfg(test)]").next().unwrap();
+        for (at, _) in own.match_indices("pub fn ") {
+            let (before, rest) = own.split_at(at);
+            let signature = rest.split(" {\n").next().unwrap();
+            if !signature.contains("-> Result<") {
+                continue;
+            }
+            let lines = before.lines().rev().skip(1);
+            let docs: Vec<&str> = lines
+                .take_while(|line| line.trim().starts_with("///") || line.trim().starts_with("#["))
+                .collect();
+            let documented = docs.iter().any(|line| line.trim() == "/// # Errors");
+            assert!(documented, "{name}: {signature}");
+            count += 1;
+        }
+    }
+    assert!(count >= 20, "{count}");
+}
