@@ -72,3 +72,14 @@ fn errors_are_documented() {
     }
     assert!(count >= 20, "{count}");
 }
+
+/// The manifest names the licence of the sources from which the code was carried, and the changes have the version.
+#[test]
+fn licence_and_changes() {
+    let manifest = include_str!("../Cargo.toml");
+    assert!(manifest.contains("license = \"MIT OR Apache-2.0\""));
+    let notice = include_str!("../../NOTICE");
+    assert!(notice.contains("Apache License, Version 2.0") && notice.contains("MIT license"));
+    let version = format!("\n## {}\n", env!("CARGO_PKG_VERSION"));
+    assert!(include_str!("../CHANGELOG.md").contains(&version));
+}
