@@ -110,9 +110,9 @@
  *
  * Sigma stands for the rest: a label without a match of its own, neither 0 nor
  * RINKOLZA_NO_LABEL and in the machine's allowed list, is given each sigma
- * transition, rewritten. A label with matches of its own gets those only. Asked
- * for the sigma label itself: refusal 11. A machine with a sigma label must be
- * sorted on its matched side.
+ * transition, rewritten. A label with matches of its own gets those only. (This
+ * is what OpenFst calls rho today.) Asked for the sigma label itself: refusal
+ * 11. A machine with a sigma label must be sorted on its matched side.
  *
  * Allowed lists (const, one for each machine, lent at every call): any words in
  * any order. `has1`, `has2` say whether there is a list: 0, no list, and every
@@ -156,8 +156,9 @@
  * RINKOLZA_LIMIT; what is past that is never read or written. A composition
  * has at most 3 S1 S2 states. There is no bound for its transitions that is
  * worth lending at once: where a call is refused with 13, open again with
- * larger slices. With no slice shorter every call answers as before, up to where
- * the smaller memory was refused with 13.
+ * larger slices and make the calls again (tests/c_grow.c does so). With no slice
+ * shorter every call answers as before, up to where the smaller memory was
+ * refused with 13.
  *
  * Before the opening the words of memory may be anything. After it, nobody
  * but these calls may write to memory, or the answers are those of whatever

@@ -1,6 +1,7 @@
 #!/bin/sh
-# Compiles tests/c_example.c against the proved library with warnings as errors, runs it, and compares what it prints with document 01's listing of case 1,
-# which `composed` is held to as well: `plain`, `sanitized` (the address and undefined-behaviour sanitizers), or both where none is named.
+# Compiles tests/c_example.c and tests/c_grow.c against the proved library with warnings as errors, runs them, and compares what each prints with document
+# 01's listing of case 1, which `composed` is held to as well; the second must have been refused 13 and grown on the way.
+# `plain`, `sanitized` (the address and undefined-behaviour sanitizers), or both where none is named.
 # RINKOLZA_LIB_DIR is the folder of the archive; without it the archive is built, which needs `rt`. Needs `gcc` on x86-64 Linux.
 set -eu
 cd "$(dirname "$0")/.."
@@ -14,9 +15,13 @@ for build; do
     sanitized) extra='-fsanitize=address,undefined -fno-sanitize-recover=all' ;;
     *) echo "C example: no build $build"; exit 2 ;;
     esac
-    # shellcheck disable=SC2086
-    gcc -Wall -Wextra -Werror -std=c99 -pedantic -O1 -g $extra -o "$room/example" tests/c_example.c "${RINKOLZA_LIB_DIR:-target/staticlib}/librinkolza.a"
-    "$room/example" >"$room/wrote"
-    cmp "$room/wrote" crates/composed/stdout
+    for name in c_example c_grow; do
+        # shellcheck disable=SC2086
+        gcc -Wall -Wextra -Werror -std=c99 -pedantic -O1 -g $extra -o "$room/$name" tests/$name.c "${RINKOLZA_LIB_DIR:-target/staticlib}/librinkolza.a"
+        "$room/$name" >"$room/wrote" 2>"$room/said" || { cat "$room/said" "$room/wrote"; exit 1; }
+        cat "$room/said"
+        cmp "$room/wrote" crates/composed/stdout
+    done
+    grep -q '^refused 13 with room for' "$room/said" || { echo "c_grow never grew"; exit 1; }
     echo "C example, $build: ok"
 done

@@ -9,6 +9,10 @@ use crate::weight_text;
 
 /// The machine as a Graphviz graph: the start is bold, final states have two rings, weights stand behind a slash.
 ///
+/// # Errors
+///
+/// As for [`text::write`](crate::text::write).
+///
 /// ```
 /// use rinkolza::{dot, text, Format};
 ///
@@ -21,13 +25,17 @@ pub fn draw(machine: &Machine, format: &Format<'_>) -> Result<String, Error> {
 }
 
 /// As [`draw`], with a name of one's own in each state's ring.
+///
+/// # Errors
+///
+/// As for [`draw`].
 pub fn draw_named(
     machine: &Machine,
     format: &Format<'_>,
     name: impl Fn(u32) -> String,
 ) -> Result<String, Error> {
     let mut dot = String::from("digraph FST {\n    rankdir = LR;\n    node [shape = circle];\n");
-    for state in 0..machine.state_count() as u32 {
+    for state in machine.states() {
         dot.push_str(&node(machine, state, format, &name(state)));
         for tr in machine.trs(state) {
             let both = escaped(&labels(tr, format, ":")?);

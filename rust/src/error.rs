@@ -4,8 +4,10 @@
 
 use std::fmt;
 
-/// The refusals of document 01, by their numbers.
+/// Why a call was refused. The numbers are those of the library's header, `include/rinkolza.h`, which has the causes and
+/// the order of the checks.
 #[derive(Clone, Copy, Debug, PartialEq, Eq, Hash, PartialOrd, Ord)]
+#[non_exhaustive]
 pub enum Refusal {
     /// 1: kind, filter or rewrite mode outside its range.
     Settings = 1,
@@ -53,7 +55,7 @@ const ALL: [Refusal; 13] = [
 ];
 
 impl Refusal {
-    /// The refusal's number in document 01, from 1 to 13.
+    /// The refusal's number, from 1 to 13, as in the library's header.
     pub fn number(self) -> u32 {
         self as u32
     }
@@ -103,6 +105,7 @@ impl fmt::Display for Refusal {
 
 /// What the functions of this crate answer where they cannot do what was asked.
 #[derive(Clone, Debug, PartialEq, Eq)]
+#[non_exhaustive]
 pub enum Error {
     /// The composition was refused; `state` is the composed state at which, where there is one.
     Refused {
@@ -122,6 +125,13 @@ pub enum Error {
     },
     /// A machine cannot be built or written as asked.
     Machine(String),
+    /// Memory for so many items is not to be had.
+    Memory {
+        /// How many were asked for.
+        items: usize,
+        /// What they are: words, states, transitions.
+        what: &'static str,
+    },
 }
 
 impl Error {
@@ -130,6 +140,14 @@ impl Error {
         Error::Refused {
             refusal,
             state: None,
+        }
+    }
+
+    /// The same at a composed state, where it is a refusal.
+    pub(crate) fn at(self, at: Option<u32>) -> Error {
+        match self {
+            Error::Refused { refusal, .. } => Error::Refused { refusal, state: at },
+            other => other,
         }
     }
 
@@ -161,11 +179,22 @@ impl fmt::Display for Error {
             ),
             Error::Text { source, line, what } => write!(f, "{source}:{line}: {what}"),
             Error::Machine(what) => f.write_str(what),
+            Error::Memory { items, what } => {
+                write!(f, "there is no memory for {items} {what}")
+            }
         }
     }
 }
 
 impl std::error::Error for Error {}
+
+/// Room for so many items more, or an error; to push them then cannot fail.
+pub(crate) fn reserve<T>(list: &mut Vec<T>, more: usize, what: &'static str) -> Result<(), Error> {
+    list.try_reserve(more).map_err(|_| Error::Memory {
+        items: list.len().saturating_add(more),
+        what,
+    })
+}
 
 #[cfg(test)]
 mod tests {

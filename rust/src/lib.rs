@@ -17,16 +17,21 @@
 //! # Ok::<(), rinkolza::Error>(())
 //! ```
 //!
+//! [`Machine::readings`] lists the accepting paths of a machine, composed or not.
+//!
 //! [`Composition`] keeps a composition open: it expands states one by one, as they are asked for, and shows how far a
-//! long run has come. A machine, and a composition, has at most 65535 states and 65535 transitions.
+//! long run has come. A machine, and a composition, has at most 65535 states and 65535 transitions. What a composition
+//! may be refused for is a [`Refusal`]; the numbers are those of the library's header, `include/rinkolza.h`.
 
 #![deny(unsafe_code)]
 #![warn(missing_docs)]
+#![warn(clippy::missing_errors_doc)]
 
 pub mod dot;
 mod error;
 mod machine;
 mod prepare;
+mod readings;
 mod session;
 mod settings;
 mod symbols;
@@ -39,6 +44,7 @@ pub mod words;
 pub use error::{Error, Refusal};
 pub use machine::{By, Machine, Tr, EPSILON, LARGEST_COUNT, LARGEST_LABEL};
 pub use prepare::{to_sort, Inputs};
+pub use readings::{Reading, Readings};
 pub use session::{compose, Composition, Progress, Side, Triple};
 pub use settings::{Filter, Kind, Options, Rewrite, Room, Sigma, Sort};
 pub use symbols::SymbolTable;

@@ -2,7 +2,10 @@
 
 #![forbid(unsafe_code)]
 
-use crate::error::Error;
+use crate::error::{reserve, Error};
+use crate::readings::Readings;
+use crate::settings::Kind;
+use std::ops::Range;
 
 /// The label epsilon.
 pub const EPSILON: u32 = 0;
@@ -22,6 +25,18 @@ pub struct Tr {
     pub weight: u32,
     /// The state that the transition leads to.
     pub target: u32,
+}
+
+impl Tr {
+    /// The transition that reads `input`, writes `output`, weighs `weight` and leads to `target`.
+    pub const fn new(input: u32, output: u32, weight: u32, target: u32) -> Tr {
+        Tr {
+            input,
+            output,
+            weight,
+            target,
+        }
+    }
 }
 
 /// The side of a machine by whose labels its lists are sorted.
@@ -44,15 +59,17 @@ struct State {
 /// ```
 /// use rinkolza::{By, Machine, Tr};
 ///
-/// let tr = |input, output, weight, target| Tr { input, output, weight, target };
 /// let mut machine = Machine::from_lists(
 ///     Some(0),
-///     &[(0, tr(2, 2, 5, 1)), (0, tr(1, 0, 1, 1))],
+///     &[(0, Tr::new(2, 2, 5, 1)), (0, Tr::new(1, 0, 1, 1))],
 ///     &[(1, 0)],
 /// )?;
 /// assert!(!machine.is_sorted(By::Input));
 /// machine.sort(By::Input);
-/// assert_eq!(machine.trs(0)[0], tr(1, 0, 1, 1));
+/// assert_eq!(machine.trs(0)[0], Tr::new(1, 0, 1, 1));
+/// for state in machine.states() {
+///     println!("{state}: {:?} {:?}", machine.trs(state), machine.final_weight(state));
+/// }
 /// # Ok::<(), rinkolza::Error>(())
 /// ```
 #[derive(Clone, Debug, Default, PartialEq, Eq)]
@@ -70,6 +87,11 @@ impl Machine {
 
     /// The machine with these transitions, each after the state that it leaves, and these final weights.
     /// States are as many as the largest number that is named asks for.
+    ///
+    /// # Errors
+    ///
+    /// [`Error::Machine`] where a state is above 65534, a label above [`LARGEST_LABEL`], or there are more than
+    /// [`LARGEST_COUNT`] transitions; [`Error::Memory`] where there is no memory for them.
     pub fn from_lists(
         start: Option<u32>,
         trs: &[(u32, Tr)],
@@ -93,17 +115,26 @@ impl Machine {
     }
 
     /// Adds a state without transitions that is not final, and gives its number.
+    ///
+    /// # Errors
+    ///
+    /// [`Error::Machine`] where there are [`LARGEST_COUNT`] states already; [`Error::Memory`] where there is no memory for it.
     pub fn add_state(&mut self) -> Result<u32, Error> {
         if self.states.len() >= LARGEST_COUNT {
             return Err(Error::Machine(format!(
                 "a machine has at most {LARGEST_COUNT} states"
             )));
         }
+        reserve(&mut self.states, 1, "states")?;
         self.states.push(State::default());
         Ok(self.states.len() as u32 - 1)
     }
 
     /// Adds states until this number is a state.
+    ///
+    /// # Errors
+    ///
+    /// [`Error::Machine`] where the number is above 65534; [`Error::Memory`] where there is no memory for it.
     pub fn ensure_state(&mut self, state: u32) -> Result<(), Error> {
         if state as usize >= LARGEST_COUNT {
             return Err(Error::Machine(format!(
@@ -117,6 +148,11 @@ impl Machine {
     }
 
     /// Appends a transition to the list of `source`.
+    ///
+    /// # Errors
+    ///
+    /// [`Error::Machine`] where `source` or the target is no state, a label is above [`LARGEST_LABEL`], or there are
+    /// [`LARGEST_COUNT`] transitions already; [`Error::Memory`] where there is no memory for it.
     pub fn add_tr(&mut self, source: u32, tr: Tr) -> Result<(), Error> {
         self.known(source)?;
         self.known(tr.target)?;
@@ -130,12 +166,18 @@ impl Machine {
                 "a machine has at most {LARGEST_COUNT} transitions"
             )));
         }
-        self.states[source as usize].trs.push(tr);
+        let trs = &mut self.states[source as usize].trs;
+        reserve(trs, 1, "transitions")?;
+        trs.push(tr);
         self.count += 1;
         Ok(())
     }
 
     /// Makes the state the start, or the machine one without a start.
+    ///
+    /// # Errors
+    ///
+    /// [`Error::Machine`] where it is no state.
     pub fn set_start(&mut self, start: Option<u32>) -> Result<(), Error> {
         if let Some(state) = start {
             self.known(state)?;
@@ -148,6 +190,10 @@ impl Machine {
     ///
     /// A final weight of zero (an infinite cost, a count 0) counts as final for the filters, but no reading ends there.
     /// OpenFst takes such a state for one that is not final; so do the texts here, see [`text`](crate::text).
+    ///
+    /// # Errors
+    ///
+    /// [`Error::Machine`] where it is no state.
     pub fn set_final(&mut self, state: u32, weight: Option<u32>) -> Result<(), Error> {
         self.known(state)?;
         self.states[state as usize].final_weight = weight;
@@ -172,6 +218,38 @@ impl Machine {
     /// How many states there are.
     pub fn state_count(&self) -> usize {
         self.states.len()
+    }
+
+    /// The states, by their numbers from 0 on.
+    pub fn states(&self) -> Range<u32> {
+        0..self.states.len() as u32
+    }
+
+    /// The readings: the paths from the start to a final state, the shorter (in transitions) first and those of one
+    /// length in the order of the lists. A transition or a final weight of zero (an infinite cost, a count 0) is not
+    /// there for a reading.
+    ///
+    /// A machine in which such paths have no cycle has finitely many readings, and after the last there is none. With
+    /// a cycle on a path to a final state there are infinitely many, and the iterator has no end: take as many as you
+    /// want, or as long as you want. It never searches without end: paths from which no final state can be reached
+    /// are not walked, and between two lengths that have readings there are no more lengths than there are states. For
+    /// each length up to the present one it keeps the states that matter, no more than a bit for each state.
+    ///
+    /// ```
+    /// use rinkolza::{text, Format, Kind};
+    ///
+    /// let loops = text::read("0 0 1 5 2\n0 1 2 0 3\n1\n", "m", &Format::default())?;
+    /// let short = loops.readings(Kind::Cost).take_while(|reading| reading.trs.len() <= 3);
+    /// let words: Vec<_> = short.map(|r| (r.input(), r.output(), r.weight())).collect();
+    /// assert_eq!(words, [
+    ///     (vec![2], vec![], Some(3)),
+    ///     (vec![1, 2], vec![5], Some(5)),
+    ///     (vec![1, 1, 2], vec![5, 5], Some(7)),
+    /// ]);
+    /// # Ok::<(), rinkolza::Error>(())
+    /// ```
+    pub fn readings(&self, kind: Kind) -> Readings<'_> {
+        Readings::new(self, kind)
     }
 
     /// How many transitions there are.
@@ -237,12 +315,7 @@ mod tests {
     use super::*;
 
     fn tr(input: u32, output: u32, target: u32) -> Tr {
-        Tr {
-            input,
-            output,
-            weight: 0,
-            target,
-        }
+        Tr::new(input, output, 0, target)
     }
 
     #[test]

@@ -7,7 +7,8 @@ use crate::settings::{Options, Sort};
 use crate::sys::Lent;
 use crate::words::{self, Marks};
 
-/// What a composition is made of, in document 01's words; it stays the same through all calls.
+/// What a composition is made of, in the words that the library takes (machines: see [`words`](crate::words)); it stays
+/// the same through all calls.
 #[derive(Clone, Debug, PartialEq, Eq)]
 pub struct Inputs {
     /// The first machine.

@@ -2,18 +2,19 @@
 //!
 //! The library below works in memory that it is lent and refuses a call, 13, where a record is lacking. Here memory
 //! is owned: on 13 the composition is opened anew in larger memory, the calls made so far are made again in the
-//! same order, and the refused call is made again. By demand 3 of the library larger memory yields the same answer
-//! to every call before the smaller one's first 13, so that what was answered before stays as it was.
+//! same order, and the refused call is made again. It is proved of the library that larger memory yields the same
+//! answer to every call before the smaller one's first 13, so that what was answered before stays as it was.
 
 #![forbid(unsafe_code)]
 
-use crate::error::{Error, Refusal};
+use crate::error::{reserve, Error, Refusal};
 use crate::machine::Machine;
 use crate::prepare::Inputs;
 use crate::settings::{Options, Room};
 use crate::sys::{self, Memory, Session};
 use crate::words::{self, Trs};
 use std::collections::hash_map::{Entry, HashMap};
+use std::ops::Range;
 
 /// The side on which the machines are matched.
 #[derive(Clone, Copy, Debug, PartialEq, Eq)]
@@ -60,13 +61,12 @@ enum Call {
 /// ```
 /// use rinkolza::{Composition, Machine, Options, Tr};
 ///
-/// let tr = |input, output, weight, target| Tr { input, output, weight, target };
-/// let first = Machine::from_lists(Some(0), &[(0, tr(1, 5, 2, 1))], &[(1, 0)])?;
-/// let second = Machine::from_lists(Some(0), &[(0, tr(5, 9, 3, 1))], &[(1, 4)])?;
+/// let first = Machine::from_lists(Some(0), &[(0, Tr::new(1, 5, 2, 1))], &[(1, 0)])?;
+/// let second = Machine::from_lists(Some(0), &[(0, Tr::new(5, 9, 3, 1))], &[(1, 4)])?;
 /// let mut composition = Composition::open(&first, &second, &Options::default())?;
 /// composition.run()?;
 /// let composed = composition.machine()?;
-/// assert_eq!(composed.trs(0), [tr(1, 9, 5, 1)]);
+/// assert_eq!(composed.trs(0), [Tr::new(1, 9, 5, 1)]);
 /// assert_eq!(composed.final_weight(1), Some(4));
 /// # Ok::<(), rinkolza::Error>(())
 /// ```
@@ -84,6 +84,12 @@ pub struct Composition {
 
 impl Composition {
     /// Opens the composition of two machines, sorted first as the options say.
+    ///
+    /// # Errors
+    ///
+    /// [`Error::Refused`] by [`Refusal::SigmaZero`], [`Refusal::FirstUnsorted`], [`Refusal::SecondUnsorted`] or
+    /// [`Refusal::NoSide`] (the last three under [`Sort::Never`](crate::Sort::Never) alone), or by [`Refusal::NoRoom`]
+    /// where `room` and `most` leave none for a state or a head; [`Error::Memory`] where there is no memory for the room.
     pub fn open(
         first: &Machine,
         second: &Machine,
@@ -93,51 +99,70 @@ impl Composition {
         Composition::open_words(inputs, options.room, options.most)
     }
 
-    /// Opens the composition of two machines in document 01's words, with room that may grow up to `most`.
+    /// Opens the composition of two machines in words, see [`words`](crate::words), with room that may grow up to
+    /// `most`; both count as [`Room::LARGEST`] where they are above it.
+    ///
+    /// # Errors
+    ///
+    /// [`Error::Refused`] by the numbers 1 to 7 or 13; [`Error::Memory`] where there is no memory for the room.
     pub fn open_words(inputs: Inputs, room: Room, most: Room) -> Result<Composition, Error> {
+        let (room, most) = (room.within(Room::LARGEST), most.within(Room::LARGEST));
         let mut composition = Composition {
             inputs,
             room,
             most,
-            memory: Memory::new(room),
+            memory: Memory::new(room)?,
             session: Session::default(),
             calls: Vec::new(),
             growths: 0,
             next: 0,
         };
         match composition.begin() {
-            Err(Refusal::NoRoom) => composition.grow().map_err(Error::refused)?,
+            Err(Refusal::NoRoom) => composition.grow()?,
             other => other.map_err(Error::refused)?,
         }
         Ok(composition)
     }
 
     /// Expands state n, where it is not yet, and gives its transitions.
+    ///
+    /// # Errors
+    ///
+    /// [`Error::Refused`], with the state, by [`Refusal::NotFound`], [`Refusal::BothNeedMatching`],
+    /// [`Refusal::SigmaWalked`], [`Refusal::TooLarge`] or, where no more room is left to grow, [`Refusal::NoRoom`];
+    /// [`Error::Memory`] where memory to grow is not to be had. The composition stays as it was.
     pub fn expand(&mut self, n: u32) -> Result<Trs<'_>, Error> {
         let new = !self.is_expanded(n);
+        reserve(&mut self.calls, 1, "calls")?;
         self.insist(|own| own.expand_once(n))
-            .map_err(|refusal| at(refusal, Some(n)))?;
+            .map_err(|error| error.at(Some(n)))?;
         if new {
             self.calls.push(Call::Expand(n));
         }
         Ok(self.trs(n))
     }
 
-    /// Expands all states, those that are found on the way too, in number order. Where it is refused the states
-    /// expanded before stay.
+    /// Expands all states, those that are found on the way too, in number order.
+    ///
+    /// # Errors
+    ///
+    /// As for [`Composition::expand`] at one of the states, [`Refusal::NotFound`] apart; the states expanded before it
+    /// stay.
     pub fn run(&mut self) -> Result<(), Error> {
+        reserve(&mut self.calls, 1, "calls")?;
         let answer = self.insist(Composition::run_once);
         if self.calls.last() != Some(&Call::Run) {
             self.calls.push(Call::Run);
         }
-        answer.map_err(|refusal| {
-            let state = self.first_unexpanded();
-            at(refusal, state)
-        })
+        answer.map_err(|error| error.at(self.first_unexpanded()))
     }
 
     /// Expands at most `count` states, the lowest numbers first, as a run does; says how far it has come. Each step
     /// checks machines and memory again, so that a run is faster.
+    ///
+    /// # Errors
+    ///
+    /// As for [`Composition::run`].
     pub fn step(&mut self, count: u32) -> Result<Progress, Error> {
         for _ in 0..count {
             match self.first_unexpanded() {
@@ -149,6 +174,10 @@ impl Composition {
     }
 
     /// Runs in steps of `every` states (at least one) and tells `show` after each how far it has come.
+    ///
+    /// # Errors
+    ///
+    /// As for [`Composition::run`].
     pub fn run_with(&mut self, every: u32, mut show: impl FnMut(Progress)) -> Result<(), Error> {
         loop {
             let progress = self.step(every.max(1))?;
@@ -160,9 +189,13 @@ impl Composition {
     }
 
     /// The final weight of state n; none where it is not final.
+    ///
+    /// # Errors
+    ///
+    /// [`Error::Refused`], with the state, by [`Refusal::NotFound`] or [`Refusal::TooLarge`].
     pub fn final_weight(&self, n: u32) -> Result<Option<u32>, Error> {
         sys::final_weight(&self.inputs.lent(), &self.session, &self.memory, n)
-            .map_err(|number| at(known(number), Some(n)))
+            .map_err(|number| Error::refused(known(number)).at(Some(n)))
     }
 
     /// The transitions of state n, where it is expanded; else none.
@@ -179,13 +212,18 @@ impl Composition {
     /// The composed machine as far as it is expanded; its states are those found, 0 the start.
     ///
     /// A state's final weight depends on the final weights of its two states alone: each pair of these is asked for once.
+    ///
+    /// # Errors
+    ///
+    /// [`Error::Refused`] by [`Refusal::TooLarge`] where a final weight is; [`Error::Memory`] where there is no memory for
+    /// the machine.
     pub fn machine(&self) -> Result<Machine, Error> {
         let mut machine = Machine::new();
         let mut asked = HashMap::new();
-        for _ in 0..self.found() {
+        for _ in self.states() {
             machine.add_state()?;
         }
-        for n in 0..self.found() {
+        for n in self.states() {
             for tr in self.trs(n) {
                 machine.add_tr(n, tr)?;
             }
@@ -206,6 +244,11 @@ impl Composition {
             1 => Side::Output,
             _ => Side::Both,
         }
+    }
+
+    /// The states that are found, by their numbers from 0 on.
+    pub fn states(&self) -> Range<u32> {
+        0..self.found()
     }
 
     /// How many states are found.
@@ -287,27 +330,38 @@ impl Composition {
     fn insist(
         &mut self,
         call: impl Fn(&mut Composition) -> Result<(), Refusal>,
-    ) -> Result<(), Refusal> {
+    ) -> Result<(), Error> {
         loop {
             match call(self) {
                 Err(Refusal::NoRoom) if self.room.larger(self.most).is_some() => self.grow()?,
-                other => return other,
+                other => return other.map_err(Error::refused),
             }
         }
     }
 
     /// Opens anew in larger memory and makes the same calls again.
-    fn grow(&mut self) -> Result<(), Refusal> {
+    fn grow(&mut self) -> Result<(), Error> {
         loop {
-            let larger = self.room.larger(self.most).ok_or(Refusal::NoRoom)?;
+            let larger = self.room.larger(self.most);
+            let larger = larger.ok_or(Error::refused(Refusal::NoRoom))?;
+            self.memory = self.larger_memory(larger)?;
             self.room = larger;
-            self.memory = Memory::new(larger);
             self.growths += 1;
             match self.repeat() {
                 Err(Refusal::NoRoom) => continue,
-                other => return other,
+                other => return other.map_err(Error::refused),
             }
         }
+    }
+
+    /// Larger memory. Where it is not to be had all stays as it is, and grows no more: a run that stopped for want of
+    /// room must not be made again in more of it, where it would go on and give other numbers to what was found since.
+    fn larger_memory(&mut self, larger: Room) -> Result<Memory, Error> {
+        let memory = Memory::new(larger);
+        if memory.is_err() {
+            self.most = self.room;
+        }
+        memory
     }
 
     fn repeat(&mut self) -> Result<(), Refusal> {
@@ -348,6 +402,10 @@ impl Composition {
 
 /// Composes two machines whole: opens, runs, and gives the composed machine.
 ///
+/// # Errors
+///
+/// As for [`Composition::open`], [`Composition::run`] and [`Composition::machine`]; there is nothing half done.
+///
 /// ```
 /// use rinkolza::{compose, text, Format, Options};
 ///
@@ -387,6 +445,44 @@ fn known(number: u32) -> Refusal {
     Refusal::from_number(number).unwrap_or(Refusal::Broken)
 }
 
-fn at(refusal: Refusal, state: Option<u32>) -> Error {
-    Error::Refused { refusal, state }
+#[cfg(test)]
+mod tests {
+    use super::*;
+    use crate::machine::Tr;
+
+    /// A chain of nine states whose transitions read epsilon: composed with any machine it moves alone.
+    fn chain() -> Machine {
+        let tr = |state| (state, Tr::new(0, 1, 1, state + 1));
+        let trs: Vec<(u32, Tr)> = (0..8).map(tr).collect();
+        Machine::from_lists(Some(0), &trs, &[(8, 0)]).unwrap()
+    }
+
+    #[test]
+    fn without_memory_to_grow_into_all_stays() {
+        let one = Machine::from_lists(Some(0), &[], &[(0, 0)]).unwrap();
+        let room = Room {
+            heads: 1,
+            states: 4,
+            trs: 4,
+        };
+        let options = Options {
+            room,
+            ..Options::default()
+        };
+        let mut composition = Composition::open(&one, &chain(), &options).unwrap();
+        composition.expand(0).unwrap();
+        // Memory of this size is never to be had.
+        composition.room.heads = usize::MAX / 16;
+        composition.most.heads = usize::MAX;
+        let refused = composition.run().unwrap_err();
+        assert!(
+            matches!(refused, Error::Memory { what: "words", .. }),
+            "{refused}"
+        );
+        assert_eq!((composition.found(), composition.tr_count()), (4, 3));
+        assert_eq!(composition.expand(0).unwrap().len(), 1);
+        let refused = composition.run().unwrap_err();
+        assert_eq!(refused.refusal(), Some(Refusal::NoRoom));
+        assert_eq!(composition.growths(), 0);
+    }
 }

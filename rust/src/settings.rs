@@ -4,6 +4,7 @@
 
 /// What weights are.
 #[derive(Clone, Copy, Debug, Default, PartialEq, Eq)]
+#[non_exhaustive]
 pub enum Kind {
     /// Costs: along a path they add up; one is 0, and zero is infinite, the word 4294967295.
     #[default]
@@ -32,6 +33,7 @@ impl Kind {
 
 /// Which of the orders in which epsilons can be taken is kept.
 #[derive(Clone, Copy, Debug, Default, PartialEq, Eq)]
+#[non_exhaustive]
 pub enum Filter {
     /// The first machine's epsilons before the second's; OpenFst's `sequence`.
     #[default]
@@ -44,6 +46,7 @@ pub enum Filter {
 
 /// On which sides a sigma transition takes the label that it matched.
 #[derive(Clone, Copy, Debug, Default, PartialEq, Eq)]
+#[non_exhaustive]
 pub enum Rewrite {
     /// As `Each` for a machine that is marked an acceptor, else as `Matched`.
     #[default]
@@ -54,8 +57,18 @@ pub enum Rewrite {
     Matched,
 }
 
-/// A machine's sigma label: it matches each label that the state has no transition for.
+/// A machine's sigma label: it stands for the rest and matches each label that the state has no transition for.
+///
+/// This is what OpenFst calls *rho* today; its sigma matches every label, beside the label's own transitions.
+///
+/// ```
+/// use rinkolza::{Rewrite, Sigma};
+///
+/// let sigma = Sigma::new(99).with_mode(Rewrite::Each).with_allowed([3, 4]);
+/// assert_eq!(sigma.label, Some(99));
+/// ```
 #[derive(Clone, Debug, Default, PartialEq, Eq)]
+#[non_exhaustive]
 pub struct Sigma {
     /// The label; none: the machine has no sigma.
     pub label: Option<u32>,
@@ -65,8 +78,33 @@ pub struct Sigma {
     pub allowed: Option<Vec<u32>>,
 }
 
+impl Sigma {
+    /// This label is sigma; it is rewritten as the machine's acceptor mark says and may match every label.
+    pub fn new(label: u32) -> Sigma {
+        Sigma {
+            label: Some(label),
+            ..Sigma::default()
+        }
+    }
+
+    /// With this rewrite mode.
+    #[must_use]
+    pub fn with_mode(mut self, mode: Rewrite) -> Sigma {
+        self.mode = mode;
+        self
+    }
+
+    /// It may match these labels alone.
+    #[must_use]
+    pub fn with_allowed(mut self, labels: impl Into<Vec<u32>>) -> Sigma {
+        self.allowed = Some(labels.into());
+        self
+    }
+}
+
 /// Which machines are sorted by their inner labels before they are composed.
 #[derive(Clone, Copy, Debug, Default, PartialEq, Eq)]
+#[non_exhaustive]
 pub enum Sort {
     /// Both where neither is sorted, and one that has a sigma label and is not; else none, so that the lists stay in
     /// the order in which they were given.
@@ -90,12 +128,21 @@ pub struct Room {
 }
 
 impl Room {
-    /// The most that a composition can use: 65535 records of each sort.
+    /// The largest room: 65535 records of each sort, more than which no composition can use, and as many heads.
     pub const LARGEST: Room = Room {
         heads: 65535,
         states: 65535,
         trs: 65535,
     };
+
+    /// The room, with each count that is above `most` cut down to it.
+    pub fn within(self, most: Room) -> Room {
+        Room {
+            heads: self.heads.min(most.heads),
+            states: self.states.min(most.states),
+            trs: self.trs.min(most.trs),
+        }
+    }
 
     /// Twice the room, within `most`; none where there is no more to be had.
     pub fn larger(self, most: Room) -> Option<Room> {
@@ -109,20 +156,19 @@ impl Room {
     }
 }
 
-/// How to compose.
+/// How to compose. It may get more fields: begin with [`Options::new`] and set what differs.
 ///
 /// ```
 /// use rinkolza::{Filter, Kind, Options, Sigma};
 ///
-/// let options = Options {
-///     kind: Kind::Count,
-///     filter: Filter::Match,
-///     sigma2: Sigma { label: Some(99), ..Sigma::default() },
-///     ..Options::default()
-/// };
+/// let mut options = Options::new()
+///     .with_kind(Kind::Count)
+///     .with_sigma2(Sigma::new(99));
+/// options.filter = Filter::Match;
 /// assert_eq!(options.words(), [1, 2, u32::MAX, 0, 99, 0]);
 /// ```
 #[derive(Clone, Debug, PartialEq, Eq)]
+#[non_exhaustive]
 pub struct Options {
     /// What weights are.
     pub kind: Kind,
@@ -134,9 +180,9 @@ pub struct Options {
     pub sigma2: Sigma,
     /// What is sorted first.
     pub sort: Sort,
-    /// The room to begin with; it grows where it does not suffice.
+    /// The room to begin with; it grows where it does not suffice. What is above [`Room::LARGEST`] counts as that.
     pub room: Room,
-    /// The room beyond which it does not grow.
+    /// The room beyond which it does not grow. What is above [`Room::LARGEST`] counts as that.
     pub most: Room,
 }
 
@@ -159,7 +205,61 @@ impl Default for Options {
 }
 
 impl Options {
-    /// The six words of document 01's settings: kind, filter, sigma 1, mode 1, sigma 2, mode 2.
+    /// Costs, the filter sequence, no sigma, sorted where needed, and room that grows up to [`Room::LARGEST`].
+    pub fn new() -> Options {
+        Options::default()
+    }
+
+    /// With weights of this kind.
+    #[must_use]
+    pub fn with_kind(mut self, kind: Kind) -> Options {
+        self.kind = kind;
+        self
+    }
+
+    /// With this epsilon filter.
+    #[must_use]
+    pub fn with_filter(mut self, filter: Filter) -> Options {
+        self.filter = filter;
+        self
+    }
+
+    /// With this sigma of the first machine, on its outputs.
+    #[must_use]
+    pub fn with_sigma1(mut self, sigma1: Sigma) -> Options {
+        self.sigma1 = sigma1;
+        self
+    }
+
+    /// With this sigma of the second machine, on its inputs.
+    #[must_use]
+    pub fn with_sigma2(mut self, sigma2: Sigma) -> Options {
+        self.sigma2 = sigma2;
+        self
+    }
+
+    /// With this sorting before.
+    #[must_use]
+    pub fn with_sort(mut self, sort: Sort) -> Options {
+        self.sort = sort;
+        self
+    }
+
+    /// With this room to begin with.
+    #[must_use]
+    pub fn with_room(mut self, room: Room) -> Options {
+        self.room = room;
+        self
+    }
+
+    /// With this room at most.
+    #[must_use]
+    pub fn with_most(mut self, most: Room) -> Options {
+        self.most = most;
+        self
+    }
+
+    /// The six words of the library's settings: kind, filter, sigma 1, mode 1, sigma 2, mode 2; 4294967295 is no sigma.
     pub fn words(&self) -> [u32; 6] {
         let label = |sigma: &Sigma| sigma.label.unwrap_or(u32::MAX);
         [

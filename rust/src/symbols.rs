@@ -26,11 +26,17 @@ pub struct SymbolTable {
 impl SymbolTable {
     /// Reads a table; `name` stands for it in errors. A symbol has one number; a number with two symbols is printed
     /// as the last, as OpenFst does.
+    ///
+    /// # Errors
+    ///
+    /// [`Error::Text`], with the line, where a line is not a symbol and a number up to 4294967294, a symbol has two
+    /// numbers, or the text begins with a byte-order mark.
     pub fn parse(text: &str, name: &str) -> Result<SymbolTable, Error> {
         let mut table = SymbolTable {
             name: name.to_string(),
             ..SymbolTable::default()
         };
+        no_mark(text, name)?;
         for (place, line) in text.lines().enumerate() {
             table.add_line(line).map_err(|what| Error::Text {
                 source: name.to_string(),
@@ -84,6 +90,19 @@ impl SymbolTable {
     }
 }
 
+/// An error where the text begins with a byte-order mark, which would else count as a part of its first field.
+pub(crate) fn no_mark(text: &str, name: &str) -> Result<(), Error> {
+    if !text.starts_with('\u{feff}') {
+        return Ok(());
+    }
+    Err(Error::Text {
+        source: name.to_string(),
+        line: 1,
+        what: "the text begins with a byte-order mark (EF BB BF): save it as UTF-8 without one"
+            .to_string(),
+    })
+}
+
 /// The fields of a line, apart by tabs or spaces, one or more; a carriage return at the end counts as a space.
 pub(crate) fn fields(line: &str) -> impl Iterator<Item = &str> {
     line.strip_suffix('\r')
@@ -120,5 +139,8 @@ mod tests {
         assert!(says("\na 1 2").starts_with("t:2: "));
         assert!(SymbolTable::parse("a 4294967295", "t").is_err());
         assert!(SymbolTable::parse("a +1", "t").is_err());
+        assert!(
+            says("\u{feff}<eps> 0\n").starts_with("t:1: the text begins with a byte-order mark")
+        );
     }
 }

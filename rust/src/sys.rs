@@ -5,6 +5,7 @@
 //! points to as many words as its length says and that a slice that is written overlaps no other; Rust's slices and
 //! borrows give both. Any words are answered: machines, settings, sessions and memory may be damaged.
 
+use crate::error::{reserve, Error};
 use crate::settings::Room;
 
 /// What is lent at every call: the machines' words and the allowed lists.
@@ -32,14 +33,25 @@ pub struct Memory {
 }
 
 impl Memory {
-    /// Memory with this room.
-    pub fn new(room: Room) -> Memory {
-        Memory {
-            heads: vec![0; room.heads],
-            states: vec![0; 5 * room.states],
-            trs: vec![0; 5 * room.trs],
-        }
+    /// Memory with this room, its words 0.
+    ///
+    /// # Errors
+    ///
+    /// [`Error::Memory`] where so much is not to be had.
+    pub fn new(room: Room) -> Result<Memory, Error> {
+        Ok(Memory {
+            heads: zeros(room.heads)?,
+            states: zeros(room.states.saturating_mul(5))?,
+            trs: zeros(room.trs.saturating_mul(5))?,
+        })
     }
+}
+
+fn zeros(count: usize) -> Result<Vec<u32>, Error> {
+    let mut words = Vec::new();
+    reserve(&mut words, count, "words")?;
+    words.resize(count, 0);
+    Ok(words)
 }
 
 /// The nine words of a session: six settings, side, used states, used transitions.
@@ -119,8 +131,11 @@ pub fn open(
     )
 }
 
-/// Expands state n. Answers the number of its first record, from 1 on (0: none), and the count; or the refusal's
-/// number, and session and memory stay.
+/// Expands state n. Answers the number of its first record, from 1 on (0: none), and the count.
+///
+/// # Errors
+///
+/// The refusal's number, from 1 to 13; session and memory stay.
 pub fn expand(
     lent: &Lent<'_>,
     session: &mut Session,
@@ -142,7 +157,11 @@ pub fn expand(
     }
 }
 
-/// The final weight of state n, none where it is not final; or the refusal's number.
+/// The final weight of state n, none where it is not final.
+///
+/// # Errors
+///
+/// The refusal's number: 1 to 9, or 12.
 pub fn final_weight(
     lent: &Lent<'_>,
     session: &Session,

@@ -10,12 +10,24 @@
 use crate::error::Error;
 use crate::machine::{Machine, Tr, LARGEST_COUNT, LARGEST_LABEL};
 use crate::settings::Kind;
-use crate::symbols::{fields, label_number, SymbolTable};
+use crate::symbols::{fields, label_number, no_mark, SymbolTable};
 use crate::weight_text;
 use std::collections::HashMap;
 
-/// How a text is read and written.
+/// How a text is read and written. It may get more fields: begin with [`Format::new`] and set what differs.
+///
+/// ```
+/// use rinkolza::{text, Format, Kind, SymbolTable};
+///
+/// let table = SymbolTable::parse("<eps> 0\nA 1\n", "glyphs.syms")?;
+/// let mut format = Format::new().with_kind(Kind::Count).with_symbols(&table);
+/// format.show_one = true;
+/// let machine = text::read("0 0 A A\n0\n", "m.txt", &format)?;
+/// assert_eq!(text::write(&machine, &format)?, "0\t0\tA\tA\t1\n0\t1\n");
+/// # Ok::<(), rinkolza::Error>(())
+/// ```
 #[derive(Clone, Copy, Debug, Default)]
+#[non_exhaustive]
 pub struct Format<'a> {
     /// What weights are.
     pub kind: Kind,
@@ -32,7 +44,42 @@ pub struct Format<'a> {
     pub osymbols: Option<&'a SymbolTable>,
 }
 
+impl<'a> Format<'a> {
+    /// Costs, two labels a transition, states numbered as they are named, no symbols.
+    pub fn new() -> Format<'a> {
+        Format::default()
+    }
+
+    /// With weights of this kind.
+    #[must_use]
+    pub fn with_kind(mut self, kind: Kind) -> Format<'a> {
+        self.kind = kind;
+        self
+    }
+
+    /// With one label a transition, or two.
+    #[must_use]
+    pub fn with_acceptor(mut self, acceptor: bool) -> Format<'a> {
+        self.acceptor = acceptor;
+        self
+    }
+
+    /// With this table for input and output labels.
+    #[must_use]
+    pub fn with_symbols(mut self, table: &'a SymbolTable) -> Format<'a> {
+        self.isymbols = Some(table);
+        self.osymbols = Some(table);
+        self
+    }
+}
+
 /// Reads a machine; `name` stands for the text in errors.
+///
+/// # Errors
+///
+/// [`Error::Text`], with the line, where a line has another form, a label is neither in its symbol table nor, without
+/// one, a number, a weight is not whole, there are too many states or transitions, or the text begins with a byte-order
+/// mark.
 ///
 /// ```
 /// use rinkolza::{text, Format};
@@ -47,6 +94,7 @@ pub struct Format<'a> {
 /// # Ok::<(), rinkolza::Error>(())
 /// ```
 pub fn read(text: &str, name: &str, format: &Format<'_>) -> Result<Machine, Error> {
+    no_mark(text, name)?;
     let mut reader = Reader {
         format,
         machine: Machine::new(),
@@ -62,7 +110,11 @@ pub fn read(text: &str, name: &str, format: &Format<'_>) -> Result<Machine, Erro
     Ok(reader.machine)
 }
 
-/// Bytes as text, or an error that names the first line that is not UTF-8.
+/// Bytes as text.
+///
+/// # Errors
+///
+/// [`Error::Text`], with the first line that is not UTF-8.
 pub fn utf8<'a>(bytes: &'a [u8], name: &str) -> Result<&'a str, Error> {
     std::str::from_utf8(bytes).map_err(|error| Error::Text {
         source: name.to_string(),
@@ -70,8 +122,13 @@ pub fn utf8<'a>(bytes: &'a [u8], name: &str) -> Result<&'a str, Error> {
             .iter()
             .filter(|&&byte| byte == b'\n')
             .count(),
-        what: "the line is not UTF-8 text (is this a compiled machine? fstprint writes it as text)"
-            .to_string(),
+        what: match bytes {
+            [0xff, 0xfe, ..] | [0xfe, 0xff, ..] => {
+                "the text begins with a byte-order mark of UTF-16: save it as UTF-8 without one"
+            }
+            _ => "the line is not UTF-8 text (is this a compiled machine? fstprint writes it as text)",
+        }
+        .to_string(),
     })
 }
 
@@ -190,6 +247,10 @@ fn label(field: &str, side: &str, symbols: Option<&SymbolTable>) -> Result<u32, 
 
 /// Writes a machine, the start's lines first, then the others in number order; nothing where there is no start.
 ///
+/// # Errors
+///
+/// [`Error::Machine`] where a label has no symbol in its table, or as an acceptor's a transition's labels differ.
+///
 /// ```
 /// use rinkolza::{text, Format};
 ///
@@ -203,7 +264,7 @@ pub fn write(machine: &Machine, format: &Format<'_>) -> Result<String, Error> {
         return Ok(text);
     };
     write_state(&mut text, machine, start, format)?;
-    for state in (0..machine.state_count() as u32).filter(|&state| state != start) {
+    for state in machine.states().filter(|&state| state != start) {
         write_state(&mut text, machine, state, format)?;
     }
     Ok(text)
@@ -360,6 +421,13 @@ mod tests {
             says(&states, &plain),
             "m:65536: a machine has at most 65535 states"
         );
+        assert!(
+            says("\u{feff}0 1 1 1\n", &plain).starts_with("m:1: the text begins with a byte-order")
+        );
+        assert!(utf8(b"\xff\xfe0\0", "m")
+            .unwrap_err()
+            .to_string()
+            .contains("UTF-16"));
         assert!(utf8(b"0 1\n\xff", "m")
             .unwrap_err()
             .to_string()

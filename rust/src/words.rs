@@ -1,4 +1,4 @@
-//! A machine in document 01's words.
+//! A machine as the words that the library takes; `include/rinkolza.h` describes them.
 //!
 //! Header: state count, transition count, start plus one, input mark, output mark, acceptor mark; then three words
 //! for each state (first transition, final, final weight) and five for each transition (input, output, weight,
@@ -31,7 +31,7 @@ pub fn encode(machine: &Machine, marks: Marks) -> Vec<u32> {
     words.push(machine.start().map_or(0, |start| start + 1));
     words.extend(header_marks(machine, marks));
     let mut used = 0;
-    for state in 0..states as u32 {
+    for state in machine.states() {
         let count = machine.trs(state).len() as u32;
         words.push(if count == 0 { 0 } else { used + 1 });
         let weight = machine.final_weight(state);
@@ -57,7 +57,7 @@ fn header_marks(machine: &Machine, marks: Marks) -> [u32; 3] {
 
 fn encode_trs(machine: &Machine, words: &mut Vec<u32>) {
     let mut own = 0;
-    for state in 0..machine.state_count() as u32 {
+    for state in machine.states() {
         let trs = machine.trs(state);
         for (place, tr) in trs.iter().enumerate() {
             own += 1;
@@ -68,6 +68,11 @@ fn encode_trs(machine: &Machine, words: &mut Vec<u32>) {
 }
 
 /// The machine that the words hold; marks are not looked at. Lists that share a tail become lists of their own.
+///
+/// # Errors
+///
+/// [`Error::Machine`] where the words are not a machine, or with lists of their own it has more than 65535 transitions;
+/// [`Error::Memory`] where there is no memory for it.
 pub fn decode(words: &[u32]) -> Result<Machine, Error> {
     let bad = || Error::Machine("these words are not a machine".to_string());
     let header = words.get(..HEADER).ok_or_else(bad)?;
@@ -113,12 +118,7 @@ pub(crate) fn final_weight(words: &[u32], state: u32) -> Option<u32> {
 
 /// The transition in a record of five words.
 pub(crate) fn tr_of(record: &[u32]) -> Tr {
-    Tr {
-        input: record[0],
-        output: record[1],
-        weight: record[2],
-        target: record[3],
-    }
+    Tr::new(record[0], record[1], record[2], record[3])
 }
 
 /// Transitions in records of five words, in list order.

@@ -3,7 +3,8 @@
 mod common;
 
 use common::{number, Draw, World};
-use rinkolza::{Composition, Inputs, Room};
+use rinkolza::sys::Memory;
+use rinkolza::{Composition, Error, Inputs, Room};
 
 const NONE: Room = Room {
     heads: 0,
@@ -110,4 +111,41 @@ fn steps_find_what_a_run_finds() {
         .windows(2)
         .all(|pair| pair[0].expanded < pair[1].expanded));
     assert_eq!(shown.last().unwrap().expanded, stepped.found());
+}
+
+#[test]
+fn too_much_room_is_cut_down() {
+    let huge = Room {
+        heads: usize::MAX,
+        states: usize::MAX,
+        trs: usize::MAX,
+    };
+    let mut composition = Composition::open_words(grid(5), huge, huge).unwrap();
+    composition.run().unwrap();
+    assert_eq!(composition.room(), Room::LARGEST);
+    let mut grown = Composition::open_words(grid(300), NONE, huge).unwrap();
+    assert_eq!(World::run(&mut grown), Err(13));
+    assert_eq!(grown.room(), Room::LARGEST);
+}
+
+#[test]
+fn memory_that_is_not_to_be_had_is_an_error() {
+    for room in [
+        Room {
+            heads: usize::MAX,
+            ..NONE
+        },
+        Room {
+            states: usize::MAX / 5,
+            ..NONE
+        },
+        Room {
+            trs: usize::MAX / 2,
+            ..NONE
+        },
+    ] {
+        let error = Memory::new(room).unwrap_err();
+        assert!(matches!(error, Error::Memory { .. }), "{error}");
+        assert!(error.to_string().starts_with("there is no memory for "));
+    }
 }

@@ -61,10 +61,7 @@ fn a_composed_machine_can_be_composed_again() {
 fn sorted_where_needed() {
     let (first, second) = (read("0 0 1 3\n0 0 2 1\n0\n"), read("0 0 3 1\n0 0 1 2\n0\n"));
     let composed = |sort| {
-        let options = Options {
-            sort,
-            ..Options::default()
-        };
+        let options = Options::new().with_sort(sort);
         let mut composition = Composition::open(&first, &second, &options)?;
         composition.run()?;
         text::write(&composition.machine()?, &Format::default())
@@ -89,13 +86,7 @@ fn what_can_stay_stays() {
         rinkolza::to_sort(&unsorted, &sorted, &plain),
         (false, false)
     );
-    let sigma = Options {
-        sigma1: Sigma {
-            label: Some(9),
-            ..Sigma::default()
-        },
-        ..plain
-    };
+    let sigma = plain.with_sigma1(Sigma::new(9));
     assert_eq!(rinkolza::to_sort(&unsorted, &sorted, &sigma), (true, false));
     let mut copy = unsorted.clone();
     copy.sort(By::Output);
@@ -106,10 +97,7 @@ fn what_can_stay_stays() {
 fn a_final_weight_of_zero_is_read_as_not_final() {
     assert_eq!(read("0 Infinity\n").final_weight(0), None);
     assert_eq!(read("0 0 1 1 Infinity\n0\n").trs(0)[0].weight, u32::MAX);
-    let counts = Format {
-        kind: Kind::Count,
-        ..Format::default()
-    };
+    let counts = Format::new().with_kind(Kind::Count);
     let machine = text::read("0 0\n1\n2 3\n", "m", &counts).unwrap();
     assert_eq!(
         [0, 1, 2].map(|state| machine.final_weight(state)),

@@ -73,6 +73,52 @@ fn composes_the_examples() {
     }
 }
 
+/// The program with a standard error that cannot be written, and its exit status and standard output.
+fn unheard(words: &[&str], stderr: Stdio) -> (Option<i32>, Vec<u8>) {
+    let output = Command::new(env!("CARGO_BIN_EXE_rinkolza"))
+        .args(words)
+        .stdin(Stdio::null())
+        .stderr(stderr)
+        .output()
+        .expect("the program ends");
+    (output.status.code(), output.stdout)
+}
+
+/// Standard errors that cannot be written: a full device, and a pipe whose reader has gone.
+fn deaf() -> [Stdio; 2] {
+    let full = std::fs::OpenOptions::new().write(true).open("/dev/full");
+    let mut reader = Command::new("true")
+        .stdin(Stdio::piped())
+        .spawn()
+        .expect("true starts");
+    let pipe = reader.stdin.take().unwrap();
+    reader.wait().expect("true ends");
+    [full.expect("/dev/full").into(), pipe.into()]
+}
+
+#[test]
+fn a_message_that_nobody_hears_costs_no_result() {
+    let (symbols, glyphs, spacing) = (
+        example("labels.syms"),
+        example("glyphs.txt"),
+        example("spacing.txt"),
+    );
+    let words = ["compose", "--progress", "--symbols", &symbols, &glyphs];
+    for stderr in deaf() {
+        let (status, text) = unheard(&[&words[..], &[&spacing]].concat(), stderr);
+        assert_eq!((status, text), (Some(0), foundry(&[]).stdout));
+    }
+    for stderr in deaf() {
+        assert_eq!(unheard(&["juggle"], stderr), (Some(2), Vec::new()));
+    }
+    for stderr in deaf() {
+        assert_eq!(
+            unheard(&["print", "/no/such/file"], stderr),
+            (Some(3), Vec::new())
+        );
+    }
+}
+
 #[test]
 fn draws() {
     let picture = foundry(&["--to", "dot", "--triples"]);
@@ -240,4 +286,87 @@ fn refusals_in_words() {
     );
     assert_eq!(said(&rest).1, "0\t0\t9\t9\n0\n");
     std::fs::remove_dir_all(&folder).unwrap();
+}
+
+#[test]
+fn versions() {
+    let version = concat!("rinkolza ", env!("CARGO_PKG_VERSION"), "\n");
+    for words in [
+        &["--version"][..],
+        &["-V"],
+        &["compose", "--version"],
+        &["print", "-V", "-"],
+    ] {
+        assert_eq!(said(&call(words, "")), (0, version, ""), "{words:?}");
+    }
+}
+
+#[test]
+fn helpful_words() {
+    for (option, word) in [
+        ("--connect", "fstconnect"),
+        ("--connect=false", "fstcompose --connect=false"),
+        ("--compose_filter=match", "--filter"),
+        ("--rho2=3", "--sigma1 or --sigma2"),
+        ("--show_weight_one", "it is --show-weight-one"),
+    ] {
+        let (status, error) = complaint(&["compose", option, "-", "a"], "");
+        assert!(status == 2 && error.contains(word), "{option}: {error}");
+    }
+    let (status, error) = complaint(&["print", "-"], "\u{feff}0 1 5 6\n");
+    assert!(
+        status == 3 && error.contains("standard input:1: the text begins with a byte-order mark"),
+        "{error}"
+    );
+    let (status, error) = complaint(
+        &["print", "--symbols=-", &example("glyphs.txt")],
+        "\u{feff}A 1\n",
+    );
+    assert!(status == 3 && error.contains("byte-order mark"), "{error}");
+}
+
+#[test]
+fn a_machine_that_is_too_long_for_composed() {
+    let lines = |count: usize| "0 0 1 1\n".repeat(count);
+    // 6 words, 3 for the state, 5 for each transition: 4094 and 4099.
+    let (fits, long) = (lines(817), lines(818));
+    let words = |text: &str| call(&["print", "--words", "-"], text);
+    assert_eq!(said(&words(&fits)).2, "");
+    let output = words(&long);
+    let (status, line, note) = said(&output);
+    assert_eq!((status, line.split(' ').count()), (0, 4099));
+    assert!(
+        note.contains("composed takes 4096 words a machine, here are 4099"),
+        "{note}"
+    );
+}
+
+#[test]
+fn the_help_fits_and_names_every_option() {
+    let output = call(&["--help"], "");
+    let help = said(&output).1;
+    for line in help.lines() {
+        assert!(line.len() <= 85, "{line}");
+    }
+    let source = include_str!("../src/bin/rinkolza/args.rs");
+    let names = source.lines().filter_map(|line| {
+        let rest = line.trim().strip_prefix("known(\"")?;
+        rest.split('"').next()
+    });
+    let mut count = 0;
+    for name in names {
+        assert!(help.contains(&format!("--{name}")), "--{name}");
+        count += 1;
+    }
+    assert_eq!(count, 24);
+    for word in [
+        "65535",
+        "refused 13",
+        "include/rinkolza.h",
+        "4096",
+        "rho",
+        "--connect=false",
+    ] {
+        assert!(help.contains(word), "{word}");
+    }
 }

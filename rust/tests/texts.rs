@@ -12,11 +12,9 @@ fn what_is_written_is_read_again() {
         let mut machine = words::decode(&draw.machine(None, 8, 5)).unwrap();
         let start = draw.below(machine.state_count() as u32);
         machine.set_start(Some(start)).unwrap();
-        let format = Format {
-            keep_numbers: true,
-            show_one: draw.one_in(2),
-            ..Format::default()
-        };
+        let mut format = Format::new();
+        format.keep_numbers = true;
+        format.show_one = draw.one_in(2);
         let lines = text::write(&machine, &format).unwrap();
         assert_eq!(text::read(&lines, "m", &format).unwrap(), machine);
     }
@@ -25,10 +23,7 @@ fn what_is_written_is_read_again() {
 #[test]
 fn numbers_in_order_of_mention_stay() {
     let mut draw = Draw(32);
-    let format = Format {
-        kind: Kind::Count,
-        ..Format::default()
-    };
+    let format = Format::new().with_kind(Kind::Count);
     for _ in 0..500 {
         let machine = words::decode(&draw.machine(None, 8, 5)).unwrap();
         let once = text::read(&text::write(&machine, &format).unwrap(), "m", &format).unwrap();
@@ -74,18 +69,14 @@ fn any_text_is_answered() {
             .map(|_| PIECES[draw.below(PIECES.len() as u32) as usize])
             .collect();
         let symbols = draw.one_in(3).then_some(&table);
-        let format = Format {
-            kind: if draw.one_in(2) {
-                Kind::Cost
-            } else {
-                Kind::Count
-            },
-            acceptor: draw.one_in(2),
-            keep_numbers: draw.one_in(2),
-            show_one: false,
-            isymbols: symbols,
-            osymbols: symbols,
-        };
+        let mut format = Format::new();
+        if draw.one_in(2) {
+            format.kind = Kind::Count;
+        }
+        format.acceptor = draw.one_in(2);
+        format.keep_numbers = draw.one_in(2);
+        format.isymbols = symbols;
+        format.osymbols = symbols;
         let _ = SymbolTable::parse(&lines, "t");
         if let Ok(machine) = text::read(&lines, "m", &format) {
             read += 1;

@@ -128,7 +128,7 @@ impl Fixed {
         let mut fixed = Fixed {
             inputs,
             session: Session::default(),
-            memory: Memory::new(room),
+            memory: Memory::new(room).expect("memory"),
         };
         let number = sys::open(
             &fixed.inputs.settings,

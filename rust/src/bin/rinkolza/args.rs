@@ -47,6 +47,22 @@ const OPTIONS: [Known; 24] = [
     known("words", false, &["print"]),
 ];
 
+/// For those who know OpenFst's tools: what stands for an option of theirs.
+fn hint(name: &str) -> String {
+    let ours = name.replace('_', "-");
+    match ours.as_str() {
+        "connect" => {
+            ": states from which no final state can be reached stay, as with fstcompose --connect=false; fstconnect takes them out".to_string()
+        }
+        "compose-filter" => ": the filter is named by --filter".to_string(),
+        "rho1" | "rho2" | "rho-label" | "sigma-label" => {
+            ": the label for the rest, which OpenFst calls rho, is named by --sigma1 or --sigma2".to_string()
+        }
+        _ if ours != name && OPTIONS.iter().any(|option| option.name == ours) => format!(": it is --{ours}"),
+        _ => String::new(),
+    }
+}
+
 /// What stops the program, with its exit status.
 #[derive(Debug)]
 pub struct Stop {
@@ -96,6 +112,7 @@ impl Args {
                 "--" if options => options = false,
                 "-o" if options => args.add("output", None, &mut words)?,
                 "-h" | "--help" if options => args.command = "--help".to_string(),
+                "-V" | "--version" if options => args.command = "--version".to_string(),
                 _ if options && word.starts_with("--") => args.long(&word[2..], &mut words)?,
                 _ if options && word.starts_with('-') && word != "-" => {
                     return Err(Stop::usage(format!("there is no option {word}")))
@@ -122,7 +139,7 @@ impl Args {
         let option = OPTIONS
             .iter()
             .find(|option| option.name == name)
-            .ok_or_else(|| Stop::usage(format!("there is no option --{name}")))?;
+            .ok_or_else(|| Stop::usage(format!("there is no option --{name}{}", hint(name))))?;
         if EACH.contains(&self.command.as_str())
             && !option.commands.contains(&self.command.as_str())
         {

@@ -1,7 +1,7 @@
 //! `rinkolza compose`.
 
 use crate::args::{Args, Stop, INPUT, REFUSED};
-use crate::files::{self, write_out, Tables};
+use crate::files::{self, say, write_out, Tables};
 use crate::{plain_format, shown, unwritable};
 use rinkolza::{
     dot, text, to_sort, Composition, Error, Filter, Format, Machine, Options, Refusal, Rewrite,
@@ -26,11 +26,9 @@ pub fn compose(args: &Args) -> Result<(), Stop> {
     )?;
     let tables = Tables::read(args)?;
     let options = options(args, &tables)?;
-    let format = Format {
-        isymbols: tables.input(),
-        osymbols: tables.output(),
-        ..plain_format(args)?
-    };
+    let mut format = plain_format(args)?;
+    format.isymbols = tables.input();
+    format.osymbols = tables.output();
     let first = files::read_machine(file1, &first_format(args, &tables, &format))?;
     let second = files::read_machine(file2, &second_format(args, &tables, &format))?;
     say_sorted(&first, &second, &options);
@@ -53,33 +51,25 @@ pub fn compose(args: &Args) -> Result<(), Stop> {
 /// FIRST has the inner labels on its outputs. As an acceptor it has one table, by whatever option it is named.
 fn first_format<'a>(args: &Args, tables: &'a Tables, format: &Format<'a>) -> Format<'a> {
     let acceptor = args.has("acceptor") || args.has("acceptor1");
-    let inputs = tables.input();
-    Format {
-        acceptor,
-        isymbols: if acceptor {
-            inputs.or(tables.inner())
-        } else {
-            inputs
-        },
-        osymbols: tables.inner(),
-        ..*format
-    }
+    let mut format = format.with_acceptor(acceptor);
+    format.isymbols = match acceptor {
+        true => tables.input().or(tables.inner()),
+        false => tables.input(),
+    };
+    format.osymbols = tables.inner();
+    format
 }
 
 /// SECOND has the inner labels on its inputs.
 fn second_format<'a>(args: &Args, tables: &'a Tables, format: &Format<'a>) -> Format<'a> {
     let acceptor = args.has("acceptor") || args.has("acceptor2");
-    let inputs = tables.inner();
-    Format {
-        acceptor,
-        isymbols: if acceptor {
-            inputs.or(tables.output())
-        } else {
-            inputs
-        },
-        osymbols: tables.output(),
-        ..*format
-    }
+    let mut format = format.with_acceptor(acceptor);
+    format.isymbols = match acceptor {
+        true => tables.inner().or(tables.output()),
+        false => tables.inner(),
+    };
+    format.osymbols = tables.output();
+    format
 }
 
 fn options(args: &Args, tables: &Tables) -> Result<Options, Stop> {
@@ -94,16 +84,14 @@ fn options(args: &Args, tables: &Tables) -> Result<Options, Stop> {
         ("both", Sort::Both),
         ("never", Sort::Never),
     ];
-    Ok(Options {
-        kind: plain_format(args)?.kind,
-        filter: args.choice("filter", &filters)?,
-        sigma1: sigma(args, "1", tables.inner())?,
-        sigma2: sigma(args, "2", tables.inner())?,
-        sort: args.choice("sort", &sorts)?,
+    Ok(Options::new()
+        .with_kind(plain_format(args)?.kind)
+        .with_filter(args.choice("filter", &filters)?)
+        .with_sigma1(sigma(args, "1", tables.inner())?)
+        .with_sigma2(sigma(args, "2", tables.inner())?)
+        .with_sort(args.choice("sort", &sorts)?)
         // Some three megabytes; so nothing is done twice.
-        room: Room::LARGEST,
-        ..Options::default()
-    })
+        .with_room(Room::LARGEST))
 }
 
 fn sigma(args: &Args, machine: &str, symbols: Option<&SymbolTable>) -> Result<Sigma, Stop> {
@@ -117,17 +105,13 @@ fn sigma(args: &Args, machine: &str, symbols: Option<&SymbolTable>) -> Result<Si
     let name = format!("sigma{machine}");
     let mode_name = format!("rewrite{machine}");
     let list_name = format!("allowed{machine}");
-    let sigma = Sigma {
-        label: args
-            .value(&name)
-            .map(|word| label(&name, word, symbols))
-            .transpose()?,
-        mode: args.choice(&mode_name, &modes)?,
-        allowed: args
-            .value(&list_name)
-            .map(|list| labels(&list_name, list, symbols))
-            .transpose()?,
-    };
+    let mut sigma = Sigma::default().with_mode(args.choice(&mode_name, &modes)?);
+    if let Some(word) = args.value(&name) {
+        sigma.label = Some(label(&name, word, symbols)?);
+    }
+    if let Some(list) = args.value(&list_name) {
+        sigma.allowed = Some(labels(&list_name, list, symbols)?);
+    }
     if sigma.label.is_none() && (args.has(&mode_name) || args.has(&list_name)) {
         return Err(Stop::usage(format!(
             "--{mode_name} and --{list_name} need --{name}"
@@ -171,17 +155,19 @@ fn say_sorted(first: &Machine, second: &Machine, options: &Options) {
     let (sort1, sort2) = to_sort(first, second, options);
     for (sorted, which, side) in [(sort1, "first", "output"), (sort2, "second", "input")] {
         if sorted {
-            eprintln!("rinkolza: note: the {which} machine's transitions were sorted by {side} label (--sort)");
+            say(format!(
+                "note: the {which} machine's transitions were sorted by {side} label (--sort)"
+            ));
         }
     }
 }
 
 fn with_progress(composition: &mut Composition) -> Result<(), Error> {
     composition.run_with(STEP, |progress| {
-        eprintln!(
-            "rinkolza: {} of {} states found are expanded, {} transitions",
+        say(format!(
+            "{} of {} states found are expanded, {} transitions",
             progress.expanded, progress.found, progress.trs
-        );
+        ));
     })
 }
 

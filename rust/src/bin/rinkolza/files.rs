@@ -2,6 +2,7 @@
 
 use crate::args::{Args, Stop, INPUT};
 use rinkolza::{text, Error, Format, Machine, SymbolTable};
+use std::fmt::Display;
 use std::fs;
 use std::io::{self, ErrorKind, Read, Write};
 
@@ -87,6 +88,11 @@ pub fn write_out(args: &Args, text: &str) -> Result<(), Stop> {
         )),
         _ => Ok(()),
     }
+}
+
+/// Says something on standard error. Where that is closed or full nobody hears it, and the result still counts.
+pub fn say(message: impl Display) {
+    let _ = writeln!(io::stderr(), "rinkolza: {message}");
 }
 
 fn print_all(text: &str) -> io::Result<()> {

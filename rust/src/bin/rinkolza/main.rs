@@ -7,7 +7,7 @@ mod compose;
 mod files;
 
 use args::{Args, Stop, INPUT};
-use files::{write_out, Tables};
+use files::{say, write_out, Tables};
 use rinkolza::{dot, text, words, By, Error, Format, Kind, Machine};
 use std::process::ExitCode;
 
@@ -17,7 +17,7 @@ fn main() -> ExitCode {
     match run() {
         Ok(()) => ExitCode::SUCCESS,
         Err(stop) => {
-            eprintln!("rinkolza: {}", stop.message);
+            say(stop.message);
             ExitCode::from(stop.status)
         }
     }
@@ -35,7 +35,9 @@ fn run() -> Result<(), Stop> {
         "compose" => compose::compose(&args),
         "print" | "draw" => one_machine(&args),
         "--help" | "-h" | "help" => write_out(&args, HELP),
-        "--version" => write_out(&args, concat!("rinkolza ", env!("CARGO_PKG_VERSION"), "\n")),
+        "--version" | "-V" => {
+            write_out(&args, concat!("rinkolza ", env!("CARGO_PKG_VERSION"), "\n"))
+        }
         "" => Err(Stop::usage("say what to do: compose, print or draw")),
         other => Err(Stop::usage(format!("there is no command {other}"))),
     }
@@ -53,12 +55,9 @@ fn one_machine(args: &Args) -> Result<(), Stop> {
         ],
     )?;
     let tables = Tables::read(args)?;
-    let format = Format {
-        acceptor: args.has("acceptor"),
-        isymbols: tables.input(),
-        osymbols: tables.output(),
-        ..plain_format(args)?
-    };
+    let mut format = plain_format(args)?.with_acceptor(args.has("acceptor"));
+    format.isymbols = tables.input();
+    format.osymbols = tables.output();
     let mut machine = files::read_machine(file, &format)?;
     if let Some(by) = sort {
         machine.sort(by);
@@ -72,33 +71,39 @@ fn one_machine(args: &Args) -> Result<(), Stop> {
     write_out(args, &text.map_err(unwritable)?)
 }
 
+/// The words of a machine that the program `composed` takes.
+const COMPOSED_WORDS: usize = 4096;
+
 /// The machine's words with true marks, on one line.
 fn word_line(machine: &Machine) -> String {
     let words = words::encode(machine, words::Marks::True);
+    if words.len() > COMPOSED_WORDS {
+        say(format!(
+            "note: composed takes {COMPOSED_WORDS} words a machine, here are {}: it will say refused 2 or 3 (rinkolza compose takes it)",
+            words.len()
+        ));
+    }
     let digits: Vec<String> = words.iter().map(u32::to_string).collect();
     digits.join(" ") + "\n"
 }
 
 /// What all commands say of texts.
 fn plain_format(args: &Args) -> Result<Format<'static>, Stop> {
-    Ok(Format {
-        kind: args.choice("kind", &[("cost", Kind::Cost), ("count", Kind::Count)])?,
-        keep_numbers: args.has("keep-state-numbering"),
-        show_one: args.has("show-weight-one"),
-        ..Format::default()
-    })
+    let kind = args.choice("kind", &[("cost", Kind::Cost), ("count", Kind::Count)])?;
+    let mut format = Format::new().with_kind(kind);
+    format.keep_numbers = args.has("keep-state-numbering");
+    format.show_one = args.has("show-weight-one");
+    Ok(format)
 }
 
 /// The format to write in: without symbols where numbers are asked for.
 fn shown<'a>(args: &Args, format: &Format<'a>) -> Format<'a> {
-    match args.has("numeric") {
-        false => *format,
-        true => Format {
-            isymbols: None,
-            osymbols: None,
-            ..*format
-        },
+    let mut format = *format;
+    if args.has("numeric") {
+        format.isymbols = None;
+        format.osymbols = None;
     }
+    format
 }
 
 fn unwritable(error: Error) -> Stop {
