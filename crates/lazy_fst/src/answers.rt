@@ -79,7 +79,10 @@ pub fn final_of(
 
 // An expansion with the session that goes on; refused, the one that was given.
 pub fn part_answer(session: Session, expanded: Expansion) -> PartAnswer
-    ensures { λ r. ⌜ ((o : Options) (m : Memory) → sessionMeans session ≡ sessionUnder o (session .used) → partLeft r m ≡ leftBy o (session .used) m expanded) ⌝ }
+    ensures { λ r. ⌜ (
+        (o : Options) (m : Memory) → sessionMeans session ≡ sessionUnder o (session .used)
+        → partLeft r m ≡ leftBy o (session .used) m expanded
+        ) ⌝ }
 {
     let settings = session.settings;
     let side = session.side;

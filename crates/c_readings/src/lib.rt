@@ -1,0 +1,1 @@
+// Demand 3 at the border to C; no code.
