@@ -18,7 +18,7 @@ use Rattle.lists.specs.Lists.{first, linked}
 use Rattle.lists.proofs.Members.{and-left, and-right}
 use Rattle.lists.proofs.Links.{first-sound, first-same, Falls, linked-below, linked-same}
 use Rattle.words.specs.Steps.{Triple}
-use Rattle.calls.specs.Store.{Store, stateRoom, stateField, tripleAt, nextAt, slot, headOf, chainOf, sameTriple, find, stateRecord, add}
+use Rattle.calls.specs.Store.{Store, stateSize, stateRoom, stateField, tripleAt, nextPlace, nextAt, slot, headOf, chainOf, sameTriple, find, stateRecord, add}
 use Rattle.calls.proofs.RecordLaws.{room-words, field-before, field-new, triple-before}
 use Rattle.calls.proofs.StoreForms.{Form}
 
@@ -68,6 +68,19 @@ module _ {S1 S2 : ℕ} (d : Store) {last : ℕ} (form : Form S1 S2 d last) where
       let r = first-sound (λ k. sameTriple (tripleAt (d .memory .states) k) t) (chainOf d t) n e in
       (chain-below t (r .0), same-triple (tripleAt (d .memory .states) n) t (r .1))
 
+  -- other records of states, with the same triples where a state is used: the same of a chain is found
+  first-alike : (ss : List ℕ) → ((n : ℕ) → n < U → tripleAt ss n ≡ tripleAt (d .memory .states) n) → (t : Triple) → first (λ n. sameTriple (tripleAt ss n) t) (chainOf d t) ≡ find d t
+  unfolding find
+  first-alike ss same t = first-same (λ n. sameTriple (tripleAt ss n) t) (λ n. sameTriple (tripleAt (d .memory .states) n) t) (chainOf d t) (λ n i. ap (λ u. sameTriple u t) (same n (chain-below t i)))
+
+  -- and with the same links too, under the same heads: the same is found
+  pub find-same : (ss ts : List ℕ) → ((n : ℕ) → n < U → nextAt ss n ≡ nextAt (d .memory .states) n) → ((n : ℕ) → n < U → tripleAt ss n ≡ tripleAt (d .memory .states) n) → (t : Triple)
+      → find (record { memory = record { heads = d .memory .heads; states = ss; trs = ts }; used = d .used }) t ≡ find d t
+  unfolding find chainOf
+  find-same ss ts links same t =
+      let low = head-low t in
+      ap (first (λ n. sameTriple (tripleAt ss n) t)) (linked-same (nextAt (d .memory .states)) (nextAt ss) U U U (headOf (d .memory .heads) t) falls links low low low) ∙ first-alike ss same t
+
   module _ (t : Triple) (narrow : t .s2 < 65536) (room : U < stateRoom (d .memory)) (headed : 0 < length (d .memory .heads)) where
     abbrev new : List ℕ
     new = stateRecord t (headOf (d .memory .heads) t)
@@ -75,16 +88,16 @@ module _ {S1 S2 : ℕ} (d : Store) {last : ℕ} (form : Form S1 S2 d last) where
     abbrev ss : List ℕ
     ss = add d t .memory .states
 
-    fits : 5 * U + 5 ≤ length (d .memory .states)
+    fits : stateSize * U + stateSize ≤ length (d .memory .states)
     unfolding stateRoom
-    fits = let r = room-words (d .memory .states) (suc U) room in omega (arith, r .1)
+    fits = let r = room-words stateSize (d .memory .states) (suc U) room in omega (arith, r .1)
 
     -- the records before it stay
-    pub add-field : (n k : ℕ) → n < U → k < 5 → stateField ss n k ≡ stateField (d .memory .states) n k
+    pub add-field : (n k : ℕ) → n < U → k < stateSize → stateField ss n k ≡ stateField (d .memory .states) n k
     unfolding add
     add-field n k h l = field-before (d .memory .states) new U n k h l
 
-    pub add-new : (k : ℕ) → k < 5 → stateField ss U k ≡ getD new k 0
+    pub add-new : (k : ℕ) → k < stateSize → stateField ss U k ≡ getD new k 0
     unfolding add
     add-new k h = field-new (d .memory .states) new U k h fits
 
@@ -104,7 +117,7 @@ module _ {S1 S2 : ℕ} (d : Store) {last : ℕ} (form : Form S1 S2 d last) where
 
     next-old : (n : ℕ) → n < U → nextAt ss n ≡ nextAt (d .memory .states) n
     unfolding nextAt
-    next-old n h = add-field n 4 h (omega arith)
+    next-old n h = add-field n nextPlace h (omega arith)
 
     -- the chain of its head begins with it
     pub add-chain-same : (u : Triple) → slot (d .memory .heads) u ≡ slot (d .memory .heads) t → chainOf (add d t) u ≡ U ∷ chainOf d u
@@ -113,7 +126,7 @@ module _ {S1 S2 : ℕ} (d : Store) {last : ℕ} (form : Form S1 S2 d last) where
         let hs = d .memory .heads in
         let hd : getD (set hs (slot hs t) (U + 1)) (slot (set hs (slot hs t) (U + 1)) u) 0 ≡ suc U
         = rw (slot-same, e) (getD-set-same hs (slot hs t) (U + 1) 0 (slot-in hs t headed) ∙ add-one U) in
-        let nx : nextAt ss U ≡ headOf hs u = add-new 4 (omega arith) ∙ ap (λ i. getD hs i 0) (sym e) in
+        let nx : nextAt ss U ≡ headOf hs u = add-new nextPlace (omega arith) ∙ ap (λ i. getD hs i 0) (sym e) in
         rw (hd, add-one)
         (ap (λ (l : List ℕ). U ∷ l)
         (ap (linked (nextAt ss) U) nx ∙ linked-same (nextAt (d .memory .states)) (nextAt ss) U U U (headOf hs u) falls next-old (head-low u) (head-low u) (head-low u)))
@@ -133,16 +146,11 @@ module _ {S1 S2 : ℕ} (d : Store) {last : ℕ} (form : Form S1 S2 d last) where
     unfolding find first
     find-added = rw (add-chain-same t refl, add-holds, same-self)
 
-    old-first : (u : Triple) → first (λ n. sameTriple (tripleAt ss n) u) (chainOf d u) ≡ find d u
-    unfolding find
-    old-first u =
-        first-same (λ n. sameTriple (tripleAt ss n) u) (λ n. sameTriple (tripleAt (d .memory .states) n) u) (chainOf d u) (λ n i. ap (λ v. sameTriple v u) (add-triple n (chain-below u i)))
-
     -- another triple is found as before
     pub find-other : (u : Triple) → sameTriple t u ≡ false → find (add d t) u ≡ find d u
     unfolding find first
     find-other u e = go (ℕ-discrete (slot (d .memory .heads) u) (slot (d .memory .heads) t))
       where
         go : Dec (slot (d .memory .heads) u ≡ slot (d .memory .heads) t) → find (add d t) u ≡ find d u
-        go (yes p) = rw (add-chain-same u p, add-holds, e) (old-first u)
-        go (no p) = rw (add-chain-other u p) (old-first u)
+        go (yes p) = rw (add-chain-same u p, add-holds, e) (first-alike ss add-triple u)
+        go (no p) = rw (add-chain-other u p) (first-alike ss add-triple u)

@@ -65,6 +65,10 @@ module _ (l : Lent) (s : Session) (m : Memory) (c : Composition) (enters : enter
   pub expand-late : (n : ℕ) → s .used .states ≤ n → expandOf l s m n ≡ stayed s m (refused 9)
   expand-late n h = by-expand n (λ o. o ≡ stayed s m (refused 9)) (λ a. refl) (λ a x. absurd (omega (arith, a, h))) (λ a x k e. absurd (omega (arith, a, h))) (λ a x d e. absurd (omega (arith, a, h)))
 
+  pub expand-old : (n : ℕ) → n < s .used .states → expandedAt (m .states) n ≡ 1 → expandOf l s m n ≡ stayed s m (good (partAt (storeOf s m) n))
+  expand-old n h y =
+      by-expand n (λ o. o ≡ stayed s m (good (partAt (storeOf s m) n))) (λ a. absurd (omega (arith, a, h))) (λ a x. refl) (λ a x k e. absurd (x y)) (λ a x d e. absurd (x y))
+
   module _ (n : ℕ) (found : n < s .used .states) (bare : expandedAt (m .states) n ≢ 1) where
     pub expand-stopped : (k : ℕ) → storeSteps (storeOf s m) (stepsAt c (tripleAt (m .states) n)) ≡ refused k → expandOf l s m n ≡ stayed s m (refused k)
     expand-stopped k e =

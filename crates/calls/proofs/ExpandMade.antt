@@ -6,12 +6,12 @@ use Prim.Native.Nat.{ℕ, _+_, _≤_, _<_}
 use native.Mathlib.Omega.{arith}
 use lib.ListN.{length}
 use Rattle.words.specs.Labels.{good}
-use Rattle.words.specs.Machines.{stateCount}
+use Rattle.words.specs.Machines.{limit, stateCount}
 use Rattle.words.specs.Steps.{Composition, Step, stepsAt}
 use Rattle.words.specs.Settings.{Lent}
 use Rattle.words.proofs.FormLaws.{form}
 use Rattle.words.proofs.StepRange.{InRange}
-use Rattle.calls.specs.Store.{Memory, Store, stateField, tripleAt, expandedAt, firstAt, mark, partAt}
+use Rattle.calls.specs.Store.{Memory, Store, stateSize, stateField, tripleAt, firstPlace, expandedAt, firstAt, mark, partAt}
 use Rattle.calls.specs.Checks.{Session, storeOf, entered}
 use Rattle.calls.specs.Calls.{storeSteps, newPart}
 use Rattle.calls.proofs.ExpandKept.{sided, Entered, entered-is, steps-range}
@@ -34,8 +34,8 @@ pub record ExpandMade (l : Lent) (c : Composition) (s : Session) (m : Memory) (n
   pub whole : Whole (markedBy s n e)
   -- triples stay; the words of other states too, and the state is expanded alone
   pub triple : (k : ℕ) → tripleAt (markedBy s n e .memory .states) k ≡ tripleAt (e .memory .states) k
-  pub other : (k j : ℕ) → k ≢ n → j < 5 → stateField (markedBy s n e .memory .states) k j ≡ stateField (e .memory .states) k j
-  pub field-other : (k j : ℕ) → k < s .used .states → k ≢ n → j < 5 → stateField (markedBy s n e .memory .states) k j ≡ stateField (m .states) k j
+  pub other : (k j : ℕ) → k ≢ n → j < stateSize → stateField (markedBy s n e .memory .states) k j ≡ stateField (e .memory .states) k j
+  pub field-other : (k j : ℕ) → k < s .used .states → k ≢ n → j < stateSize → stateField (markedBy s n e .memory .states) k j ≡ stateField (m .states) k j
   pub expanded : expandedAt (markedBy s n e .memory .states) n ≡ 1
   -- its list, and those of others
   pub part-it : partAt (markedBy s n e) n ≡ newPart (s .used) (e .used)
@@ -55,7 +55,7 @@ module _ (l : Lent) (c : Composition) (s : Session) (m : Memory) (enters : enter
   checks : Entered l s m c
   checks = entered-is l s m c enters
 
-  narrow : S2 ≤ 65535
+  narrow : S2 ≤ limit
   narrow = form (l .m2) (sided (s .settings) l (checks .side) (checks .rule) .formed2) .states
 
   all : (steps : List Step) × (stepsAt c (tripleAt (m .states) n) ≡ map good steps)
@@ -81,7 +81,7 @@ module _ (l : Lent) (c : Composition) (s : Session) (m : Memory) (enters : enter
   here′ : n < e .used .states
   here′ = omega (arith, found, made′ .states)
 
-  field-other′ : (k j : ℕ) → k < s .used .states → k ≢ n → j < 5 → stateField (markedBy s n e .memory .states) k j ≡ stateField (m .states) k j
+  field-other′ : (k j : ℕ) → k < s .used .states → k ≢ n → j < stateSize → stateField (markedBy s n e .memory .states) k j ≡ stateField (m .states) k j
   field-other′ k j h x i = mark-other narrow e (made′ .form) n from here′ low k j x i ∙ stay-state stays′ k j h i
 
   pub expand-made : ExpandMade l c s m n e
@@ -97,5 +97,5 @@ module _ (l : Lent) (c : Composition) (s : Session) (m : Memory) (enters : enter
     field-other = field-other′;
     expanded = mark-expanded narrow e (made′ .form) n from here′ low;
     part-it = part-new narrow (s .used) e (made′ .form) n here′ (all .0) (made′ .trs) (made′ .written) low;
-    part-other = λ k h x. part-alike d (markedBy s n e) (checks .form) (stays′ .trs) k h (λ i y. stays′ .tr-word i (inl y)) (field-other′ k 3 h x (omega arith));
+    part-other = λ k h x. part-alike d (markedBy s n e) (checks .form) (stays′ .trs) k h (λ i y. stays′ .tr-word i (inl y)) (field-other′ k firstPlace h x (omega arith));
   }

@@ -13,7 +13,7 @@ use Rattle.words.specs.Labels.{Checked, good, refused}
 use Rattle.words.specs.Steps.{Composition, stepsAt}
 use Rattle.words.specs.Settings.{Settings, Lent}
 use Rattle.words.proofs.CheckedLaws.{good≢refused}
-use Rattle.calls.specs.Store.{Memory, Store, stateRoom, trRoom, stateField, tripleAt, expandedAt, mark, Part, partAt, add}
+use Rattle.calls.specs.Store.{Memory, Store, stateSize, stateRoom, trRoom, stateField, tripleAt, expandedPlace, expandedAt, mark, Part, partAt, add}
 use Rattle.calls.specs.Checks.{Session, storeOf, entered}
 use Rattle.calls.specs.Calls.{Outcome, cleared, storeSteps, newPart, expandOf, onward, runBy, runFrom, openOf, runOf}
 use Rattle.calls.proofs.RecordLaws.{room-same}
@@ -58,12 +58,12 @@ module _ (l : Lent) (c : Composition) where
           few = omega (arith, same, one, it, w .stays .trs, h .few);
           bare = λ i a b. unexpanded w i (omega arith) b (decLt i (s .used .states));
         },
-        room-same 5 (m .states) (markedBy s n e .memory .states) (length-put (e .memory .states) (5 * n + 2) (1 ∷ newPart (s .used) (e .used) .first ∷ []) ∙ w .stays .states-length),
+        room-same stateSize (m .states) (markedBy s n e .memory .states) (length-put (e .memory .states) (stateSize * n + expandedPlace) (1 ∷ newPart (s .used) (e .used) .first ∷ []) ∙ w .stays .states-length),
       )
     where
       unexpanded : ExpandMade l c s m n e → (i : ℕ) → n < i → i < e .used .states → Dec (i < s .used .states) → expandedAt (markedBy s n e .memory .states) i ≡ 0
-      unexpanded w i a b (yes x) = w .field-other i 2 x (λ z. omega (arith, z)) (omega arith) ∙ h .bare i (omega arith) x
-      unexpanded w i a b (no x) = w .other i 2 (λ z. omega (arith, z)) (omega arith) ∙ w .made .unexpanded i (omega arith) b
+      unexpanded w i a b (yes x) = w .field-other i expandedPlace x (λ z. omega (arith, z)) (omega arith) ∙ h .bare i (omega arith) x
+      unexpanded w i a b (no x) = w .other i expandedPlace (λ z. omega (arith, z)) (omega arith) ∙ w .made .unexpanded i (omega arith) b
 
   -- one accepted expansion further
   further : (n : ℕ) (s : Session) (m : Memory) → CameTo l c n s m → n < s .used .states → (p : Part) → expandOf l s m n .answer ≡ good p
@@ -115,7 +115,7 @@ open-bare s l got m =
     (λ k r z. absurd (good≢refused (sym z)))
     (λ x r h z. (λ n i. absurd (omega arith), λ n i. absurd (omega arith)))
     (λ x t r h z. absurd (good≢refused (sym z)))
-    (λ x t r h b z. (begun-whole s l x t r h m b, λ n i. let e : 0 ≡ n = omega arith in subst (λ k. stateField (add (cleared m) t .memory .states) k 2 ≡ 0) e (begun-field s l x t r h m b 2 (omega arith))))
+    (λ x t r h b z. (begun-whole s l x t r h m b, λ n i. let e : 0 ≡ n = omega arith in subst (λ k. stateField (add (cleared m) t .memory .states) k expandedPlace ≡ 0) e (begun-field s l x t r h m b expandedPlace (omega arith))))
 
 pub few-records : (s : Settings) (l : Lent) (got : Session) (m : Memory) → openOf s l got m .answer ≡ good tt
     → let o = openOf s l got m in let r = runOf l (o .session) (o .memory) in r .answer ≡ good tt → FewRecords (r .session) (r .memory)

@@ -7,12 +7,12 @@ use Prim.Native.Nat.{ℕ, _≤_, _<_}
 use native.Mathlib.Omega.{arith}
 use native.Mathlib.Decide.{ℕ-discrete, decLt}
 use lib.ListN.{length}
-use Rattle.lists.specs.Lists.{first}
-use Rattle.lists.proofs.Links.{first-same, linked-same}
+use Rattle.words.specs.Machines.{limit}
 use Rattle.words.specs.Steps.{Triple, Step}
-use Rattle.calls.specs.Store.{Store, stateRoom, tripleAt, nextAt, headOf, chainOf, sameTriple, find, add, append, mark}
+use Rattle.calls.specs.Store.{Store, stateRoom, tripleAt, nextPlace, nextAt, chainOf, sameTriple, find, add, append, mark}
+use Rattle.calls.proofs.RecordLaws.{triple-same}
 use Rattle.calls.proofs.StoreForms.{Form}
-use Rattle.calls.proofs.ChainLaws.{same-triple, find-sound, add-triple, add-holds, find-added, find-other}
+use Rattle.calls.proofs.ChainLaws.{same-triple, find-sound, find-same, add-triple, add-holds, find-added, find-other}
 use Rattle.calls.proofs.FormKept.{mark-other, mark-triple, mark-next}
 
 -- every used state is found by its triple
@@ -46,14 +46,13 @@ module _ {S1 S2 : ℕ} (d : Store) {last : ℕ} (form : Form S1 S2 d last) (whol
   unfolding append find chainOf
   whole-append st target next = whole
 
-  module _ (narrow : S2 ≤ 65535) (n first′ : ℕ) (found : n < d .used .states) (within : first′ ≤ d .used .trs) where
+  module _ (narrow : S2 ≤ limit) (n first′ : ℕ) (found : n < d .used .states) (within : first′ ≤ d .used .trs) where
     pub marked-triple : (k : ℕ) → tripleAt (mark d n first′ .memory .states) k ≡ tripleAt (d .memory .states) k
-    unfolding tripleAt
     marked-triple k = go (ℕ-discrete k n)
       where
         go : Dec (k ≡ n) → tripleAt (mark d n first′ .memory .states) k ≡ tripleAt (d .memory .states) k
         go (yes e) = subst (λ j. tripleAt (mark d n first′ .memory .states) j ≡ tripleAt (d .memory .states) j) (sym e) (mark-triple narrow d form n first′ found within)
-        go (no e) = rw (mark-other narrow d form n first′ found within k 0 e (omega arith), mark-other narrow d form n first′ found within k 1 e (omega arith))
+        go (no e) = triple-same (d .memory .states) (mark d n first′ .memory .states) k k (λ j h. mark-other narrow d form n first′ found within k j e (omega arith))
 
     marked-next : (k : ℕ) → nextAt (mark d n first′ .memory .states) k ≡ nextAt (d .memory .states) k
     unfolding nextAt
@@ -61,21 +60,11 @@ module _ {S1 S2 : ℕ} (d : Store) {last : ℕ} (form : Form S1 S2 d last) (whol
       where
         go : Dec (k ≡ n) → nextAt (mark d n first′ .memory .states) k ≡ nextAt (d .memory .states) k
         go (yes e) = subst (λ j. nextAt (mark d n first′ .memory .states) j ≡ nextAt (d .memory .states) j) (sym e) (mark-next narrow d form n first′ found within)
-        go (no e) = mark-other narrow d form n first′ found within k 4 e (omega arith)
-
-    marked-chain : (t : Triple) → chainOf (mark d n first′) t ≡ chainOf d t
-    unfolding chainOf mark headOf
-    marked-chain t =
-        let U = d .used .states in
-        let low = form .head _ in
-        linked-same (nextAt (d .memory .states)) (nextAt (mark d n first′ .memory .states)) U U U (headOf (d .memory .heads) t) (λ k h. form .state k h .next) (λ k h. marked-next k) low low low
+        go (no e) = mark-other narrow d form n first′ found within k nextPlace e (omega arith)
 
     marked-find : (t : Triple) → find (mark d n first′) t ≡ find d t
-    unfolding find
-    marked-find t =
-        let ss = mark d n first′ .memory .states in
-        ap (first (λ k. sameTriple (tripleAt ss k) t)) (marked-chain t)
-        ∙ first-same (λ k. sameTriple (tripleAt ss k) t) (λ k. sameTriple (tripleAt (d .memory .states) k) t) (chainOf d t) (λ k i. ap (λ u. sameTriple u t) (marked-triple k))
+    unfolding mark
+    marked-find = find-same d form (mark d n first′ .memory .states) (d .memory .trs) (λ k h. marked-next k) (λ k h. marked-triple k)
 
     -- a mark
     pub whole-mark : Whole (mark d n first′)

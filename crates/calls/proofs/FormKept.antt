@@ -9,25 +9,26 @@ use lib.ListN.{length, getD, length-set}
 use lib.Seq.{getD-set-same, getD-set-other}
 use Rattle.lists.specs.Lists.{put}
 use Rattle.lists.proofs.Put.{length-put, put-before, put-after, put-in}
+use Rattle.words.specs.Machines.{limit}
 use Rattle.words.specs.Steps.{Triple, Step}
 use Rattle.words.proofs.StepRange.{InRange}
-use Rattle.calls.specs.Store.{Store, stateRoom, trRoom, stateField, tripleAt, expandedAt, firstAt, nextAt, trField, targetAt, trNextAt, slot, headOf, stateRecord, add, trRecord, append, mark}
-use Rattle.calls.proofs.RecordLaws.{room-words, room-same}
+use Rattle.calls.specs.Store.{Store, stateSize, trSize, stateRoom, trRoom, stateField, tripleAt, expandedPlace, firstPlace, nextPlace, expandedAt, firstAt, nextAt, trField, targetAt, trNextAt, slot, headOf, stateRecord, add, trRecord, append, mark}
+use Rattle.calls.proofs.RecordLaws.{room-words, room-same, triple-same}
 use Rattle.calls.proofs.StoreForms.{StateForm, TrForm, Form}
 use Rattle.calls.proofs.ChainLaws.{add-field, add-new, add-holds, slot-in}
 
 -- the words of a state's record that form looks at, taken over from a record with the same ones
-moved : {S1 S2 : ℕ} (ss rr : List ℕ) (trs more n : ℕ) → trs ≤ more → ((k : ℕ) → k < 5 → stateField rr n k ≡ stateField ss n k) → StateForm S1 S2 ss trs n → StateForm S1 S2 rr more n
-unfolding tripleAt expandedAt firstAt nextAt
+pub moved : {S1 S2 : ℕ} (ss rr : List ℕ) (trs more n : ℕ) → trs ≤ more → ((k : ℕ) → k < stateSize → stateField rr n k ≡ stateField ss n k) → StateForm S1 S2 ss trs n → StateForm S1 S2 rr more n
+unfolding expandedAt firstAt nextAt
 moved ss rr trs more n h e s = record {
-  triple = rw (e 0 (omega arith), e 1 (omega arith)) (s .triple);
-  expanded = rw (e 2 (omega arith)) (s .expanded);
-  unexpanded = rw (e 2 (omega arith), e 3 (omega arith)) (s .unexpanded);
-  first = rw (e 3 (omega arith)) (omega (arith, s .first));
-  next = rw (e 4 (omega arith)) (s .next);
+  triple = rw (triple-same ss rr n n (λ k i. e k (omega arith))) (s .triple);
+  expanded = rw (e expandedPlace (omega arith)) (s .expanded);
+  unexpanded = rw (e expandedPlace (omega arith), e firstPlace (omega arith)) (s .unexpanded);
+  first = rw (e firstPlace (omega arith)) (omega (arith, s .first));
+  next = rw (e nextPlace (omega arith)) (s .next);
 }
 
-module _ {S1 S2 : ℕ} (narrow : S2 ≤ 65535) (d : Store) {last : ℕ} (form : Form S1 S2 d last) where
+module _ {S1 S2 : ℕ} (narrow : S2 ≤ limit) (d : Store) {last : ℕ} (form : Form S1 S2 d last) where
   abbrev U : ℕ
   U = d .used .states
 
@@ -48,10 +49,10 @@ module _ {S1 S2 : ℕ} (narrow : S2 ≤ 65535) (d : Store) {last : ℕ} (form : 
     unfolding expandedAt firstAt nextAt headOf
     new-state = record {
       triple = rw (add-holds d form t few room headed) ok;
-      expanded = rw (add-new d form t few room headed 2 (omega arith)) (omega arith);
-      unexpanded = inr (add-new d form t few room headed 3 (omega arith));
-      first = rw (add-new d form t few room headed 3 (omega arith)) (omega arith);
-      next = rw (add-new d form t few room headed 4 (omega arith)) (form .head (slot (d .memory .heads) t));
+      expanded = rw (add-new d form t few room headed expandedPlace (omega arith)) (omega arith);
+      unexpanded = inr (add-new d form t few room headed firstPlace (omega arith));
+      first = rw (add-new d form t few room headed firstPlace (omega arith)) (omega arith);
+      next = rw (add-new d form t few room headed nextPlace (omega arith)) (form .head (slot (d .memory .heads) t));
     }
 
     each-state : (n : ℕ) → n < U + 1 → Dec (n < U) → StateForm S1 S2 ss (d .used .trs) n
@@ -61,7 +62,7 @@ module _ {S1 S2 : ℕ} (narrow : S2 ≤ 65535) (d : Store) {last : ℕ} (form : 
     pub add-form : Form S1 S2 (add d t) last
     unfolding add stateRoom trRoom
     add-form = record {
-      states-fit = rw (room-same 5 (d .memory .states) (add d t .memory .states) (length-put (d .memory .states) (5 * U) (stateRecord t (headOf (d .memory .heads) t)))) (omega (arith, room));
+      states-fit = rw (room-same stateSize (d .memory .states) (add d t .memory .states) (length-put (d .memory .states) (stateSize * U) (stateRecord t (headOf (d .memory .heads) t)))) (omega (arith, room));
       trs-fit = form .trs-fit;
       head = λ h. new-head h (ℕ-discrete h (slot (d .memory .heads) t));
       headed = λ _. rw length-set headed;
@@ -77,13 +78,13 @@ module _ {S1 S2 : ℕ} (narrow : S2 ≤ 65535) (d : Store) {last : ℕ} (form : 
     abbrev ts : List ℕ
     ts = append d st target next .memory .trs
 
-    old-tr : (i k : ℕ) → i < T → k < 5 → trField ts i k ≡ trField (d .memory .trs) i k
+    old-tr : (i k : ℕ) → i < T → k < trSize → trField ts i k ≡ trField (d .memory .trs) i k
     unfolding append trField
-    old-tr i k h l = put-before (d .memory .trs) (5 * T) (trRecord st target next) (5 * i + k) 0 (omega arith)
+    old-tr i k h l = put-before (d .memory .trs) (trSize * T) (trRecord st target next) (trSize * i + k) 0 (omega arith)
 
-    pub append-new : (k : ℕ) → k < 5 → trField ts T k ≡ getD (trRecord st target next) k 0
+    pub append-new : (k : ℕ) → k < trSize → trField ts T k ≡ getD (trRecord st target next) k 0
     unfolding append trField trRoom
-    append-new k h = let r = room-words (d .memory .trs) (suc T) room in put-in (d .memory .trs) (5 * T) (trRecord st target next) k 0 h (omega (arith, r .1))
+    append-new k h = let r = room-words trSize (d .memory .trs) (suc T) room in put-in (d .memory .trs) (trSize * T) (trRecord st target next) k 0 h (omega (arith, r .1))
 
     each-tr : (i : ℕ) → i < T + 1 → Dec (i < T) → TrForm ts U last i
     unfolding targetAt trNextAt
@@ -94,7 +95,7 @@ module _ {S1 S2 : ℕ} (narrow : S2 ≤ 65535) (d : Store) {last : ℕ} (form : 
     unfolding append stateRoom trRoom
     append-form = record {
       states-fit = form .states-fit;
-      trs-fit = rw (room-same 5 (d .memory .trs) (append d st target next .memory .trs) (length-put (d .memory .trs) (5 * T) (trRecord st target next))) (omega (arith, room));
+      trs-fit = rw (room-same trSize (d .memory .trs) (append d st target next .memory .trs) (length-put (d .memory .trs) (trSize * T) (trRecord st target next))) (omega (arith, room));
       head = form .head;
       headed = form .headed;
       state = λ n h. moved (d .memory .states) (d .memory .states) T (T + 1) n (omega arith) (λ k l. refl) (form .state n h);
@@ -106,33 +107,33 @@ module _ {S1 S2 : ℕ} (narrow : S2 ≤ 65535) (d : Store) {last : ℕ} (form : 
     abbrev ms : List ℕ
     ms = mark d n first .memory .states
 
-    fit : 5 * n + 5 ≤ length (d .memory .states)
+    fit : stateSize * n + stateSize ≤ length (d .memory .states)
     unfolding stateRoom
-    fit = let r = room-words (d .memory .states) U (form .states-fit) in omega (arith, r .1)
+    fit = let r = room-words stateSize (d .memory .states) U (form .states-fit) in omega (arith, r .1)
 
-    pub mark-other : (m k : ℕ) → m ≢ n → k < 5 → stateField ms m k ≡ stateField (d .memory .states) m k
+    pub mark-other : (m k : ℕ) → m ≢ n → k < stateSize → stateField ms m k ≡ stateField (d .memory .states) m k
     unfolding mark stateField
     mark-other m k e h = go (decLt m n)
       where
-        go : Dec (m < n) → getD (put (d .memory .states) (5 * n + 2) (1 ∷ first ∷ [])) (5 * m + k) 0 ≡ getD (d .memory .states) (5 * m + k) 0
-        go (yes l) = put-before (d .memory .states) (5 * n + 2) (1 ∷ first ∷ []) (5 * m + k) 0 (omega arith)
-        go (no l) = let g : n < m = omega (arith, e) in put-after (d .memory .states) (5 * n + 2) (1 ∷ first ∷ []) (5 * m + k) 0 (omega arith)
+        go : Dec (m < n) → getD (put (d .memory .states) (stateSize * n + expandedPlace) (1 ∷ first ∷ [])) (stateSize * m + k) 0 ≡ getD (d .memory .states) (stateSize * m + k) 0
+        go (yes l) = put-before (d .memory .states) (stateSize * n + expandedPlace) (1 ∷ first ∷ []) (stateSize * m + k) 0 (omega arith)
+        go (no l) = let g : n < m = omega (arith, e) in put-after (d .memory .states) (stateSize * n + expandedPlace) (1 ∷ first ∷ []) (stateSize * m + k) 0 (omega arith)
 
     pub mark-triple : tripleAt ms n ≡ tripleAt (d .memory .states) n
-    unfolding mark tripleAt stateField
-    mark-triple = rw (put-before (d .memory .states) (5 * n + 2) (1 ∷ first ∷ []) (5 * n + 0) 0 (omega arith), put-before (d .memory .states) (5 * n + 2) (1 ∷ first ∷ []) (5 * n + 1) 0 (omega arith))
+    unfolding mark stateField
+    mark-triple = triple-same (d .memory .states) ms n n (λ k h. put-before (d .memory .states) (stateSize * n + expandedPlace) (1 ∷ first ∷ []) (stateSize * n + k) 0 (omega arith))
 
     pub mark-next : nextAt ms n ≡ nextAt (d .memory .states) n
     unfolding mark nextAt stateField
-    mark-next = put-after (d .memory .states) (5 * n + 2) (1 ∷ first ∷ []) (5 * n + 4) 0 (omega arith)
+    mark-next = put-after (d .memory .states) (stateSize * n + expandedPlace) (1 ∷ first ∷ []) (stateSize * n + nextPlace) 0 (omega arith)
 
     pub mark-expanded : expandedAt ms n ≡ 1
     unfolding mark expandedAt stateField
-    mark-expanded = ap (λ i. getD ms i 0) (omega arith) ∙ put-in (d .memory .states) (5 * n + 2) (1 ∷ first ∷ []) 0 0 (omega arith) (omega (arith, fit))
+    mark-expanded = ap (λ i. getD ms i 0) (omega arith) ∙ put-in (d .memory .states) (stateSize * n + expandedPlace) (1 ∷ first ∷ []) 0 0 (omega arith) (omega (arith, fit))
 
     pub mark-first : firstAt ms n ≡ first
     unfolding mark firstAt stateField
-    mark-first = ap (λ i. getD ms i 0) (omega arith) ∙ put-in (d .memory .states) (5 * n + 2) (1 ∷ first ∷ []) 1 0 (omega arith) (omega (arith, fit))
+    mark-first = ap (λ i. getD ms i 0) (omega arith) ∙ put-in (d .memory .states) (stateSize * n + expandedPlace) (1 ∷ first ∷ []) 1 0 (omega arith) (omega (arith, fit))
 
     marked-state : (m : ℕ) → m < U → Dec (m ≡ n) → StateForm S1 S2 ms (d .used .trs) m
     marked-state m h (no e) = moved (d .memory .states) ms (d .used .trs) (d .used .trs) m (omega arith) (λ k l. mark-other m k e l) (form .state m h)
@@ -149,7 +150,7 @@ module _ {S1 S2 : ℕ} (narrow : S2 ≤ 65535) (d : Store) {last : ℕ} (form : 
     pub mark-form : Form S1 S2 (mark d n first) last
     unfolding mark stateRoom trRoom
     mark-form = record {
-      states-fit = rw (room-same 5 (d .memory .states) (mark d n first .memory .states) (length-put (d .memory .states) (5 * n + 2) (1 ∷ first ∷ []))) (form .states-fit);
+      states-fit = rw (room-same stateSize (d .memory .states) (mark d n first .memory .states) (length-put (d .memory .states) (stateSize * n + expandedPlace) (1 ∷ first ∷ []))) (form .states-fit);
       trs-fit = form .trs-fit;
       head = form .head;
       headed = form .headed;

@@ -1,6 +1,7 @@
 pub mod Cases
 pub mod StarCases
 pub mod CallCases
+pub mod OwnedCases
 pub mod Refusals
 pub mod ListingLaws
 pub mod RecordLaws
@@ -19,5 +20,6 @@ pub mod Parts
 pub mod ExpandCases
 pub mod OpenCases
 pub mod TwoStores
+pub mod Lengthened
 pub mod ExpandMade
 pub mod FewRecords

@@ -12,14 +12,14 @@ use lib.ListN.{length, getD, length-map}
 use borrow.Author.Tests.{eqb-false, ne-eqb}
 use Rattle.lists.specs.Lists.{first, linked}
 use Rattle.words.specs.Labels.{epsLabel, Checked, good, refused, refuseIf}
-use Rattle.words.specs.Machines.{startWord, lessOne, wellFormed}
+use Rattle.words.specs.Machines.{limit, startWord, lessOne, wellFormed}
 use Rattle.words.specs.Sides.{Side, sideBy, inOrder, sideOf, nonEmpty}
 use Rattle.words.specs.Sigmas.{Operand, isSet}
 use Rattle.words.specs.Steps.{Triple, startOf, startAt}
 use Rattle.words.specs.Settings.{Settings, settingsOk, Lent, operand1, operand2, compositionOf}
 use Rattle.words.proofs.CheckedLaws.{good≢refused, refused-is, stop-if}
 use Rattle.words.proofs.FormLaws.{form}
-use Rattle.calls.specs.Store.{Memory, Store, stateRoom, stateField, tripleWords, tripleAt, headOf, find, chainOf, add}
+use Rattle.calls.specs.Store.{Memory, Store, stateRoom, stateField, tripleWords, tripleAt, nextPlace, headOf, find, chainOf, add}
 use Rattle.calls.specs.Checks.{Session, sideNumber, sideFor}
 use Rattle.calls.specs.Calls.{Outcome, cleared, begun, openOf}
 use Rattle.calls.proofs.StoreForms.{some-head, of-some-head}
@@ -111,7 +111,7 @@ open-refusals s l got m k =
 
 -- where state 0 begins: its record, the triple found
 module _ (s : Settings) (l : Lent) (side : Side) (t : Triple) (rule : sideFor s l ≡ good side) (start : startAt (compositionOf s l side) ≡ some t) (m : Memory) (begins : Begins m) where
-  narrow-start : (o : Option ℕ) (w : ℕ) → w ≤ 65535 → startOf o (lessOne w) ≡ some t → t .s2 < 65536
+  narrow-start : (o : Option ℕ) (w : ℕ) → w ≤ limit → startOf o (lessOne w) ≡ some t → t .s2 < 65536
   narrow-start none w h e = absurd (Option·none-ne-some _ e)
   narrow-start (some q) zero h e = absurd (Option·none-ne-some _ e)
   narrow-start (some q) (suc w) h e = let z = ap (λ (u : Triple). u .s2) (Option·some-injective (record { s1 = q; s2 = w; f = 0 }) t e) in omega (arith, z, h)
@@ -138,7 +138,7 @@ module _ (s : Settings) (l : Lent) (side : Side) (t : Triple) (rule : sideFor s 
   begun-triple = add-holds (cleared m) (cleared-form 0 0 m) t few room headed
 
   -- its words but for the link
-  pub begun-field : (k : ℕ) → k < 4 → stateField (d .memory .states) 0 k ≡ getD (tripleWords t ++ (0 ∷ 0 ∷ [])) k 0
+  pub begun-field : (k : ℕ) → k < nextPlace → stateField (d .memory .states) 0 k ≡ getD (tripleWords t ++ (0 ∷ 0 ∷ [])) k 0
   unfolding cleared
   begun-field k h = add-new (cleared m) (cleared-form 0 0 m) t few room headed k (omega arith) ∙ new-words t (headOf (cleared m .memory .heads) t) k h
 

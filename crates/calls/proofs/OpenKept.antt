@@ -11,7 +11,7 @@ use lib.ListN.{length, List·getD-map, length-map}
 use borrow.Author.Tests.{eqb-false, not-false}
 use Rattle.lists.proofs.Members.{or-false}
 use Rattle.words.specs.Labels.{Checked, good, refused, andThen}
-use Rattle.words.specs.Machines.{stateCount, startWord, lessOne}
+use Rattle.words.specs.Machines.{limit, stateCount, startWord, lessOne}
 use Rattle.words.specs.Sides.{Side, nonEmpty}
 use Rattle.words.specs.Steps.{Triple, startOf, startAt}
 use Rattle.words.specs.Settings.{Settings, Lent, compositionOf}
@@ -49,7 +49,7 @@ start-range S1 S2 w1 w2 t (some u) (some v) h k p q e =
     subst (InRange S1 S2) (Option·some-injective (record { s1 = u; s2 = v; f = 0 }) t e)
     (record { s1 = start-below w1 S1 u h p; s2 = start-below w2 S2 v k q; f = omega arith })
 
-begun-kept : (S1 S2 : ℕ) → S2 ≤ 65535 → (m : Memory) (o : Option Triple) (d : Store) → ((t : Triple) → o ≡ some t → InRange S1 S2 t) → begun m o ≡ good d → Form S1 S2 d (d .used .trs)
+begun-kept : (S1 S2 : ℕ) → S2 ≤ limit → (m : Memory) (o : Option Triple) (d : Store) → ((t : Triple) → o ≡ some t → InRange S1 S2 t) → begun m o ≡ good d → Form S1 S2 d (d .used .trs)
 unfolding begun cleared add stateRoom
 begun-kept S1 S2 narrow m none d h e = subst (λ (q : Store). Form S1 S2 q (q .used .trs)) (good-is e) (cleared-form S1 S2 m)
 begun-kept S1 S2 narrow m (some t) d h e =

@@ -10,8 +10,9 @@ use borrow.Author.Tests.{eq-eqb, ne-eqb}
 use Rattle.lists.specs.Lists.{interval, linked}
 use Rattle.lists.proofs.Members.{in-interval, of-interval}
 use Rattle.lists.proofs.Rising.{Rises, risen-same, risen-within, part-same}
+use Rattle.words.specs.Machines.{limit}
 use Rattle.words.specs.Steps.{Step}
-use Rattle.calls.specs.Store.{Used, Store, trRoom, firstAt, trField, trNextAt, mark, Part, partAt}
+use Rattle.calls.specs.Store.{Used, Store, trSize, trRoom, firstAt, trField, trNextAt, mark, Part, partAt}
 use Rattle.calls.specs.Calls.{newPart, wordsOfPart}
 use Rattle.calls.proofs.RecordLaws.{room-words}
 use Rattle.calls.proofs.StoreForms.{Form}
@@ -23,7 +24,7 @@ module _ {S1 S2 : ℕ} (d e : Store) (form : Form S1 S2 d (d .used .trs)) (more 
   rises : Rises (trNextAt (d .memory .trs)) (d .used .trs)
   rises i h = form .tr i h .next
 
-  pub part-alike : ((i : ℕ) → i < 5 * d .used .trs → getD (e .memory .trs) i 0 ≡ getD (d .memory .trs) i 0) → firstAt (e .memory .states) n ≡ firstAt (d .memory .states) n → partAt e n ≡ partAt d n
+  pub part-alike : ((i : ℕ) → i < trSize * d .used .trs → getD (e .memory .trs) i 0 ≡ getD (d .memory .trs) i 0) → firstAt (e .memory .states) n ≡ firstAt (d .memory .states) n → partAt e n ≡ partAt d n
   unfolding partAt trNextAt trField
   part-alike same p =
       let next = trNextAt (d .memory .trs) in
@@ -31,20 +32,20 @@ module _ {S1 S2 : ℕ} (d e : Store) (form : Form S1 S2 d (d .used .trs)) (more 
       let low = form .state n used .first in
       let T = d .used .trs in
       let q : linked other (e .used .trs) (firstAt (d .memory .states) n) ≡ linked next T (firstAt (d .memory .states) n)
-      = risen-same next other T (e .used .trs) T (firstAt (d .memory .states) n) rises (λ i h. same (5 * i + 4) (omega arith)) low (λ h. omega (arith, more, h)) (λ h. omega (arith, h)) in
+      = risen-same next other T (e .used .trs) T (firstAt (d .memory .states) n) rises (λ i h. same (trSize * i + 4) (omega arith)) low (λ h. omega (arith, more, h)) (λ h. omega (arith, h)) in
       λ i. record { first = p i; count = length ((ap (linked other (e .used .trs)) p ∙ q) i) }
 
   -- within the used records
-  pub part-within : 5 * (partAt d n .first - 1) + 5 * partAt d n .count ≤ 5 * d .used .trs
+  pub part-within : trSize * (partAt d n .first - 1) + trSize * partAt d n .count ≤ trSize * d .used .trs
   unfolding partAt
   part-within = let r = risen-within (trNextAt (d .memory .trs)) (d .used .trs) (d .used .trs) (firstAt (d .memory .states) n) rises (form .state n used .first) in omega (arith, r)
 
-  pub words-alike : d .used .trs ≤ trRoom (e .memory) → ((i : ℕ) → i < 5 * d .used .trs → getD (e .memory .trs) i 0 ≡ getD (d .memory .trs) i 0) → wordsOfPart (e .memory .trs) (partAt d n) ≡ wordsOfPart (d .memory .trs) (partAt d n)
+  pub words-alike : d .used .trs ≤ trRoom (e .memory) → ((i : ℕ) → i < trSize * d .used .trs → getD (e .memory .trs) i 0 ≡ getD (d .memory .trs) i 0) → wordsOfPart (e .memory .trs) (partAt d n) ≡ wordsOfPart (d .memory .trs) (partAt d n)
   unfolding trRoom
   words-alike room same =
-      let a = room-words (e .memory .trs) (d .used .trs) room in
-      let b = room-words (d .memory .trs) (d .used .trs) (form .trs-fit) in
-      part-same (e .memory .trs) (d .memory .trs) (5 * d .used .trs) (5 * (partAt d n .first - 1)) (5 * partAt d n .count) part-within (a .1) (b .1) same
+      let a = room-words trSize (e .memory .trs) (d .used .trs) room in
+      let b = room-words trSize (d .memory .trs) (d .used .trs) (form .trs-fit) in
+      part-same (e .memory .trs) (d .memory .trs) (trSize * d .used .trs) (trSize * (partAt d n .first - 1)) (trSize * partAt d n .count) part-within (a .1) (b .1) same
 
 -- the new part: the records used after and not before
 module _ (a b : Used) (more : a .trs ≤ b .trs) where
@@ -78,7 +79,7 @@ module _ (a b : Used) (more : a .trs ≤ b .trs) where
       go (no e) k = let f = some-first e in (omega (arith, f, k .0), omega (arith, f, k .1, more))
 
 -- the list of the state that was expanded: one record for each step
-module _ {S1 S2 : ℕ} (narrow : S2 ≤ 65535) (before : Used) (e : Store) (form : Form S1 S2 e (e .used .trs)) (n : ℕ) (used : n < e .used .states) where
+module _ {S1 S2 : ℕ} (narrow : S2 ≤ limit) (before : Used) (e : Store) (form : Form S1 S2 e (e .used .trs)) (n : ℕ) (used : n < e .used .states) where
   abbrev from : ℕ
   from = newPart before (e .used) .first
 

@@ -9,6 +9,7 @@ use lib.Dec.{leb}
 use lib.ListN.{length}
 use borrow.Author.Tests.{leb-false}
 use Rattle.words.specs.Labels.{Checked, good, refused}
+use Rattle.words.specs.Machines.{limit}
 use Rattle.words.specs.Sides.{nonEmpty}
 use Rattle.words.specs.Steps.{Triple, Step}
 use Rattle.words.proofs.CheckedLaws.{good≢refused, good-is, past-check, past-then}
@@ -47,7 +48,7 @@ pub link-ok : {A : Type 0} (d : Store) (last : ℕ) (others : List A) → d .use
 link-ok d last [] h = inl refl
 link-ok d last (x ∷ xs) h = inr (refl, omega arith)
 
-module _ {S1 S2 : ℕ} (narrow : S2 ≤ 65535) where
+module _ {S1 S2 : ℕ} (narrow : S2 ≤ limit) where
   new-reached : (d : Store) (last : ℕ) (t : Triple) → Form S1 S2 d last → InRange S1 S2 t → 0 < d .used .states → d .used .states < stateRoom (d .memory)
       → ReachKept S1 S2 d last (record { store = add d t; state = d .used .states })
   unfolding add trRoom
@@ -62,7 +63,7 @@ module _ {S1 S2 : ℕ} (narrow : S2 ≤ 65535) where
       let c = past-check (leb (stateRoom (d .memory)) (d .used .states)) 13 _ r g in
       subst (ReachKept S1 S2 d last) (good-is (c .1)) (new-reached d last t form ok any (leb-false _ _ (c .0)))
 
-  reach-kept : (d : Store) (last : ℕ) (t : Triple) (r : Reached) → Form S1 S2 d last → InRange S1 S2 t → 0 < d .used .states → reach d t ≡ good r → ReachKept S1 S2 d last r
+  pub reach-kept : (d : Store) (last : ℕ) (t : Triple) (r : Reached) → Form S1 S2 d last → InRange S1 S2 t → 0 < d .used .states → reach d t ≡ good r → ReachKept S1 S2 d last r
   unfolding reach
   reach-kept d last t r form ok any g = reached-by d last t r (find d t) form ok any refl g
 
@@ -75,7 +76,7 @@ module _ {S1 S2 : ℕ} (narrow : S2 ≤ 65535) where
     trs = ap (λ n. n + 1) (k .trs);
   }
 
-  step-kept : (d : Store) (last next : ℕ) (st : Step) (e : Store) → Form S1 S2 d last → InRange S1 S2 (st .to) → 0 < d .used .states → LinkOk d last next → storeStep d next st ≡ good e
+  pub step-kept : (d : Store) (last next : ℕ) (st : Step) (e : Store) → Form S1 S2 d last → InRange S1 S2 (st .to) → 0 < d .used .states → LinkOk d last next → storeStep d next st ≡ good e
       → StepKept S1 S2 d last e
   unfolding storeStep
   step-kept d last next st e form ok any link g =

@@ -5,18 +5,18 @@ use mathlib.Core.Bool.{Bool, true, false}
 use mathlib.Core.List.{List, [], _∷_, _++_, map, List·Memᴰ as In, List·Memᴰ·head as here, List·Memᴰ·tail as there}
 use mathlib.Core.Logic.{_⊎_, inl, inr, ⊎-elim}
 use mathlib.Core.Option.{Option, none, some}
-use Prim.Native.Nat.{ℕ, _+_, _<_, _≤_, min, _/_}
+use Prim.Native.Nat.{ℕ, _+_, _<_, _≤_}
 use native.Mathlib.Omega.{arith}
 use lib.Dec.{leb}
 use lib.ListN.{length}
 use borrow.Author.Tests.{leb-true}
 use Rattle.words.specs.Labels.{Checked, good, refused, refuseIf}
-use Rattle.words.specs.Machines.{limit}
 use Rattle.words.specs.Sides.{nonEmpty}
 use Rattle.words.specs.Steps.{Triple, Step}
 use Rattle.words.proofs.CheckedLaws.{good-is, refused-is, good≢refused, past-check, past-then, stop-then}
-use Rattle.calls.specs.Store.{Store, roomOf, stateRoom, trRoom, find, add, append}
+use Rattle.calls.specs.Store.{Store, stateSize, trSize, stateRoom, trRoom, find, add, append}
 use Rattle.calls.specs.Calls.{Reached, reachedBy, reach, storeStep, nextFor, storeSteps}
+use Rattle.calls.proofs.RecordLaws.{room-same}
 use Rattle.calls.proofs.StepsStay.{step-stays}
 
 -- room is short of n more records of one sort
@@ -60,12 +60,12 @@ step-takes d next st e g =
 
 -- what is short after a step was short before it, for one more
 short-before : (d e : Store) (next n : ℕ) (st : Step) → storeStep d next st ≡ good e → Short e n → Short d (n + 1)
-unfolding trRoom stateRoom roomOf
+unfolding trRoom stateRoom
 short-before d e next n st g h =
     let t = step-takes d next st e g in
     let s = step-stays d next st e g in
-    let a : trRoom (e .memory) ≡ trRoom (d .memory) = ap (λ (k : ℕ). min limit (k / 5)) (s .trs-length) in
-    let b : stateRoom (e .memory) ≡ stateRoom (d .memory) = ap (λ (k : ℕ). min limit (k / 5)) (s .states-length) in
+    let a : trRoom (e .memory) ≡ trRoom (d .memory) = room-same trSize (d .memory .trs) (e .memory .trs) (s .trs-length) in
+    let b : stateRoom (e .memory) ≡ stateRoom (d .memory) = room-same stateSize (d .memory .states) (e .memory .states) (s .states-length) in
     ⊎-elim (λ x. inl (omega (arith, x, a, t .0))) (λ x. inr (omega (arith, x, b, t .1))) h
 
 -- the steps up to some place, for which room is short

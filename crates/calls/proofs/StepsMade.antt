@@ -13,12 +13,14 @@ use lib.ListN.{length, getD}
 use borrow.Author.Tests.{leb-false}
 use Rattle.lists.specs.Lists.{At, linked}
 use Rattle.words.specs.Labels.{Checked, good, refused}
+use Rattle.words.specs.Machines.{limit}
 use Rattle.words.specs.Sides.{nonEmpty}
 use Rattle.words.specs.Steps.{Triple, Step}
 use Rattle.words.proofs.CheckedLaws.{good≢refused, good-is, past-check, past-then}
 use Rattle.words.proofs.StepRange.{InRange}
-use Rattle.calls.specs.Store.{Store, stateRoom, trRoom, stateField, tripleAt, expandedAt, trField, targetAt, trNextAt, find, add, append}
+use Rattle.calls.specs.Store.{Store, stateSize, trSize, stateRoom, trRoom, stateField, tripleAt, expandedPlace, expandedAt, trField, targetAt, trNextAt, find, add, append}
 use Rattle.calls.specs.Calls.{Reached, reachedBy, reach, storeStep, nextFor, storeSteps}
+use Rattle.calls.proofs.RecordLaws.{triple-same}
 use Rattle.calls.proofs.StepsKept.{LinkOk, link-ok}
 use Rattle.calls.proofs.StoreForms.{Form}
 use Rattle.calls.proofs.ChainLaws.{find-sound, add-new, add-holds}
@@ -48,17 +50,16 @@ Written d i (st ∷ others) = IsTr d i st (linkAt i (nonEmpty others)) × Writte
 
 -- records and triples that stay
 module _ {d e : Store} (s : Stays d e) where
-  pub stay-tr : (i k : ℕ) → i < d .used .trs → k < 5 → trField (e .memory .trs) i k ≡ trField (d .memory .trs) i k
+  pub stay-tr : (i k : ℕ) → i < d .used .trs → k < trSize → trField (e .memory .trs) i k ≡ trField (d .memory .trs) i k
   unfolding trField
-  stay-tr i k h l = s .tr-word (5 * i + k) (inl (omega arith))
+  stay-tr i k h l = s .tr-word (trSize * i + k) (inl (omega arith))
 
-  pub stay-state : (n k : ℕ) → n < d .used .states → k < 5 → stateField (e .memory .states) n k ≡ stateField (d .memory .states) n k
+  pub stay-state : (n k : ℕ) → n < d .used .states → k < stateSize → stateField (e .memory .states) n k ≡ stateField (d .memory .states) n k
   unfolding stateField
-  stay-state n k h l = s .state-word (5 * n + k) (inl (omega arith))
+  stay-state n k h l = s .state-word (stateSize * n + k) (inl (omega arith))
 
   pub stay-triple : (n : ℕ) → n < d .used .states → tripleAt (e .memory .states) n ≡ tripleAt (d .memory .states) n
-  unfolding tripleAt
-  stay-triple n h = rw (stay-state n 0 h (omega arith), stay-state n 1 h (omega arith))
+  stay-triple n h = triple-same (d .memory .states) (e .memory .states) n n (λ k l. stay-state n k h (omega arith))
 
   is-tr-stays : (i : ℕ) (st : Step) (next : ℕ) → IsTr d i st next → IsTr e i st next
   unfolding targetAt trNextAt
@@ -146,7 +147,7 @@ any-good : (steps : List Step) → nonEmpty (map good steps) ≡ nonEmpty steps
 any-good [] = refl
 any-good (x ∷ xs) = refl
 
-module _ {S1 S2 : ℕ} (narrow : S2 ≤ 65535) where
+module _ {S1 S2 : ℕ} (narrow : S2 ≤ limit) where
   -- a new state
   pub led-new : (d : Store) (last : ℕ) (t : Triple) → Form S1 S2 d last → Whole d → InRange S1 S2 t → 0 < d .used .states → d .used .states < stateRoom (d .memory) → find d t ≡ none
       → Led S1 S2 d last t (add d t) (d .used .states)
@@ -162,7 +163,7 @@ module _ {S1 S2 : ℕ} (narrow : S2 ≤ 65535) where
         states = omega arith;
         trs = refl;
         room = refl;
-        fresh = λ m h l. let z : m ≡ d .used .states = omega arith in (sym z, ap (λ k. stateField (add d t .memory .states) k 2) z ∙ add-new d form t few room headed 2 (omega arith));
+        fresh = λ m h l. let z : m ≡ d .used .states = omega arith in (sym z, ap (λ k. stateField (add d t .memory .states) k expandedPlace) z ∙ add-new d form t few room headed expandedPlace (omega arith));
       }
 
   -- a state found
@@ -177,7 +178,7 @@ module _ {S1 S2 : ℕ} (narrow : S2 ≤ 65535) where
   step-made d last next st f n link room k =
       let room′ : f .used .trs < trRoom (f .memory) = omega (arith, k .trs, k .room, room) in
       let link′ : LinkOk f last next = rw (k .trs) link in
-      let new : (j : ℕ) → j < 5 → trField (append f st n next .memory .trs) (d .used .trs) j ≡ getD (st .input ∷ st .output ∷ st .weight ∷ n ∷ next ∷ []) j 0
+      let new : (j : ℕ) → j < trSize → trField (append f st n next .memory .trs) (d .used .trs) j ≡ getD (st .input ∷ st .output ∷ st .weight ∷ n ∷ next ∷ []) j 0
       = λ j h. ap (λ i. trField (append f st n next .memory .trs) i j) (sym (k .trs)) ∙ append-new narrow f (k .form) st n next (k .inside) room′ link′ j h in
       let to = new 3 (omega arith) in
       record {
@@ -220,7 +221,7 @@ module _ {S1 S2 : ℕ} (narrow : S2 ≤ 65535) where
 
     join-unexpanded : Dec (n < b .used .states) → expandedAt (e .memory .states) n ≡ 0
     unfolding expandedAt
-    join-unexpanded (yes l) = stay-state stay n 2 l (omega arith) ∙ k .fresh n new l .1
+    join-unexpanded (yes l) = stay-state stay n expandedPlace l (omega arith) ∙ k .fresh n new l .1
     join-unexpanded (no l) = r .unexpanded n (omega arith) used
 
   -- the first record leads to an old state or to the first new one; a later one is of the other steps

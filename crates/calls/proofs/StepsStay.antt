@@ -4,6 +4,7 @@ use mathlib.Core.List.{List, [], _∷_}
 use mathlib.Core.Logic.{_⊎_, inl, inr, ⊎-elim}
 use mathlib.Core.Option.{Option, none, some}
 use Prim.Native.Nat.{ℕ, _+_, _*_, _≤_, _<_}
+use native.Mathlib.Nat.{mul-le-mul-left}
 use native.Mathlib.Omega.{arith}
 use lib.Dec.{leb}
 use lib.ListN.{length, getD, length-set}
@@ -13,12 +14,12 @@ use Rattle.words.specs.Labels.{Checked, good, refused}
 use Rattle.words.specs.Sides.{nonEmpty}
 use Rattle.words.specs.Steps.{Triple, Step}
 use Rattle.words.proofs.CheckedLaws.{good≢refused, good-is, past-check, past-then}
-use Rattle.calls.specs.Store.{Store, stateRoom, trRoom, slot, headOf, find, stateRecord, add, trRecord, append, mark}
+use Rattle.calls.specs.Store.{Store, stateSize, trSize, stateRoom, trRoom, expandedPlace, nextPlace, slot, headOf, find, stateRecord, add, trRecord, append, mark}
 use Rattle.calls.specs.Calls.{Reached, reachedBy, reach, storeStep, nextFor, storeSteps}
 
--- a word of the records used before, or past the records used after
-abbrev pub Outside : ℕ → ℕ → ℕ → Type 0
-Outside before after i = (i < 5 * before) ⊎ (5 * after ≤ i)
+-- a word of the records used before, or past the records used after, where a record has `size` words
+abbrev pub Outside : ℕ → ℕ → ℕ → ℕ → Type 0
+Outside size before after i = (i < size * before) ⊎ (size * after ≤ i)
 
 -- from d to e: used counts grow, lengths and outside words stay
 pub record Stays (d e : Store) : Type 0 where
@@ -27,18 +28,18 @@ pub record Stays (d e : Store) : Type 0 where
   pub heads-length : length (e .memory .heads) ≡ length (d .memory .heads)
   pub states-length : length (e .memory .states) ≡ length (d .memory .states)
   pub trs-length : length (e .memory .trs) ≡ length (d .memory .trs)
-  pub state-word : (i : ℕ) → Outside (d .used .states) (e .used .states) i → getD (e .memory .states) i 0 ≡ getD (d .memory .states) i 0
-  pub tr-word : (i : ℕ) → Outside (d .used .trs) (e .used .trs) i → getD (e .memory .trs) i 0 ≡ getD (d .memory .trs) i 0
+  pub state-word : (i : ℕ) → Outside stateSize (d .used .states) (e .used .states) i → getD (e .memory .states) i 0 ≡ getD (d .memory .states) i 0
+  pub tr-word : (i : ℕ) → Outside trSize (d .used .trs) (e .used .trs) i → getD (e .memory .trs) i 0 ≡ getD (d .memory .trs) i 0
 
 stays : (d : Store) → Stays d d
 stays d = record { states = omega arith; trs = omega arith; heads-length = refl; states-length = refl; trs-length = refl; state-word = λ i h. refl; tr-word = λ i h. refl }
 
 -- outside of a longer stretch is outside of each part of it
-before : (a b c i : ℕ) → b ≤ c → Outside a c i → Outside a b i
-before a b c i h = ⊎-elim inl (λ l. inr (omega (arith, l, h)))
+before : (size a b c i : ℕ) → b ≤ c → Outside size a c i → Outside size a b i
+before size a b c i h = ⊎-elim inl (λ l. inr (omega (arith, l, mul-le-mul-left size h)))
 
-behind : (a b c i : ℕ) → a ≤ b → Outside a c i → Outside b c i
-behind a b c i h = ⊎-elim (λ l. inl (omega (arith, l, h))) inr
+behind : (size a b c i : ℕ) → a ≤ b → Outside size a c i → Outside size b c i
+behind size a b c i h = ⊎-elim (λ l. inl (omega (arith, l, mul-le-mul-left size h))) inr
 
 onward : (d e f : Store) → Stays d e → Stays e f → Stays d f
 onward d e f p q = record {
@@ -47,13 +48,13 @@ onward d e f p q = record {
   heads-length = q .heads-length ∙ p .heads-length;
   states-length = q .states-length ∙ p .states-length;
   trs-length = q .trs-length ∙ p .trs-length;
-  state-word = λ i h. q .state-word i (behind (d .used .states) (e .used .states) (f .used .states) i (p .states) h) ∙ p .state-word i (before (d .used .states) (e .used .states) (f .used .states) i (q .states) h);
-  tr-word = λ i h. q .tr-word i (behind (d .used .trs) (e .used .trs) (f .used .trs) i (p .trs) h) ∙ p .tr-word i (before (d .used .trs) (e .used .trs) (f .used .trs) i (q .trs) h);
+  state-word = λ i h. q .state-word i (behind stateSize (d .used .states) (e .used .states) (f .used .states) i (p .states) h) ∙ p .state-word i (before stateSize (d .used .states) (e .used .states) (f .used .states) i (q .states) h);
+  tr-word = λ i h. q .tr-word i (behind trSize (d .used .trs) (e .used .trs) (f .used .trs) i (p .trs) h) ∙ p .tr-word i (before trSize (d .used .trs) (e .used .trs) (f .used .trs) i (q .trs) h);
 }
 
--- a record of five words written in the first unused place
-written : (l r : List ℕ) (used i : ℕ) → length r ≡ 5 → Outside used (used + 1) i → getD (put l (5 * used) r) i 0 ≡ getD l i 0
-written l r used i e = ⊎-elim (λ h. put-before l (5 * used) r i 0 h) (λ h. put-after l (5 * used) r i 0 (omega (arith, h, e)))
+-- a record written in the first unused place
+written : (size : ℕ) (l r : List ℕ) (used i : ℕ) → length r ≡ size → Outside size used (used + 1) i → getD (put l (size * used) r) i 0 ≡ getD l i 0
+written size l r used i e = ⊎-elim (λ h. put-before l (size * used) r i 0 h) (λ h. put-after l (size * used) r i 0 (omega (arith, h, e)))
 
 pub add-stays : (d : Store) (t : Triple) → Stays d (add d t)
 unfolding add
@@ -61,9 +62,9 @@ add-stays d t = record {
   states = omega arith;
   trs = omega arith;
   heads-length = length-set (d .memory .heads) (slot (d .memory .heads) t) (d .used .states + 1);
-  states-length = length-put (d .memory .states) (5 * d .used .states) (stateRecord t (headOf (d .memory .heads) t));
+  states-length = length-put (d .memory .states) (stateSize * d .used .states) (stateRecord t (headOf (d .memory .heads) t));
   trs-length = refl;
-  state-word = λ i h. written (d .memory .states) (stateRecord t (headOf (d .memory .heads) t)) (d .used .states) i refl h;
+  state-word = λ i h. written stateSize (d .memory .states) (stateRecord t (headOf (d .memory .heads) t)) (d .used .states) i refl h;
   tr-word = λ i h. refl;
 }
 
@@ -74,9 +75,9 @@ append-stays d st target next = record {
   trs = omega arith;
   heads-length = refl;
   states-length = refl;
-  trs-length = length-put (d .memory .trs) (5 * d .used .trs) (trRecord st target next);
+  trs-length = length-put (d .memory .trs) (trSize * d .used .trs) (trRecord st target next);
   state-word = λ i h. refl;
-  tr-word = λ i h. written (d .memory .trs) (trRecord st target next) (d .used .trs) i refl h;
+  tr-word = λ i h. written trSize (d .memory .trs) (trRecord st target next) (d .used .trs) i refl h;
 }
 
 reached-stays : (d : Store) (t : Triple) (o : Option ℕ) (r : Reached) → reachedBy d t o ≡ good r → Stays d (r .store)
@@ -103,6 +104,6 @@ steps-stay d (good st ∷ others) e g =
     onward d (m .0) e (step-stays d (nextFor d (nonEmpty others)) st (m .0) (m .1)) (steps-stay (m .0) others e (m .2))
 
 -- the mark changes two words of its state's record
-pub mark-stays : (d : Store) (n first i : ℕ) → (i < 5 * n + 2) ⊎ (5 * n + 4 ≤ i) → getD (mark d n first .memory .states) i 0 ≡ getD (d .memory .states) i 0
+pub mark-stays : (d : Store) (n first i : ℕ) → (i < stateSize * n + expandedPlace) ⊎ (stateSize * n + nextPlace ≤ i) → getD (mark d n first .memory .states) i 0 ≡ getD (d .memory .states) i 0
 unfolding mark
-mark-stays d n first i = ⊎-elim (λ h. put-before (d .memory .states) (5 * n + 2) (1 ∷ first ∷ []) i 0 h) (λ h. put-after (d .memory .states) (5 * n + 2) (1 ∷ first ∷ []) i 0 (omega (arith, h)))
+mark-stays d n first i = ⊎-elim (λ h. put-before (d .memory .states) (stateSize * n + expandedPlace) (1 ∷ first ∷ []) i 0 h) (λ h. put-after (d .memory .states) (stateSize * n + expandedPlace) (1 ∷ first ∷ []) i 0 (omega (arith, h)))

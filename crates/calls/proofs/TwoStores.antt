@@ -5,21 +5,22 @@ use mathlib.Core.Bool.{Bool, true, false}
 use mathlib.Core.List.{List, [], _∷_, _++_, List·Memᴰ as In, List·Memᴰ·head as here, List·Memᴰ·tail as there}
 use mathlib.Core.Logic.{_⊎_, inl, inr}
 use mathlib.Core.Option.{Option, none, some}
-use Prim.Native.Nat.{ℕ, zero, suc, _+_, _-_, _*_, _≤_, _<_}
+use Prim.Native.Nat.{ℕ, suc, _+_, _-_, _*_, _≤_, _<_}
 use native.Mathlib.Omega.{arith}
 use native.Mathlib.Decide.{ℕ-discrete, decLt}
 use lib.Dec.{leb}
-use lib.ListN.{length, getD}
+use lib.ListN.{length, getD, List·getD-append}
 use borrow.Author.Tests.{leb-false, lt-leb}
 use Rattle.lists.specs.Lists.{put}
 use Rattle.lists.proofs.Put.{put-before, put-in}
 use Rattle.words.specs.Labels.{Checked, good, refused}
+use Rattle.words.specs.Machines.{limit}
 use Rattle.words.specs.Sides.{nonEmpty}
 use Rattle.words.specs.Steps.{Triple, Step}
 use Rattle.words.proofs.StepRange.{InRange}
-use Rattle.calls.specs.Store.{Store, stateRoom, trRoom, stateField, tripleAt, expandedAt, firstAt, headOf, find, tripleWords, stateRecord, add, trRecord, append, mark}
+use Rattle.calls.specs.Store.{Store, stateSize, trSize, stateRoom, trRoom, stateField, tripleAt, expandedPlace, firstPlace, nextPlace, expandedAt, firstAt, headOf, find, tripleWords, stateRecord, add, trRecord, append, mark}
 use Rattle.calls.specs.Calls.{reach, storeStep, nextFor, storeSteps}
-use Rattle.calls.proofs.RecordLaws.{room-words, room-same}
+use Rattle.calls.proofs.RecordLaws.{room-words, room-same, triple-same}
 use Rattle.calls.proofs.StoreForms.{Form}
 use Rattle.calls.proofs.ChainLaws.{find-sound, add-field, add-new}
 use Rattle.calls.proofs.FormKept.{add-form, append-form, mark-other, mark-expanded, mark-first}
@@ -31,8 +32,8 @@ use Rattle.calls.proofs.StepsKept.{LinkOk, link-ok}
 pub record Alike (d e : Store) : Type 0 where
   pub states : e .used .states ≡ d .used .states
   pub trs : e .used .trs ≡ d .used .trs
-  pub state : (n k : ℕ) → n < d .used .states → k < 4 → stateField (e .memory .states) n k ≡ stateField (d .memory .states) n k
-  pub word : (i : ℕ) → i < 5 * d .used .trs → getD (e .memory .trs) i 0 ≡ getD (d .memory .trs) i 0
+  pub state : (n k : ℕ) → n < d .used .states → k < nextPlace → stateField (e .memory .states) n k ≡ stateField (d .memory .states) n k
+  pub word : (i : ℕ) → i < trSize * d .used .trs → getD (e .memory .trs) i 0 ≡ getD (d .memory .trs) i 0
 
 pub record Roomier (d e : Store) : Type 0 where
   pub states : stateRoom (d .memory) ≤ stateRoom (e .memory)
@@ -48,37 +49,35 @@ pub record Twin (S1 S2 last : ℕ) (d e : Store) : Type 0 where
   pub any : 0 < d .used .states
 
 pub alike-triple : (d e : Store) → Alike d e → (n : ℕ) → n < d .used .states → tripleAt (e .memory .states) n ≡ tripleAt (d .memory .states) n
-unfolding tripleAt
-alike-triple d e a n h = rw (a .state n 0 h (omega arith), a .state n 1 h (omega arith))
+alike-triple d e a n h = triple-same (d .memory .states) (e .memory .states) n n (λ k i. a .state n k h (omega arith))
 
 -- a record written in the first unused place of two slices
-written : (l r rec : List ℕ) (t u : ℕ) → u ≡ t → length rec ≡ 5 → 5 * t + 5 ≤ length l → 5 * u + 5 ≤ length r → ((i : ℕ) → i < 5 * t → getD r i 0 ≡ getD l i 0)
-    → (i : ℕ) → i < 5 * (t + 1) → getD (put r (5 * u) rec) i 0 ≡ getD (put l (5 * t) rec) i 0
-written l r rec t u z five a b same i h = go (decLt i (5 * t))
+written : (size : ℕ) (l r rec : List ℕ) (t u : ℕ) → u ≡ t → length rec ≡ size → size * t + size ≤ length l → size * u + size ≤ length r → ((i : ℕ) → i < size * t → getD r i 0 ≡ getD l i 0)
+    → (i : ℕ) → i < size * (t + 1) → getD (put r (size * u) rec) i 0 ≡ getD (put l (size * t) rec) i 0
+written size l r rec t u z whole a b same i h = go (decLt i (size * t))
   where
-    go : Dec (i < 5 * t) → getD (put r (5 * u) rec) i 0 ≡ getD (put l (5 * t) rec) i 0
-    go (yes x) = put-before r (5 * u) rec i 0 (omega (arith, z, x)) ∙ (same i x ∙ sym (put-before l (5 * t) rec i 0 x))
+    at : size * u ≡ size * t
+    at = ap (λ n. size * n) z
+
+    go : Dec (i < size * t) → getD (put r (size * u) rec) i 0 ≡ getD (put l (size * t) rec) i 0
+    go (yes x) = put-before r (size * u) rec i 0 (omega (arith, at, x)) ∙ (same i x ∙ sym (put-before l (size * t) rec i 0 x))
     go (no x) =
-        let j = i - 5 * t in
-        let p : i ≡ 5 * u + j = omega (arith, z) in
-        let q : i ≡ 5 * t + j = omega arith in
-        let k : j < length rec = omega (arith, five, h) in
-        ap (λ y. getD (put r (5 * u) rec) y 0) p ∙ (put-in r (5 * u) rec j 0 k (omega (arith, five, b)) ∙ sym (ap (λ y. getD (put l (5 * t) rec) y 0) q ∙ put-in l (5 * t) rec j 0 k (omega (arith, five, a))))
+        let j = i - size * t in
+        let p : i ≡ size * u + j = omega (arith, at) in
+        let q : i ≡ size * t + j = omega arith in
+        let k : j < length rec = omega (arith, whole, h) in
+        ap (λ y. getD (put r (size * u) rec) y 0) p ∙ (put-in r (size * u) rec j 0 k (omega (arith, whole, b)) ∙ sym (ap (λ y. getD (put l (size * t) rec) y 0) q ∙ put-in l (size * t) rec j 0 k (omega (arith, whole, a))))
 
 -- the words of a new state's record but for its link
-pub new-words : (t : Triple) (next k : ℕ) → k < 4 → getD (stateRecord t next) k 0 ≡ getD (tripleWords t ++ (0 ∷ 0 ∷ [])) k 0
-new-words t next zero h = refl
-new-words t next (suc zero) h = refl
-new-words t next (suc (suc zero)) h = refl
-new-words t next (suc (suc (suc zero))) h = refl
-new-words t next (suc (suc (suc (suc k)))) h = absurd (omega arith)
+pub new-words : (t : Triple) (next k : ℕ) → k < nextPlace → getD (stateRecord t next) k 0 ≡ getD (tripleWords t ++ (0 ∷ 0 ∷ [])) k 0
+new-words t next k h = List·getD-append (tripleWords t ++ (0 ∷ 0 ∷ [])) (next ∷ []) 0 k h
 
 -- room depends on lengths, which stay
 pub roomier-stays : (d e d′ e′ : Store) → Stays d d′ → Stays e e′ → Roomier d e → Roomier d′ e′
 unfolding stateRoom trRoom
 roomier-stays d e d′ e′ a b r = record {
-  states = rw (room-same 5 (d .memory .states) (d′ .memory .states) (a .states-length), room-same 5 (e .memory .states) (e′ .memory .states) (b .states-length)) (r .states);
-  trs = rw (room-same 5 (d .memory .trs) (d′ .memory .trs) (a .trs-length), room-same 5 (e .memory .trs) (e′ .memory .trs) (b .trs-length)) (r .trs);
+  states = rw (room-same stateSize (d .memory .states) (d′ .memory .states) (a .states-length), room-same stateSize (e .memory .states) (e′ .memory .states) (b .states-length)) (r .states);
+  trs = rw (room-same trSize (d .memory .trs) (d′ .memory .trs) (a .trs-length), room-same trSize (e .memory .trs) (e′ .memory .trs) (b .trs-length)) (r .trs);
 }
 
 -- one step in both: 13 in the smaller, or both go on
@@ -89,11 +88,11 @@ Step2 S1 S2 last used x y = (x ≡ refused 13) ⊎ ((d : Store) × (e : Store) �
 abbrev pub Steps2 : ℕ → ℕ → ℕ → Checked Store → Checked Store → Type 0
 Steps2 S1 S2 last x y = (x ≡ refused 13) ⊎ (((k : ℕ) × (x ≡ refused k) × (y ≡ refused k)) ⊎ ((d : Store) × (e : Store) × (x ≡ good d) × (y ≡ good e) × Twin S1 S2 last d e))
 
-next-alike : (d e : Store) (b : Bool) → e .used .trs ≡ d .used .trs → nextFor e b ≡ nextFor d b
+pub next-alike : (d e : Store) (b : Bool) → e .used .trs ≡ d .used .trs → nextFor e b ≡ nextFor d b
 next-alike d e true h = ap (λ n. n + 2) h
 next-alike d e false h = refl
 
-module _ {S1 S2 : ℕ} (narrow : S2 ≤ 65535) (last : ℕ) where
+module _ {S1 S2 : ℕ} (narrow : S2 ≤ limit) (last : ℕ) where
   module _ (d e : Store) (w : Twin S1 S2 last d e) where
     twin-find : (t : Triple) → find e t ≡ find d t
     twin-find t = find-alike d e (w .form1) (w .form2) (w .whole1) (w .whole2) (sym (w .alike .states)) (alike-triple d e (w .alike)) t
@@ -112,7 +111,7 @@ module _ {S1 S2 : ℕ} (narrow : S2 ≤ 65535) (last : ℕ) where
       headed2 : 0 < length (e .memory .heads)
       headed2 = w .form2 .headed (omega (arith, w .alike .states, w .any))
 
-      add-alike : (n k : ℕ) → n < d .used .states + 1 → k < 4 → Dec (n < d .used .states) → stateField (add e t .memory .states) n k ≡ stateField (add d t .memory .states) n k
+      add-alike : (n k : ℕ) → n < d .used .states + 1 → k < nextPlace → Dec (n < d .used .states) → stateField (add e t .memory .states) n k ≡ stateField (add d t .memory .states) n k
       add-alike n k h l (yes x) =
           add-field e (w .form2) t few room2 headed2 n k (omega (arith, w .alike .states, x)) (omega arith)
           ∙ (w .alike .state n k x l ∙ sym (add-field d (w .form1) t few room headed1 n k x (omega arith)))
@@ -141,8 +140,8 @@ module _ {S1 S2 : ℕ} (narrow : S2 ≤ 65535) (last : ℕ) where
     unfolding append trRoom
     twin-append st target next used room link =
         let room2 : e .used .trs < trRoom (e .memory) = omega (arith, w .alike .trs, w .room .trs, room) in
-        let a = room-words (d .memory .trs) (suc (d .used .trs)) room in
-        let b = room-words (e .memory .trs) (suc (e .used .trs)) room2 in
+        let a = room-words trSize (d .memory .trs) (suc (d .used .trs)) room in
+        let b = room-words trSize (e .memory .trs) (suc (e .used .trs)) room2 in
         record {
           form1 = append-form narrow d (w .form1) st target next used room link;
           form2 = append-form narrow e (w .form2) st target next (omega (arith, w .alike .states, used)) room2 (rw (w .alike .trs) link);
@@ -152,7 +151,7 @@ module _ {S1 S2 : ℕ} (narrow : S2 ≤ 65535) (last : ℕ) where
             states = w .alike .states;
             trs = ap (λ n. n + 1) (w .alike .trs);
             state = w .alike .state;
-            word = written (d .memory .trs) (e .memory .trs) (trRecord st target next) (d .used .trs) (e .used .trs) (w .alike .trs) refl (omega (arith, a .1)) (omega (arith, b .1)) (w .alike .word);
+            word = written trSize (d .memory .trs) (e .memory .trs) (trRecord st target next) (d .used .trs) (e .used .trs) (w .alike .trs) refl (omega (arith, a .1)) (omega (arith, b .1)) (w .alike .word);
           };
           room = roomier-stays d e (append d st target next) (append e st target next) (append-stays d st target next) (append-stays e st target next) (w .room);
           any = w .any;
@@ -213,7 +212,7 @@ module _ {S1 S2 : ℕ} (narrow : S2 ≤ 65535) (last : ℕ) where
       go (inr x) rec = rw (next2, x .2, x .3) (rec (x .0) (x .1) (x .4) (omega (arith, x .5, h)))
 
 -- a mark in both
-pub mark-alike : {S1 S2 : ℕ} (narrow : S2 ≤ 65535) (d e : Store) {last more : ℕ} → Form S1 S2 d last → Form S1 S2 e more → (n first : ℕ) → n < d .used .states → first ≤ d .used .trs → Alike d e → Alike (mark d n first) (mark e n first)
+pub mark-alike : {S1 S2 : ℕ} (narrow : S2 ≤ limit) (d e : Store) {last more : ℕ} → Form S1 S2 d last → Form S1 S2 e more → (n first : ℕ) → n < d .used .states → first ≤ d .used .trs → Alike d e → Alike (mark d n first) (mark e n first)
 unfolding mark stateField expandedAt firstAt
 mark-alike narrow d e f1 f2 n first used low a = record { states = a .states; trs = a .trs; state = λ m k h l. go m k h l (ℕ-discrete m n); word = a .word }
   where
@@ -223,13 +222,11 @@ mark-alike narrow d e f1 f2 n first used low a = record { states = a .states; tr
     low2 : first ≤ e .used .trs
     low2 = omega (arith, a .trs, low)
 
-    own : (k : ℕ) → k < 4 → stateField (mark e n first .memory .states) n k ≡ stateField (mark d n first .memory .states) n k
-    own zero h = mark-stays e n first (5 * n + 0) (inl (omega arith)) ∙ (a .state n 0 used h ∙ sym (mark-stays d n first (5 * n + 0) (inl (omega arith))))
-    own (suc zero) h = mark-stays e n first (5 * n + 1) (inl (omega arith)) ∙ (a .state n 1 used h ∙ sym (mark-stays d n first (5 * n + 1) (inl (omega arith))))
-    own (suc (suc zero)) h = mark-expanded narrow e f2 n first used2 low2 ∙ sym (mark-expanded narrow d f1 n first used low)
-    own (suc (suc (suc zero))) h = mark-first narrow e f2 n first used2 low2 ∙ sym (mark-first narrow d f1 n first used low)
-    own (suc (suc (suc (suc k)))) h = absurd (omega arith)
+    own : (k : ℕ) → k < nextPlace → Dec (k < expandedPlace) → Dec (k ≡ expandedPlace) → stateField (mark e n first .memory .states) n k ≡ stateField (mark d n first .memory .states) n k
+    own k h (yes x) y = mark-stays e n first (stateSize * n + k) (inl (omega arith)) ∙ (a .state n k used h ∙ sym (mark-stays d n first (stateSize * n + k) (inl (omega arith))))
+    own k h (no x) (yes y) = rw y (mark-expanded narrow e f2 n first used2 low2 ∙ sym (mark-expanded narrow d f1 n first used low))
+    own k h (no x) (no y) = let z : k ≡ firstPlace = omega (arith, y) in rw z (mark-first narrow e f2 n first used2 low2 ∙ sym (mark-first narrow d f1 n first used low))
 
-    go : (m k : ℕ) → m < d .used .states → k < 4 → Dec (m ≡ n) → stateField (mark e n first .memory .states) m k ≡ stateField (mark d n first .memory .states) m k
-    go m k h l (yes z) = subst (λ j. stateField (mark e n first .memory .states) j k ≡ stateField (mark d n first .memory .states) j k) (sym z) (own k l)
+    go : (m k : ℕ) → m < d .used .states → k < nextPlace → Dec (m ≡ n) → stateField (mark e n first .memory .states) m k ≡ stateField (mark d n first .memory .states) m k
+    go m k h l (yes z) = subst (λ j. stateField (mark e n first .memory .states) j k ≡ stateField (mark d n first .memory .states) j k) (sym z) (own k l (decLt k expandedPlace) (ℕ-discrete k expandedPlace))
     go m k h l (no z) = mark-other narrow e f2 n first used2 low2 m k z (omega arith) ∙ (a .state m k h l ∙ sym (mark-other narrow d f1 n first used low m k z (omega arith)))

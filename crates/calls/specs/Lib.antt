@@ -3,4 +3,5 @@ pub mod Forms
 pub mod Checks
 pub mod Calls
 pub mod Sequences
+pub mod Owned
 pub mod Listing

@@ -41,8 +41,8 @@ stateRoom m = roomOf stateSize (m .states)
 unfoldable pub trRoom : Memory → ℕ
 trRoom m = roomOf trSize (m .trs)
 
--- "A state record is s1 × 65536 + s2, f, expanded (0 or 1), first transition, next; record n + 1 belongs to state n." Word k of the record of state n; the number of
--- each word stands in its reader below, and nowhere else.
+-- "A state record is s1 × 65536 + s2, f, expanded (0 or 1), first transition, next; record n + 1 belongs to state n." Word k of the record of state n: the
+-- words of its triple come first, numbered in their reader; the places of the other three are named below. No other definition says one of these numbers.
 unfoldable pub stateField : List ℕ → ℕ → ℕ → ℕ
 stateField states n k = getD states (stateSize * n + k) 0
 
@@ -52,18 +52,24 @@ tripleWords t = (t .s1 * 65536 + t .s2) ∷ t .f ∷ []
 unfoldable pub tripleAt : List ℕ → ℕ → Triple
 tripleAt states n = record { s1 = stateField states n 0 / 65536; s2 = stateField states n 0 % 65536; f = stateField states n 1 }
 
--- the place of "expanded"; that of the first transition is the next
+-- the places of "expanded", of the first transition, which is the next, and of the link, which is the last
 abbrev pub expandedPlace : ℕ
 expandedPlace = 2
+
+abbrev pub firstPlace : ℕ
+firstPlace = 3
+
+abbrev pub nextPlace : ℕ
+nextPlace = 4
 
 unfoldable pub expandedAt : List ℕ → ℕ → ℕ
 expandedAt states n = stateField states n expandedPlace
 
 unfoldable pub firstAt : List ℕ → ℕ → ℕ
-firstAt states n = stateField states n 3
+firstAt states n = stateField states n firstPlace
 
 unfoldable pub nextAt : List ℕ → ℕ → ℕ
-nextAt states n = stateField states n 4
+nextAt states n = stateField states n nextPlace
 
 -- A transition record is input, output, weight, target, next. Word k of record i + 1.
 unfoldable pub trField : List ℕ → ℕ → ℕ → ℕ

@@ -5,7 +5,7 @@ use Prim.Native.Nat.{ℕ, suc, _+_, _-_, _≤_, _<_}
 use native.Mathlib.Nat.{add-zero}
 use native.Mathlib.Omega.{arith}
 use lib.ListN.{length, take, drop, getD, set, length-set}
-use lib.Seq.{sets, length-sets, getD-set-same, getD-set-other, drop-set-add, take-set-lt, take-set-le, drop-set-lt}
+use lib.Seq.{sets, length-sets, getD-set-same, getD-set-other, set-append-left, drop-set-add, take-set-lt, take-set-le, drop-set-lt}
 use borrow.Rule.Slice.PartMut.{putMid, midOf, put-same}
 use Rattle.lists.specs.Lists.{put}
 
@@ -24,6 +24,12 @@ pub put-put : (s : List ℕ) (at : ℕ) (r q : List ℕ) → put (put s at r) (a
 unfolding put
 put-put s at [] q = ap (λ (k : ℕ). sets s k q) (add-zero at)
 put-put s at (x ∷ r) q = ap (λ (k : ℕ). sets (sets (set s at x) (suc at) r) k q) (omega arith) ∙ put-put (set s at x) (suc at) r q
+
+-- a run that fits the first of two joined lists is written there
+pub put-append : (s t : List ℕ) (at : ℕ) (r : List ℕ) → at + length r ≤ length s → put (s ++ t) at r ≡ put s at r ++ t
+unfolding put
+put-append s t at [] h = refl
+put-append s t at (x ∷ r) h = ap (λ (l : List ℕ). sets l (suc at) r) (set-append-left s t at x (omega arith)) ∙ put-append (set s at x) t (suc at) r (simp length-set (omega arith))
 
 -- a word before the run
 pub put-before : (s : List ℕ) (at : ℕ) (r : List ℕ) (i d : ℕ) → i < at → getD (put s at r) i d ≡ getD s i d

@@ -1,7 +1,7 @@
 -- What the next call answers in a world of a list, and which states are expanded there, by the calls made.
 use mathlib.Core.Path.{_≡_, refl, sym, _∙_, ap, subst}
 use mathlib.Core.List.{List, [], _∷_, append-nil}
-use mathlib.Core.Logic.{_≢_, _⊎_, inl, inr, ⊎-elim, _↔_}
+use mathlib.Core.Logic.{_⊎_, inl, inr, ⊎-elim, _↔_}
 use Prim.Native.Nat.{ℕ, _+_, _≤_, _<_}
 use native.Mathlib.Omega.{arith}
 use native.Mathlib.Decide.{decLt}
@@ -16,7 +16,8 @@ use Rattle.calls.proofs.ExpandCases.{expand-late}
 use Rattle.readings.specs.Worlds.{worldOf, expandIn, runIn, Accepted, OpeningsRefused, UsedState, Expanded}
 use Rattle.readings.specs.Answers.{PassesBefore, ExpandedBy, by-expand, by-run, Answers}
 use Rattle.readings.proofs.Grows.{KeptWorld}
-use Rattle.readings.proofs.CallsKept.{expand-lists, expand-only, expand-numbers, final-numbers, final-late, final-stays, final-is, handed-or-none, Ran, run-onto}
+use Rattle.readings.proofs.CallsKept.{expand-lists, expand-only, expand-numbers, final-numbers, final-late, final-stays, final-is, handed-or-none}
+use Rattle.readings.proofs.Pieces.{Ran, run-onto}
 use Rattle.readings.proofs.CallLists.{open-stays, one-call, calls-onto, after-append}
 use Rattle.readings.proofs.Decided.{decides}
 
@@ -86,13 +87,13 @@ module _ (l : Lent) (c : Composition) where
       let p = calls-onto l c w before (expand n ∷ later) h (subst (OpeningsRefused l w) (sym e) o) in
       let v = after l w before in
       let q = calls-onto l c (worldOf (expandIn l v n)) later [] (one-call l c v (expand n) later (p .0 .kept) (p .1) .0 .kept) (subst (OpeningsRefused l (worldOf (expandIn l v n))) (sym (append-nil later)) (p .1)) in
-      subst (λ (u : World). Expanded u n) (after-append l c w before (expand n ∷ later) ∙ ap (after l w) e) (q .0 .grows .expanded n (expand-lists l c v (p .0 .kept) n (a .0) (a .1) .0))
+      subst (λ (u : World). Expanded u n) (after-append l w before (expand n ∷ later) ∙ ap (after l w) e) (q .0 .grows .expanded n (expand-lists l c v (p .0 .kept) n (a .0) (a .1) .0))
   is-expanded w cs h o n (by-run before later e a) =
       let p = calls-onto l c w before (run ∷ later) h (subst (OpeningsRefused l w) (sym e) o) in
       let v = after l w before in
       let r = run-onto l c v (p .0 .kept) in
       let q = calls-onto l c (worldOf (runIn l v)) later [] (one-call l c v run later (p .0 .kept) (p .1) .0 .kept) (subst (OpeningsRefused l (worldOf (runIn l v))) (sym (append-nil later)) (p .1)) in
-      subst (λ (u : World). Expanded u n) (after-append l c w before (run ∷ later) ∙ ap (after l w) e) (q .0 .grows .expanded n (r .expanded n (passed v (p .0 .kept) n a r)))
+      subst (λ (u : World). Expanded u n) (after-append l w before (run ∷ later) ∙ ap (after l w) e) (q .0 .grows .expanded n (r .expanded n (passed v (p .0 .kept) n a r)))
 
   -- the record says what the calls made say, where no state was expanded before them
   pub expanded-by : (w : World) (cs : List Call) → KeptWorld l c w → ((n : ℕ) → Expanded w n → ⊥) → OpeningsRefused l w cs → (n : ℕ) → Expanded (after l w cs) n ↔ ExpandedBy l w cs n

@@ -1,29 +1,27 @@
--- Each call keeps what every world of a list has, and the world grows: by one split of an expansion, and by induction for a run. What a call leaves, and that it is given again.
+-- An expansion keeps what every world of a list has, and the world grows: by one split of it. What a call leaves, and that it is given again; for runs see Pieces.
 use mathlib.Core.Path.{_≡_, refl, sym, _∙_, ap, subst}
 use mathlib.Core.Bool.{Bool, true, false}
 use mathlib.Core.Logic.{_≢_, _⊎_, inl, inr, ⊎-elim}
 use mathlib.Core.Option.{Option}
-use mathlib.Core.List.{[], map}
-use Prim.Native.Nat.{ℕ, zero, suc, _+_, _≤_, _<_}
+use mathlib.Core.List.{[]}
+use Prim.Native.Nat.{ℕ, _≤_, _<_}
 use native.Mathlib.Omega.{arith}
 use lib.Dec.{eqb, leb}
-use borrow.Author.Tests.{eqb-true, eq-eqb, leb-true, leb-false, le-leb, lt-leb}
-use Rattle.lists.specs.Lists.{interval}
+use borrow.Author.Tests.{eqb-true, eq-eqb, leb-false, le-leb, lt-leb}
 use Rattle.words.specs.Labels.{Checked, good, refused, andThen}
 use Rattle.words.specs.Steps.{Composition, stepsAt, finalAt}
 use Rattle.words.specs.Settings.{Lent}
 use Rattle.words.proofs.CheckedLaws.{good≢refused, refused-is, good-is}
-use Rattle.calls.specs.Store.{Store, stateRoom, tripleAt, expandedAt, Part}
+use Rattle.calls.specs.Store.{Store, tripleAt, expandedAt, Part}
 use Rattle.calls.specs.Checks.{storeOf, entered, enteredAt}
-use Rattle.calls.specs.Calls.{Outcome, storeSteps, newPart, settle, unchanged, wordsOfPart, finalWeightOf, onward, runEnded, runBy, runFrom, runOf, recordsBy, recordsOf}
-use Rattle.calls.specs.Sequences.{World, expand, callOf, after}
+use Rattle.calls.specs.Calls.{Outcome, storeSteps, newPart, settle, unchanged, wordsOfPart, finalWeightOf, recordsBy, recordsOf}
+use Rattle.calls.specs.Sequences.{World}
 use Rattle.calls.proofs.ExpandKept.{expand-kept, entered-is}
 use Rattle.calls.proofs.Parts.{words-alike}
-use Rattle.calls.proofs.ExpandCases.{stayed, stored, by-expand, store-refusals, final-refusals}
-use Rattle.readings.specs.Worlds.{worldOf, expandIn, finalIn, runIn, handedIn, Accepted, UsedState, Expanded, partIn, wordsIn, stateAt}
+use Rattle.calls.proofs.ExpandCases.{stayed, stored, by-expand, expand-old, store-refusals, final-refusals}
+use Rattle.readings.specs.Worlds.{worldOf, expandIn, finalIn, handedIn, UsedState, Expanded, partIn, wordsIn, stateAt}
 use Rattle.readings.specs.Again.{Again}
-use Rattle.readings.specs.Answers.{RunIs}
-use Rattle.readings.proofs.Grows.{KeptWorld, Grows, grows-none, grows-on, room-grows}
+use Rattle.readings.proofs.Grows.{KeptWorld, Grows, grows-none, grows-on}
 use Rattle.readings.proofs.Expansions.{expansion-keeps, expansion-grows, expansion-lists, expansion-only}
 
 -- a later world
@@ -78,9 +76,7 @@ module _ (l : Lent) (c : Composition) where
 
   -- an expanded state is answered as stored
   pub expand-again : (w : World) → KeptWorld l c w → (n : ℕ) → Expanded w n → expandIn l w n ≡ stayed (w .session) (w .memory) (good (partIn w n))
-  expand-again w k n x =
-      by-expand l (w .session) (w .memory) c (k .sound .enters) n (λ o. o ≡ stayed (w .session) (w .memory) (good (partIn w n)))
-      (λ h. absurd (omega (arith, h, x .0))) (λ h y. refl) (λ h b j y. absurd (b (x .1))) (λ h b d g. absurd (b (x .1)))
+  expand-again w k n x = expand-old l (w .session) (w .memory) c (k .sound .enters) n (x .0) (x .1)
 
   -- a found state is refused by 10 to 13 alone
   pub expand-numbers : (w : World) → KeptWorld l c w → (n : ℕ) → n < w .session .used .states → (k : ℕ) → expandIn l w n .answer ≡ refused k → (10 ≤ k) × (k ≤ 13)
@@ -152,139 +148,6 @@ module _ (l : Lent) (c : Composition) where
       go false p true q = inl (leb-false _ _ p, eqb-true _ _ q)
       go false p false q = inr (rw (k .sound .enters, p, q))
 
-  -- the world after the expansions of k states from n on
-  abbrev afterThese : World → ℕ → ℕ → World
-  afterThese w n k = after l w (map expand (interval n k))
-
-  -- a run from a state on: it is the expansions of `count` states, and no others became expanded
-  record Run (from : ℕ) (w : World) (o : Outcome (Unit {0})) : Type 0 where
-    pub onto : Onto l c w (worldOf o)
-    pub count : ℕ
-    pub passes : (k : ℕ) → k < count → Accepted (expandIn l (afterThese w from k) (from + k))
-    pub leaves : worldOf o ≡ afterThese w from count
-    pub expanded : (k : ℕ) → k < count → Expanded (worldOf o) (from + k)
-    pub only : (j : ℕ) → Expanded (worldOf o) j → Expanded w j ⊎ ((k : ℕ) × (k < count) × (j ≡ from + k))
-    pub ends : Accepted o → o .session .used .states ≡ from + count
-    pub stops : (k : ℕ) → o .answer ≡ refused k → UsedState (worldOf o) (from + count) × (expandIn l (worldOf o) (from + count) .answer ≡ refused k)
-
-  -- none is left
-  run-ended : (w : World) → KeptWorld l c w → (n : ℕ) → w .session .used .states ≡ n → Run n w (runEnded (w .session) (w .memory))
-  unfolding after interval
-  run-ended w k n h = record {
-    onto = onto-none l c w k;
-    count = 0;
-    passes = λ j i. absurd (omega arith);
-    leaves = refl;
-    expanded = λ j i. absurd (omega arith);
-    only = λ j x. inl x;
-    ends = λ e. omega (arith, h);
-    stops = λ j e. absurd (good≢refused e);
-  }
-
-  abbrev RunsFrom : ℕ → ℕ → World → Type 0
-  RunsFrom k n w = KeptWorld l c w → n ≤ w .session .used .states → stateRoom (w .memory) ≤ k + n → Run n w (runFrom l k n (w .session) (w .memory))
-
-  -- one expansion of a run: it is refused, or the run goes on
-  module _ (w : World) (h : KeptWorld l c w) (n : ℕ) (used : UsedState w n) where
-    abbrev o : Outcome Part
-    o = expandIn l w n
-
-    next : Onto l c w (worldOf o)
-    next = expand-onto w h n
-
-    run-stopped : (j : ℕ) → o .answer ≡ refused j → Run n w (onward (refused j) (o .session) (o .memory) (λ s m. runEnded s m))
-    unfolding after interval
-    run-stopped j e =
-        let same = expand-stays w h n j e in
-        let z : n ≡ n + 0 = omega arith in
-        record {
-          onto = next;
-          count = 0;
-          passes = λ k i. absurd (omega arith);
-          leaves = same;
-          expanded = λ k i. absurd (omega arith);
-          only = λ y x. inl (subst (λ (v : World). Expanded v y) same x);
-          ends = λ x. absurd (good≢refused (sym (x .1)));
-          stops = λ q x. (
-            subst (λ (v : World). UsedState v (n + 0)) (sym same) (omega (arith, used)),
-            subst (λ (v : World). expandIn l v (n + 0) .answer ≡ refused q) (sym same) (subst (λ i. expandIn l w i .answer ≡ refused q) z (e ∙ ap refused (refused-is x))),
-          );
-        }
-
-    run-on : (p : Part) → o .answer ≡ good p → (r : Outcome (Unit {0})) → Run (suc n) (worldOf o) r → Run n w r
-    unfolding after callOf interval
-    run-on p e r q =
-        let y = expand-lists w h n p e in
-        let one : (k : ℕ) → suc n + k ≡ n + suc k = λ k. omega arith in
-        record {
-          onto = onto-on l c w (worldOf o) _ next (q .onto);
-          count = suc (q .count);
-          passes = passes (q .passes);
-          leaves = q .leaves;
-          expanded = expanded (y .0);
-          only = λ j x. only j (q .only j x);
-          ends = λ x. q .ends x ∙ one (q .count);
-          stops = λ k x. subst (λ i. UsedState (worldOf r) i × (expandIn l (worldOf r) i .answer ≡ refused k)) (one (q .count)) (q .stops k x);
-        }
-      where
-        passes : ((k : ℕ) → k < q .count → Accepted (expandIn l (afterThese (worldOf o) (suc n) k) (suc n + k)))
-            → (k : ℕ) → k < suc (q .count) → Accepted (expandIn l (afterThese w n k) (n + k))
-        passes rest zero i = let z : n ≡ n + 0 = omega arith in subst (λ j. Accepted (expandIn l w j)) z (p, e)
-        passes rest (suc k) i = let z : suc n + k ≡ n + suc k = omega arith in subst (λ j. Accepted (expandIn l (afterThese (worldOf o) (suc n) k) j)) z (rest k (omega arith))
-
-        expanded : Expanded (worldOf o) n → (k : ℕ) → k < suc (q .count) → Expanded (worldOf r) (n + k)
-        expanded y zero i = let z : n ≡ n + 0 = omega arith in subst (Expanded (worldOf r)) z (q .onto .grows .expanded n y)
-        expanded y (suc k) i = let z : suc n + k ≡ n + suc k = omega arith in subst (Expanded (worldOf r)) z (q .expanded k (omega arith))
-
-        only : (j : ℕ) → Expanded (worldOf o) j ⊎ ((k : ℕ) × (k < q .count) × (j ≡ suc n + k)) → Expanded w j ⊎ ((k : ℕ) × (k < suc (q .count)) × (j ≡ n + k))
-        only j (inl x) = ⊎-elim inl (λ z. inr (0, omega arith, omega (arith, z .0))) (expand-only w h n j x)
-        only j (inr x) = inr (suc (x .0), omega (arith, x .1), omega (arith, x .2))
-
-  run-from : (k n : ℕ) (w : World) → RunsFrom k n w
-  unfolding runFrom
-  run-from zero n w h low room = run-ended w h n (omega (arith, room, low, entered-is l (w .session) (w .memory) c (h .sound .enters) .form .states-fit))
-  run-from (suc k) n w h low room = go (leb (w .session .used .states) n) refl (λ v. run-from k (suc n) v)
-    where
-      next : Outcome Part
-      next = expandIn l w n
-
-      on : (a : Checked Part) → UsedState w n → next .answer ≡ a → ((v : World) → RunsFrom k (suc n) v) → Run n w (onward a (next .session) (next .memory) (runFrom l k (suc n)))
-      on (refused j) i e rec = run-stopped w h n i j e
-      on (good p) i e rec =
-          let g = expand-onto w h n in
-          run-on w h n i p e _ (rec (worldOf next) (g .kept) (omega (arith, i, g .grows .states)) (omega (arith, room-grows w (worldOf next) (g .grows), room)))
-
-      go : (b : Bool) → leb (w .session .used .states) n ≡ b → ((v : World) → RunsFrom k (suc n) v) → Run n w (runBy b (w .session) (w .memory) next (runFrom l k (suc n)))
-      go true e rec = let b = leb-true (w .session .used .states) n e in run-ended w h n (omega (arith, b, low))
-      go false e rec = on (next .answer) (leb-false _ _ e) refl rec
-
-  -- a run from state 0 on
-  pub record Ran (w : World) : Type 0 where
-    pub onto : Onto l c w (worldOf (runIn l w))
-    pub is : RunIs l w
-    pub expanded : (k : ℕ) → k < is .stop → Expanded (worldOf (runIn l w)) k
-    pub only : (j : ℕ) → Expanded (worldOf (runIn l w)) j → Expanded w j ⊎ (j < is .stop)
-
-  whole-run : (w : World) → Run 0 w (runIn l w) → Ran w
-  whole-run w r =
-      let same : (k : ℕ) → 0 + k ≡ k = λ k. omega arith in
-      record {
-        onto = r .onto;
-        is = record {
-          stop = r .count;
-          passes = λ k i. subst (λ j. Accepted (expandIn l (afterThese w 0 k) j)) (same k) (r .passes k i);
-          leaves = r .leaves;
-          ends = λ x. r .ends x ∙ same (r .count);
-          stops = λ k x. subst (λ i. UsedState (worldOf (runIn l w)) i × (expandIn l (worldOf (runIn l w)) i .answer ≡ refused k)) (same (r .count)) (r .stops k x);
-        };
-        expanded = λ k i. subst (Expanded (worldOf (runIn l w))) (same k) (r .expanded k i);
-        only = λ j x. ⊎-elim inl (λ z. inr (omega (arith, z .1, z .2))) (r .only j x);
-      }
-
-  pub run-onto : (w : World) → KeptWorld l c w → Ran w
-  unfolding runOf
-  run-onto w k = whole-run w (rw (k .sound .enters) (run-from (stateRoom (w .memory)) 0 w k (omega arith) (omega arith)))
-
 -- 3a, where the later world grew from the earlier one
 pub again-onto : (l : Lent) (c : Composition) (w v : World) → KeptWorld l c w → Onto l c w v → Again l w v
 again-onto l c w v k o = record {
@@ -314,3 +177,14 @@ again-onto l c w v k o = record {
             → settle (v .session) (v .memory) (andThen (finalAt c (stateAt v n)) (λ y. good (unchanged (v .session) (v .memory) y))) .answer ≡ good x
         go (good y) p z = rw p z
         go (refused j) p z = absurd (good≢refused (sym z))
+
+-- what is given again of the later world is given again of the earlier one
+pub again-through : (l : Lent) (c : Composition) (w v u : World) → KeptWorld l c w → Onto l c w v → Again l v u → Again l w u
+again-through l c w v u k o a =
+    let b = again-onto l c w v k o in
+    let d = again-onto l c v v (o .kept) (onto-none l c v (o .kept)) in
+    record {
+      list = λ n x. a .list n (o .grows .expanded n x) ∙ ap (λ (p : Part). stayed (u .session) (u .memory) (good p)) (o .grows .part n x);
+      words = λ n x. let y = o .grows .expanded n x in a .words n y ∙ (sym (d .words n y) ∙ b .words n x);
+      weight = λ n y e. a .weight n y (b .weight n y e);
+    }

@@ -20,6 +20,7 @@ use Rattle.readings.specs.Answers.{PassesBefore, ExpandedBy, by-expand, 
 use Rattle.readings.specs.Again.{Again, replyAfter, GivesAgain}
 use Rattle.readings.specs.Larger.{NoRoom, SameUntil}
 use Rattle.readings.specs.Demands.{Demand3}
+use Rattle.readings.proofs.CallLists.{after-append, openings-append}
 
 -- one more call, which is no opening
 abbrev NoOpening : Call → Type 0
@@ -37,18 +38,12 @@ no-more l w (records n) h = tt
 no-more l w run h = tt
 
 openings-on : (l : Lent) (w : World) (cs : List Call) (x : Call) → OpeningsRefused l w cs → NoOpening x → OpeningsRefused l w (cs ++ (x ∷ []))
-openings-on l w [] x r h = no-more l w x h
-openings-on l w (opening s k ∷ cs) x r h = (r .0, openings-on l (callOf l w (opening s k) .world) cs x (r .1) h)
-openings-on l w (expand n ∷ cs) x r h = openings-on l (callOf l w (expand n) .world) cs x r h
-openings-on l w (finalWeight n ∷ cs) x r h = openings-on l (callOf l w (finalWeight n) .world) cs x r h
-openings-on l w (records n ∷ cs) x r h = openings-on l (callOf l w (records n) .world) cs x r h
-openings-on l w (run ∷ cs) x r h = openings-on l (callOf l w run .world) cs x r h
+openings-on l w cs x r h = openings-append l w cs (x ∷ []) .1 (r, no-more l (after l w cs) x h)
 
 -- the world after one more call
 after-one : (l : Lent) (w : World) (cs : List Call) (x : Call) → after l w (cs ++ (x ∷ [])) ≡ callOf l (after l w cs) x .world
 unfolding after
-after-one l w [] x = refl
-after-one l w (y ∷ cs) x = after-one l (callOf l w y .world) cs x
+after-one l w cs x = sym (after-append l w cs (x ∷ []))
 
 -- replies that say parts, and expansions, that are equal
 part-said : {p q : Part} {s t : Session} → answered (part p) s ≡ answered (part q) t → p ≡ q

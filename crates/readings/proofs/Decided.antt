@@ -8,7 +8,7 @@ use native.Mathlib.Decide.{decLt}
 use lib.ListN.{length}
 use Rattle.lists.specs.Lists.{interval}
 use Rattle.words.specs.Labels.{Checked, good, refused}
-use Rattle.words.specs.Machines.{stateCount}
+use Rattle.words.specs.Machines.{limit, stateCount}
 use Rattle.words.specs.Steps.{Composition, Step, stepsAt}
 use Rattle.words.specs.Settings.{Lent}
 use Rattle.words.proofs.FormLaws.{form}
@@ -61,7 +61,7 @@ module _ (l : Lent) (c : Composition) (w : World) (kept : KeptWorld l c w) (n : 
   rule : Sided (w .session .settings) l (checks .side)
   rule = sided (w .session .settings) l (checks .side) (checks .rule)
 
-  narrow : stateCount (l .m2) ≤ 65535
+  narrow : stateCount (l .m2) ≤ limit
   narrow = form (l .m2) (rule .formed2) .states
 
   ready : Ready (stateCount (l .m1)) (stateCount (l .m2)) last (map (stateAt w) (interval 0 (w .session .used .states))) d

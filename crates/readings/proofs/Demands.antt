@@ -11,7 +11,7 @@ use Rattle.readings.specs.Again.{replyAfter, GivesAgain}
 use Rattle.readings.specs.Demands.{Claim}
 use Rattle.readings.proofs.Grows.{KeptWorld}
 use Rattle.readings.proofs.Openings.{open-keeps, open-unexpanded}
-use Rattle.readings.proofs.CallLists.{calls-onto, openings-before, after-append, calls-kept, calls-again}
+use Rattle.readings.proofs.CallLists.{after-append, openings-append, calls-onto, calls-kept, calls-again}
 use Rattle.readings.proofs.Answered.{answers, expanded-by}
 use Rattle.readings.proofs.GivenAgain.{gives-again}
 use Rattle.readings.proofs.NeverEight.{never-eight}
@@ -25,7 +25,7 @@ unfolding after
 given l c w cs k r before middle later x e =
     let a = calls-onto l c w before (x ∷ (middle ++ (x ∷ later))) k (subst (OpeningsRefused l w) (sym e) r) in
     let v = after l w before in
-    subst (λ (u : World). GivesAgain (callOf l v x .reply) (callOf l u x .reply)) (after-append l c w before (x ∷ middle)) (gives-again l c v (a .0 .kept) middle (x ∷ later) x (a .1))
+    subst (λ (u : World). GivesAgain (callOf l v x .reply) (callOf l u x .reply)) (after-append l w before (x ∷ middle)) (gives-again l c v (a .0 .kept) middle (x ∷ later) x (a .1))
 
 pub demand-3 : Claim
 demand-3 s l got m e =
@@ -38,7 +38,7 @@ demand-3 s l got m e =
       λ cs r. record {
         sound = λ before later d. calls-kept l c w cs k r before later d .sound;
         answers = λ before later d. answers l c (after l w before) (calls-kept l c w cs k r before later d);
-        expanded = λ before later d. expanded-by l c w before k (open-unexpanded s l got m e) (openings-before l c w before later (subst (OpeningsRefused l w) (sym d) r));
+        expanded = λ before later d. expanded-by l c w before k (open-unexpanded s l got m e) (openings-append l w before later .0 (subst (OpeningsRefused l w) (sym d) r) .0);
         eight = never-eight l c w cs k r;
         again = calls-again l c w cs k r;
         given = given l c w cs k r;

@@ -12,7 +12,7 @@ use Rattle.lists.proofs.Put.{length-put}
 use Rattle.words.specs.Labels.{good}
 use Rattle.words.specs.Steps.{Composition, Step, stepsAt}
 use Rattle.words.specs.Settings.{Lent}
-use Rattle.calls.specs.Store.{Memory, Store, tripleAt, expandedAt, firstAt, trField, targetAt, mark, Part}
+use Rattle.calls.specs.Store.{Memory, Store, stateSize, trSize, tripleAt, expandedPlace, expandedAt, firstAt, trField, targetAt, mark, Part}
 use Rattle.calls.specs.Checks.{Session, storeOf, entered}
 use Rattle.calls.specs.Calls.{storeSteps, newPart}
 use Rattle.calls.specs.Sequences.{World}
@@ -26,9 +26,9 @@ use Rattle.readings.proofs.Grows.{KeptWorld, Grows}
 
 -- a record of an earlier world in a later one, and a list
 module _ (l : Lent) (c : Composition) (w v : World) (sound : Sound l c w) (g : Grows w v) where
-  old-field : (r k : ℕ) → 0 < r → r ≤ w .session .used .trs → k < 5 → trField (v .memory .trs) (r - 1) k ≡ trField (w .memory .trs) (r - 1) k
+  old-field : (r k : ℕ) → 0 < r → r ≤ w .session .used .trs → k < trSize → trField (v .memory .trs) (r - 1) k ≡ trField (w .memory .trs) (r - 1) k
   unfolding trField
-  old-field r k h i j = g .word (5 * (r - 1) + k) (omega arith)
+  old-field r k h i j = g .word (trSize * (r - 1) + k) (omega arith)
 
   old-target : (r : ℕ) → 0 < r → r ≤ w .session .used .trs → targetOf v r ≡ targetOf w r
   unfolding targetAt
@@ -90,10 +90,10 @@ module _ (l : Lent) (c : Composition) (s : Session) (m : Memory) (kept : KeptWor
   grows = record {
     states = made .states;
     trs = stays .trs;
-    states-length = length-put (e .memory .states) (5 * n + 2) (1 ∷ newPart (s .used) (e .used) .first ∷ []) ∙ stays .states-length;
+    states-length = length-put (e .memory .states) (stateSize * n + expandedPlace) (1 ∷ newPart (s .used) (e .used) .first ∷ []) ∙ stays .states-length;
     trs-length = stays .trs-length;
     state = λ k h. mades .triple k ∙ stay-triple stays k h;
-    expanded = λ k x. (omega (arith, x .0, made .states), field-other k 2 (x .0) (others k x) (omega arith) ∙ x .1);
+    expanded = λ k x. (omega (arith, x .0, made .states), field-other k expandedPlace (x .0) (others k x) (omega arith) ∙ x .1);
     part = λ k x. mades .part-other k (x .0) (others k x);
     word = λ i h. stays .tr-word i (inl h);
   }
@@ -110,8 +110,8 @@ module _ (l : Lent) (c : Composition) (s : Session) (m : Memory) (kept : KeptWor
     where
       go : Dec (k ≡ n) → Dec (k < s .used .states) → (k ≡ n) ⊎ Expanded w k
       go (yes z) q = inl z
-      go (no z) (yes h) = inr (h, sym (field-other k 2 h z (omega arith)) ∙ x .1)
-      go (no z) (no h) = let a = made .unexpanded k (omega arith) (x .0) in let b = mades .other k 2 z (omega arith) in absurd (omega (arith, a, b, x .1))
+      go (no z) (yes h) = inr (h, sym (field-other k expandedPlace h z (omega arith)) ∙ x .1)
+      go (no z) (no h) = let a = made .unexpanded k (omega arith) (x .0) in let b = mades .other k expandedPlace z (omega arith) in absurd (omega (arith, a, b, x .1))
 
   -- a record of a list is new and the state's, or was in the same list before
   record-cases : (k r : ℕ) → Expanded v k → In r (recordsIn v k) → ((k ≡ n) × (s .used .trs < r) × (r ≤ e .used .trs)) ⊎ (Expanded w k × In r (recordsIn w k))

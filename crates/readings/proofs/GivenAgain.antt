@@ -19,7 +19,8 @@ use Rattle.calls.proofs.ExpandCases.{stayed, by-expand}
 use Rattle.readings.specs.Worlds.{worldOf, openIn, expandIn, finalIn, runIn, handedIn, Refused, OpeningsRefused, UsedState, Expanded}
 use Rattle.readings.specs.Again.{Again, GivesAgain}
 use Rattle.readings.proofs.Grows.{KeptWorld, grows-none}
-use Rattle.readings.proofs.CallsKept.{Onto, expand-again, expand-lists, final-stays, handed-or-none, run-onto, again-onto}
+use Rattle.readings.proofs.CallsKept.{Onto, expand-again, expand-lists, final-stays, handed-or-none, again-onto}
+use Rattle.readings.proofs.Pieces.{run-onto}
 use Rattle.readings.proofs.CallLists.{open-stays, one-call, calls-onto}
 
 module _ (l : Lent) (c : Composition) where

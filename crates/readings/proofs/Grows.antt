@@ -5,7 +5,7 @@ use native.Mathlib.Omega.{arith}
 use lib.ListN.{length, getD}
 use Rattle.words.specs.Steps.{Composition}
 use Rattle.words.specs.Settings.{Lent}
-use Rattle.calls.specs.Store.{stateRoom, trRoom}
+use Rattle.calls.specs.Store.{stateSize, trSize, stateRoom, trRoom}
 use Rattle.calls.specs.Checks.{storeOf}
 use Rattle.calls.specs.Sequences.{World}
 use Rattle.calls.proofs.RecordLaws.{room-same}
@@ -25,7 +25,7 @@ pub record Grows (w v : World) : Type 0 where
   pub state : (n : ℕ) → n < w .session .used .states → stateAt v n ≡ stateAt w n
   pub expanded : (n : ℕ) → Expanded w n → Expanded v n
   pub part : (n : ℕ) → Expanded w n → partIn v n ≡ partIn w n
-  pub word : (i : ℕ) → i < 5 * w .session .used .trs → getD (v .memory .trs) i 0 ≡ getD (w .memory .trs) i 0
+  pub word : (i : ℕ) → i < trSize * w .session .used .trs → getD (v .memory .trs) i 0 ≡ getD (w .memory .trs) i 0
 
 pub grows-none : (w : World) → Grows w w
 grows-none w = record {
@@ -53,8 +53,8 @@ grows-on w v u p q = record {
 
 pub room-grows : (w v : World) → Grows w v → stateRoom (v .memory) ≡ stateRoom (w .memory)
 unfolding stateRoom
-room-grows w v g = room-same 5 (w .memory .states) (v .memory .states) (g .states-length)
+room-grows w v g = room-same stateSize (w .memory .states) (v .memory .states) (g .states-length)
 
 pub tr-room-grows : (w v : World) → Grows w v → trRoom (v .memory) ≡ trRoom (w .memory)
 unfolding trRoom
-tr-room-grows w v g = room-same 5 (w .memory .trs) (v .memory .trs) (g .trs-length)
+tr-room-grows w v g = room-same trSize (w .memory .trs) (v .memory .trs) (g .trs-length)

@@ -7,17 +7,17 @@ use mathlib.Core.Option.{some}
 use Prim.Native.Nat.{ℕ, zero, suc, _+_, _≤_, _<_}
 use native.Mathlib.Omega.{arith}
 use lib.Dec.{leb}
-use lib.ListN.{length}
 use borrow.Author.Tests.{le-leb}
 use Rattle.words.specs.Labels.{Checked, good, refused}
 use Rattle.words.specs.Sides.{Side}
 use Rattle.words.specs.Steps.{Composition, Triple, startAt}
 use Rattle.words.specs.Settings.{Settings, Lent, compositionOf}
 use Rattle.words.proofs.CheckedLaws.{good≢refused}
-use Rattle.calls.specs.Store.{Memory, roomOf, stateRoom, trRoom, stateField, add, Part}
+use Rattle.calls.specs.Store.{Memory, stateSize, trSize, stateRoom, trRoom, stateField, nextPlace, add, Part}
 use Rattle.calls.specs.Checks.{Session, storeOf, sideFor}
 use Rattle.calls.specs.Calls.{Outcome, cleared, openOf, expandOf, finalWeightOf, onward, runEnded, runBy, runFrom, runOf}
 use Rattle.calls.specs.Sequences.{World, Call, opening, expand, finalWeight, records, run, Said, part, weight, accepted, answered, handed, saidOf, turnOf, callOf, replies}
+use Rattle.calls.proofs.RecordLaws.{room-more}
 use Rattle.calls.proofs.StepsStay.{add-stays}
 use Rattle.calls.proofs.ExpandKept.{entered-is}
 use Rattle.calls.proofs.OpenCases.{openedAs, Begins, by-open, open-empty, open-begun, begun-field}
@@ -108,11 +108,6 @@ module _ (l : Lent) (c : Composition) where
   replies-two (x ∷ cs) w v h r =
       ⊎-elim inl (λ y. inr (y .0, replies-two cs (callOf l w x .world) (callOf l v x .world) (y .1) (one-call l c w x cs (h .kept1) r .1))) (one-reply w v x cs h r)
 
--- more words, no less room
-room-more : (l r : List ℕ) → length l ≤ length r → roomOf 5 l ≤ roomOf 5 r
-unfolding roomOf
-room-more l r h = omega (arith, h)
-
 -- what the opening leaves in both memories
 pub record Opens2 (o p : Outcome (Unit {0})) : Type 0 where
   pub answer : p .answer ≡ good tt
@@ -128,12 +123,12 @@ module _ (s : Settings) (l : Lent) (got got2 : Session) (m big : Memory) (more :
     answer = refl;
     session = refl;
     alike = record { states = refl; trs = refl; state = λ n k i j. absurd (omega arith); word = λ i j. absurd (omega arith) };
-    room = record { states = room-more (m .states) (big .states) (more .states); trs = room-more (m .trs) (big .trs) (more .trs) };
+    room = record { states = room-more stateSize (m .states) (big .states) (more .states); trs = room-more trSize (m .trs) (big .trs) (more .trs) };
   }
 
   begins2 : Begins m → Begins big
   unfolding stateRoom
-  begins2 b = let r = room-more (m .states) (big .states) (more .states) in record { room = omega (arith, b .room, r); headed = omega (arith, b .headed, more .heads) }
+  begins2 b = let r = room-more stateSize (m .states) (big .states) (more .states) in record { room = omega (arith, b .room, r); headed = omega (arith, b .headed, more .heads) }
 
   -- state 0 is the start in both
   both-begun : (side : Side) (t : Triple) → sideFor s l ≡ good side → startAt (compositionOf s l side) ≡ some t → Begins m → Opens2 (openedAs s side (add (cleared m) t)) (openedAs s side (add (cleared big) t))
@@ -145,7 +140,7 @@ module _ (s : Settings) (l : Lent) (got got2 : Session) (m big : Memory) (more :
     room = roomier-stays (cleared m) (cleared big) (add (cleared m) t) (add (cleared big) t) (add-stays (cleared m) t) (add-stays (cleared big) t) (both-empty side .room);
   }
     where
-      same : (n k : ℕ) → n < add (cleared m) t .used .states → k < 4 → stateField (add (cleared big) t .memory .states) n k ≡ stateField (add (cleared m) t .memory .states) n k
+      same : (n k : ℕ) → n < add (cleared m) t .used .states → k < nextPlace → stateField (add (cleared big) t .memory .states) n k ≡ stateField (add (cleared m) t .memory .states) n k
       same n k i j =
           let z : n ≡ 0 = omega (arith, i) in
           subst (λ x. stateField (add (cleared big) t .memory .states) x k ≡ stateField (add (cleared m) t .memory .states) x k) (sym z)

@@ -21,13 +21,18 @@ pub mod StoreWalks
 pub mod Grows
 pub mod Expansions
 pub mod CallsKept
+pub mod Pieces
+pub mod FinalWeights
 pub mod Openings
 pub mod CallLists
+pub mod InScope
 pub mod TwoWorlds
 pub mod LargerMemory
 pub mod NeverEight
 pub mod Demands
+pub mod Copied
 pub mod Demand2
+pub mod Owned
 pub mod DemandCase
 pub mod Rooms
 pub mod Decided
@@ -36,5 +41,6 @@ pub mod GivenAgain
 pub mod Consequences
 pub mod PathExample
 pub mod RoomCase
+pub mod OwnedCase
 pub mod WordCase
 pub mod SigmaCase

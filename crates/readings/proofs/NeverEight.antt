@@ -18,7 +18,8 @@ use Rattle.calls.proofs.ExpandCases.{expand-late}
 use Rattle.calls.proofs.OpenCases.{open-refusals}
 use Rattle.readings.specs.Worlds.{worldOf, expandIn, finalIn, runIn, OpeningsRefused}
 use Rattle.readings.proofs.Grows.{KeptWorld}
-use Rattle.readings.proofs.CallsKept.{expand-numbers, final-numbers, run-onto}
+use Rattle.readings.proofs.CallsKept.{expand-numbers, final-numbers}
+use Rattle.readings.proofs.Pieces.{run-onto}
 use Rattle.readings.proofs.CallLists.{one-call}
 
 -- the number of a refusal, where the reply is one

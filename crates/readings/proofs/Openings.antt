@@ -11,7 +11,7 @@ use Rattle.words.specs.Sides.{Side}
 use Rattle.words.specs.Steps.{Composition, Triple, startAt}
 use Rattle.words.specs.Settings.{Settings, Lent, compositionOf}
 use Rattle.words.proofs.CheckedLaws.{good≢refused, good-is, refused-is}
-use Rattle.calls.specs.Store.{Memory, stateRoom, expandedAt, add}
+use Rattle.calls.specs.Store.{Memory, stateRoom, expandedPlace, expandedAt, add}
 use Rattle.calls.specs.Checks.{Session, sideFor, entered}
 use Rattle.calls.specs.Calls.{Outcome, cleared, openOf}
 use Rattle.calls.specs.Sequences.{World}
@@ -55,7 +55,7 @@ module _ (s : Settings) (l : Lent) (side : Side) (rule : sideFor s l ≡ good si
     unfolding cleared add expandedAt
     bare n x =
         let z : n ≡ 0 = omega (arith, x .0) in
-        let a = begun-field s l side t rule h m begins 2 (omega arith) in
+        let a = begun-field s l side t rule h m begins expandedPlace (omega arith) in
         let b = subst (λ k. expandedAt (w .memory .states) k ≡ 1) z (x .1) in
         omega (arith, a, b)
 

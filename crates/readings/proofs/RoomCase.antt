@@ -29,14 +29,14 @@ unfolding Holds newOnes among
 new-ones = refl
 
 -- states 0 and 1 are expanded, state 2 is found
-abbrev before : List Call
+abbrev pub before : List Call
 before = expand 0 ∷ expand 1 ∷ []
 
-abbrev leftLarge : World
+abbrev pub leftLarge : World
 leftLarge =
     world (with 3 2) (1 ∷ 2 ∷ 3 ∷ []) (0 ∷ 0 ∷ 1 ∷ 1 ∷ 0 ∷ 65536 ∷ 0 ∷ 1 ∷ 2 ∷ 0 ∷ 65537 ∷ 0 ∷ 0 ∷ 0 ∷ 0 ∷ replicate 9 8) (1 ∷ 0 ∷ 1 ∷ 1 ∷ 0 ∷ 0 ∷ 7 ∷ 4 ∷ 2 ∷ 0 ∷ replicate 7 6)
 
-abbrev leftSmall : World
+abbrev pub leftSmall : World
 leftSmall =
     world (with 3 2) (3 ∷ 2 ∷ []) (0 ∷ 0 ∷ 1 ∷ 1 ∷ 0 ∷ 65536 ∷ 0 ∷ 1 ∷ 2 ∷ 0 ∷ 65537 ∷ 0 ∷ 0 ∷ 0 ∷ 1 ∷ replicate 4 5) (1 ∷ 0 ∷ 1 ∷ 1 ∷ 0 ∷ 0 ∷ 7 ∷ 4 ∷ 2 ∷ 0 ∷ replicate 5 4)
 
@@ -44,7 +44,7 @@ left-large : after both (from large) before ≡ leftLarge
 unfolding Holds
 left-large = refl
 
-left-small : after both (from small) before ≡ leftSmall
+pub left-small : after both (from small) before ≡ leftSmall
 unfolding Holds
 left-small = refl
 

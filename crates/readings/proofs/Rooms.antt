@@ -13,10 +13,11 @@ use borrow.Author.Tests.{lt-leb, le-leb}
 use Rattle.lists.specs.Lists.{interval, putIf}
 use Rattle.lists.proofs.Members.{or-cases, or-left, or-right}
 use Rattle.words.specs.Labels.{Checked, good, refused, andThen}
+use Rattle.words.specs.Machines.{limit}
 use Rattle.words.specs.Sides.{nonEmpty}
 use Rattle.words.specs.Steps.{Triple, Step}
 use Rattle.words.proofs.StepRange.{InRange}
-use Rattle.calls.specs.Store.{Store, stateRoom, trRoom, tripleAt, chainOf, sameTriple, find, add, append}
+use Rattle.calls.specs.Store.{Store, stateSize, trSize, stateRoom, trRoom, tripleAt, chainOf, sameTriple, find, add, append}
 use Rattle.calls.specs.Calls.{reach, storeStep, nextFor, storeSteps}
 use Rattle.calls.proofs.RecordLaws.{room-same}
 use Rattle.calls.proofs.StoreForms.{Form}
@@ -105,9 +106,9 @@ pub record Goes (S1 S2 last : ℕ) (known : List Triple) (d : Store) (new : ℕ)
 
 stays-rooms : (d e : Store) → Stays d e → (trRoom (e .memory) ≡ trRoom (d .memory)) × (stateRoom (e .memory) ≡ stateRoom (d .memory))
 unfolding trRoom stateRoom
-stays-rooms d e s = (room-same 5 (d .memory .trs) (e .memory .trs) (s .trs-length), room-same 5 (d .memory .states) (e .memory .states) (s .states-length))
+stays-rooms d e s = (room-same trSize (d .memory .trs) (e .memory .trs) (s .trs-length), room-same stateSize (d .memory .states) (e .memory .states) (s .states-length))
 
-module _ {S1 S2 : ℕ} (narrow : S2 ≤ 65535) (last : ℕ) where
+module _ {S1 S2 : ℕ} (narrow : S2 ≤ limit) (last : ℕ) where
   module _ (known : List Triple) (d : Store) (w : Ready S1 S2 last known d) (next : ℕ) (st : Step) (ok : InRange S1 S2 (st .to)) (link : LinkOk d last next) where
     abbrev t : Triple
     t = st .to

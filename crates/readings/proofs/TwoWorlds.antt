@@ -11,11 +11,11 @@ use lib.Dec.{eqb}
 use lib.ListN.{length}
 use borrow.Author.Tests.{le-leb}
 use Rattle.words.specs.Labels.{Checked, good, refused, andThen}
-use Rattle.words.specs.Machines.{stateCount}
+use Rattle.words.specs.Machines.{limit, stateCount}
 use Rattle.words.specs.Steps.{Composition, stepsAt, finalAt}
 use Rattle.words.specs.Settings.{Settings, Lent}
 use Rattle.words.proofs.FormLaws.{form}
-use Rattle.calls.specs.Store.{Store, expandedAt, firstAt, mark, Part}
+use Rattle.calls.specs.Store.{Store, expandedPlace, firstPlace, expandedAt, firstAt, mark, Part}
 use Rattle.calls.specs.Checks.{Session, storeOf, enteredAt}
 use Rattle.calls.specs.Calls.{Outcome, storeSteps, newPart, settle, unchanged, wordsOfPart, openOf, expandOf, finalWeightOf, recordsOf}
 use Rattle.calls.specs.Sequences.{World}
@@ -23,10 +23,11 @@ use Rattle.calls.proofs.StepsKept.{longer}
 use Rattle.calls.proofs.StepsStay.{Stays, steps-stay}
 use Rattle.calls.proofs.ExpandKept.{Entered, entered-is, sided, steps-range}
 use Rattle.calls.proofs.Parts.{part-alike, words-alike, new-low}
-use Rattle.calls.proofs.ExpandCases.{stored, expand-late, expand-stopped, expand-stored}
+use Rattle.calls.proofs.ExpandCases.{stayed, stored, expand-late, expand-stopped, expand-stored}
 use Rattle.calls.proofs.OpenCases.{by-open}
 use Rattle.calls.proofs.TwoStores.{Alike, Roomier, Twin, alike-triple, Steps2, steps-alike, mark-alike}
-use Rattle.readings.specs.Worlds.{worldOf, Refused, Expanded, partIn, stateAt}
+use Rattle.readings.specs.Worlds.{worldOf, Refused, Expanded, partIn, stateAt, wordsIn}
+use Rattle.readings.specs.Again.{Again}
 use Rattle.readings.proofs.Grows.{KeptWorld, Grows, room-grows, tr-room-grows}
 use Rattle.readings.proofs.CallsKept.{expand-onto, expand-again, final-under, final-stays, records-under}
 
@@ -63,11 +64,18 @@ module _ (l : Lent) (c : Composition) (w v : World) (h : Same l c w v) where
 
   same-part : (n : ℕ) → n < w .session .used .states → partIn v n ≡ partIn w n
   unfolding firstAt
-  same-part n i = part-alike d e (form1 .form) (omega (arith, h .alike .trs)) n i (h .alike .word) (h .alike .state n 3 i (omega arith))
+  same-part n i = part-alike d e (form1 .form) (omega (arith, h .alike .trs)) n i (h .alike .word) (h .alike .state n firstPlace i (omega arith))
 
   same-expanded : (n : ℕ) → n < w .session .used .states → expandedAt (v .memory .states) n ≡ expandedAt (w .memory .states) n
   unfolding expandedAt
-  same-expanded n i = h .alike .state n 2 i (omega arith)
+  same-expanded n i = h .alike .state n expandedPlace i (omega arith)
+
+  expanded-two : (n : ℕ) → Expanded w n → Expanded v n
+  expanded-two n x = (omega (arith, h .alike .states, x .0), same-expanded n (x .0) ∙ x .1)
+
+  same-words : (n : ℕ) → n < w .session .used .states → wordsIn v n ≡ wordsIn w n
+  same-words n i =
+      ap (wordsOfPart (v .memory .trs)) (same-part n i) ∙ words-alike d e (form1 .form) (omega (arith, h .alike .trs)) n i (omega (arith, form2 .form .trs-fit, h .alike .trs)) (h .alike .word)
 
   -- the unexpanded state n
   module _ (n : ℕ) (found : n < w .session .used .states) (bare : expandedAt (w .memory .states) n ≢ 1) where
@@ -77,7 +85,7 @@ module _ (l : Lent) (c : Composition) (w v : World) (h : Same l c w v) where
     bare2 : expandedAt (v .memory .states) n ≢ 1
     bare2 x = bare (sym (same-expanded n found) ∙ x)
 
-    narrow : stateCount (l .m2) ≤ 65535
+    narrow : stateCount (l .m2) ≤ limit
     narrow = form (l .m2) (sided (w .session .settings) l (form1 .side) (form1 .rule) .formed2) .states
 
     abbrev last : ℕ
@@ -157,14 +165,12 @@ module _ (l : Lent) (c : Composition) (w v : World) (h : Same l c w v) where
       go (no i) x =
           inr (rw (expand-late l (w .session) (w .memory) c (h .kept1 .sound .enters) n (omega arith), expand-late l (v .session) (v .memory) c (h .kept2 .sound .enters) n (omega (arith, h .alike .states, i))) (refl, h))
       go (yes i) (no x) = expand-new n i x
-      go (yes i) (yes x) =
-          let y : Expanded v n = (omega (arith, h .alike .states, i), same-expanded n i ∙ x) in
-          inr (rw (expand-again l c w (h .kept1) n (i, x), expand-again l c v (h .kept2) n y) (ap good (same-part n i), h))
+      go (yes i) (yes x) = inr (rw (expand-again l c w (h .kept1) n (i, x), expand-again l c v (h .kept2) n (expanded-two n (i, x))) (ap good (same-part n i), h))
 
   -- final weight
-  pub final-two : (n : ℕ) → Agrees l c (finalWeightOf l (w .session) (w .memory) n) (finalWeightOf l (v .session) (v .memory) n)
+  same-final : (n : ℕ) → finalWeightOf l (v .session) (v .memory) n .answer ≡ finalWeightOf l (w .session) (w .memory) n .answer
   unfolding finalWeightOf enteredAt
-  final-two n = inr (go (decLt n (w .session .used .states)), subst (Same l c (worldOf (finalWeightOf l (w .session) (w .memory) n))) (sym (final-stays l c v n)) (subst (λ x. Same l c x v) (sym (final-stays l c w n)) h))
+  same-final n = go (decLt n (w .session .used .states))
     where
       on : (o : Checked (Option ℕ)) → settle (v .session) (v .memory) (andThen o (λ x. good (unchanged (v .session) (v .memory) x))) .answer ≡ settle (w .session) (w .memory) (andThen o (λ x. good (unchanged (w .session) (w .memory) x))) .answer
       on (good x) = refl
@@ -178,6 +184,9 @@ module _ (l : Lent) (c : Composition) (w v : World) (h : Same l c w v) where
       go (no i) =
           rw (h .kept1 .sound .enters, h .kept2 .sound .enters, le-leb (w .session .used .states) n (omega arith), le-leb (v .session .used .states) n (omega (arith, h .alike .states, i)))
 
+  pub final-two : (n : ℕ) → Agrees l c (finalWeightOf l (w .session) (w .memory) n) (finalWeightOf l (v .session) (v .memory) n)
+  final-two n = inr (same-final n, subst (Same l c (worldOf (finalWeightOf l (w .session) (w .memory) n))) (sym (final-stays l c v n)) (subst (λ x. Same l c x v) (sym (final-stays l c w n)) h))
+
   -- handing back
   pub records-two : (n : ℕ) → recordsOf l (v .session) (v .memory) n ≡ recordsOf l (w .session) (w .memory) n
   unfolding recordsOf enteredAt
@@ -185,10 +194,8 @@ module _ (l : Lent) (c : Composition) (w v : World) (h : Same l c w v) where
     where
       go : Dec (n < w .session .used .states) → recordsOf l (v .session) (v .memory) n ≡ recordsOf l (w .session) (w .memory) n
       go (yes i) =
-          let words : wordsOfPart (v .memory .trs) (partIn v n) ≡ wordsOfPart (w .memory .trs) (partIn w n)
-          = ap (wordsOfPart (v .memory .trs)) (same-part n i) ∙ words-alike d e (form1 .form) (omega (arith, h .alike .trs)) n i (omega (arith, form2 .form .trs-fit, h .alike .trs)) (h .alike .word) in
           records-under l c v (h .kept2) n (omega (arith, h .alike .states, i))
-          ∙ (ap₂ (λ (x : ℕ) (y : List ℕ). cond (eqb x 1) y []) (same-expanded n i) words ∙ sym (records-under l c w (h .kept1) n i))
+          ∙ (ap₂ (λ (x : ℕ) (y : List ℕ). cond (eqb x 1) y []) (same-expanded n i) (same-words n i) ∙ sym (records-under l c w (h .kept1) n i))
       go (no i) =
           rw (h .kept1 .sound .enters, h .kept2 .sound .enters, le-leb (w .session .used .states) n (omega arith), le-leb (v .session .used .states) n (omega (arith, h .alike .states, i)))
 
@@ -198,3 +205,11 @@ module _ (l : Lent) (c : Composition) (w v : World) (h : Same l c w v) where
   open-two s k =
       by-open s k (w .session) (w .memory) (λ (o : Outcome (Unit {0})). Refused (o .answer) → Agrees l c o (openOf s k (v .session) (v .memory)))
       (λ n x r. inr (rw x (refl, h))) (λ side x y r. absurd r) (λ side t x y r. inl refl) (λ side t x y b r. absurd r)
+
+  -- what is given again of the second is given again of the first
+  pub again-two : (u : World) → Again l v u → Again l w u
+  again-two u a = record {
+    list = λ n x. a .list n (expanded-two n x) ∙ ap (λ (p : Part). stayed (u .session) (u .memory) (good p)) (same-part n (x .0));
+    words = λ n x. a .words n (expanded-two n x) ∙ same-words n (x .0);
+    weight = λ n x e. a .weight n x (same-final n ∙ e);
+  }

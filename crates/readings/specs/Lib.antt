@@ -17,3 +17,5 @@ pub mod Larger
 pub mod StorePaths
 pub mod Follows
 pub mod Demands
+-- What a caller that owns its memory may do beside these calls.
+pub mod Owned
