@@ -5,7 +5,7 @@ use mathlib.Core.List.{List, [], _∷_, List·Memᴰ as In, List·Memᴰ·head a
 use Prim.Native.Nat.{ℕ, _≤_, _<_}
 use native.Mathlib.Omega.{arith}
 use Rattle.words.specs.Labels.{Checked, good, refused, andThen}
-use Rattle.words.specs.Machines.{stateCount}
+use Rattle.words.specs.Machines.{limit, stateCount}
 use Rattle.words.specs.Settings.{Lent}
 use Rattle.words.specs.Steps.{Composition, Step, stepsAt}
 use Rattle.words.proofs.CheckedLaws.{good≢refused, refused-is}
@@ -28,7 +28,7 @@ refused-same (good d) k e = absurd (good≢refused (sym e))
 refused-same (refused n) k e = ap refused (sym (refused-is e))
 
 -- targets in range are narrow
-pub narrow-of : (S1 S2 : ℕ) (l : List (Checked Step)) → S1 ≤ 65535 → S2 ≤ 65535 → ((st : Step) → In (good st) l → InRange S1 S2 (st .to)) → Narrow l
+pub narrow-of : (S1 S2 : ℕ) (l : List (Checked Step)) → S1 ≤ limit → S2 ≤ limit → ((st : Step) → In (good st) l → InRange S1 S2 (st .to)) → Narrow l
 narrow-of S1 S2 [] h k ok = tt
 narrow-of S1 S2 (refused n ∷ l) h k ok = tt
 narrow-of S1 S2 (good s ∷ l) h k ok =

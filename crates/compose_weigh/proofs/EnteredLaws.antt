@@ -5,7 +5,7 @@ use mathlib.Core.List.{List·Memᴰ as In}
 use Prim.Native.Nat.{ℕ, _≤_, _<_}
 use native.Mathlib.Omega.{arith}
 use Rattle.words.specs.Labels.{good, andThen}
-use Rattle.words.specs.Machines.{stateCount}
+use Rattle.words.specs.Machines.{limit, stateCount}
 use Rattle.words.specs.Steps.{Composition, Step, stepsAt}
 use Rattle.words.specs.Settings.{Lent}
 use Rattle.words.proofs.FormLaws.{form}
@@ -19,7 +19,7 @@ use Rattle.compose_weigh.proofs.WeighLaws.{weigh-exact}
 
 module _ (l : Lent) (s : Session) (m : Memory) (c : Composition) (h : Entered l s m c) where
   -- "S and T are at most 65535"
-  pub few-states : (stateCount (l .m1) ≤ 65535) × (stateCount (l .m2) ≤ 65535)
+  pub few-states : (stateCount (l .m1) ≤ limit) × (stateCount (l .m2) ≤ limit)
   few-states = let z = sided (s .settings) l (h .side) (h .rule) in (form (l .m1) (z .formed1) .states, form (l .m2) (z .formed2) .states)
 
   pub targets-in-range : (n : ℕ) → n < s .used .states → (st : Step) → In (good st) (stepsAt c (tripleAt (m .states) n)) → InRange (stateCount (l .m1)) (stateCount (l .m2)) (st .to)

@@ -12,10 +12,11 @@ use lib.ListN.{length}
 use borrow.Author.Tests.{leb-false}
 use Rattle.lists.proofs.Put.{length-put}
 use Rattle.words.specs.Labels.{Checked, good, refused, refuseIf, andThen}
+use Rattle.words.specs.Machines.{limit}
 use Rattle.words.specs.Sides.{nonEmpty}
 use Rattle.words.specs.Steps.{Triple, Step}
 use Rattle.words.proofs.StepRange.{InRange}
-use Rattle.calls.specs.Store.{Store, stateRoom, trRoom, headOf, chainOf, sameTriple, find, stateRecord, add, trRecord, append}
+use Rattle.calls.specs.Store.{Store, stateSize, trSize, stateRoom, trRoom, headOf, chainOf, sameTriple, find, stateRecord, add, trRecord, append}
 use Rattle.calls.specs.Calls.{Reached, reachedBy, reach, storeStep, nextFor, storeSteps}
 use Rattle.calls.proofs.RecordLaws.{room-same}
 use Rattle.calls.proofs.StoreForms.{Form}
@@ -75,7 +76,7 @@ lacks-next e f to n found other t = go (sameTriple to t) refl
     go true p = and-false (missing (find e t)) ∙ sym (ap missing (ap (find f) (sym (same-triple to t p)) ∙ found))
     go false p = and-true (missing (find e t)) ∙ ap missing (sym (other t p))
 
-module _ {S1 S2 : ℕ} (narrow : S2 ≤ 65535) (d : Store) (all : List (Checked Step)) (last : ℕ) where
+module _ {S1 S2 : ℕ} (narrow : S2 ≤ limit) (d : Store) (all : List (Checked Step)) (last : ℕ) where
   -- a transition record, and the state of its target
   append-grown : (e f : Store) (i n next : ℕ) (s : Step) (others : List (Checked Step)) → Grown S1 S2 d all last i e → Ahead i all (good s ∷ others)
       → Form S1 S2 f last → stateRoom (f .memory) ≡ stateRoom (e .memory) → trRoom (f .memory) ≡ trRoom (e .memory) → f .used .trs ≡ e .used .trs → n < f .used .states
@@ -86,7 +87,7 @@ module _ {S1 S2 : ℕ} (narrow : S2 ≤ 65535) (d : Store) (all : List (Checked 
   append-grown e f i n next s others g a form sr tr same inside room l found other = record {
     form = append-form narrow f form s n next inside (rw (same, tr) room) (rw same l);
     state-room = g .state-room ∙ sym sr;
-    tr-room = g .tr-room ∙ sym tr ∙ sym (room-same 5 (f .memory .trs) (append f s n next .memory .trs) (length-put (f .memory .trs) (5 * f .used .trs) (trRecord s n next)));
+    tr-room = g .tr-room ∙ sym tr ∙ sym (room-same trSize (f .memory .trs) (append f s n next .memory .trs) (length-put (f .memory .trs) (trSize * f .used .trs) (trRecord s n next)));
     trs = omega (arith, g .trs, same);
     any = omega (arith, inside);
     lacks = λ t. new-next d i all s others a t ∙ ap (λ b. b && not (sameTriple (s .to) t)) (g .lacks t) ∙ lacks-next e f (s .to) n found other t;
@@ -106,7 +107,7 @@ module _ {S1 S2 : ℕ} (narrow : S2 ≤ 65535) (d : Store) (all : List (Checked 
         let few : s .to .s2 < 65536 = omega (arith, narrow, ok .s2) in
         let headed = g .form .headed (g .any) in
         append-grown e (add e (s .to)) i (e .used .states) next s others g a (add-form narrow e (g .form) (s .to) ok more headed)
-        (room-same 5 (e .memory .states) (add e (s .to) .memory .states) (length-put (e .memory .states) (5 * e .used .states) (stateRecord (s .to) (headOf (e .memory .heads) (s .to)))))
+        (room-same stateSize (e .memory .states) (add e (s .to) .memory .states) (length-put (e .memory .states) (stateSize * e .used .states) (stateRecord (s .to) (headOf (e .memory .heads) (s .to)))))
         refl refl (omega arith) room (link-ok e last others (omega arith))
         (find-added e (g .form) (s .to) few more headed) (find-other e (g .form) (s .to) few more headed)
 
@@ -155,7 +156,7 @@ module _ {S1 S2 : ℕ} (narrow : S2 ≤ 65535) (d : Store) (all : List (Checked 
       (λ f k l. rw (add-one i) (told (suc i) f others k (ahead-next i all s others a) (λ r j. ok r (there j)) l)))
 
 -- On every store in form, with a state, and for steps whose targets are in range: the weighing's answer is that of storing.
-pub weigh-exact : {S1 S2 : ℕ} → S2 ≤ 65535 → (d : Store) (steps : List (Checked Step)) → Form S1 S2 d (d .used .trs) → ((s : Step) → In (good s) steps → InRange S1 S2 (s .to)) → 0 < d .used .states
+pub weigh-exact : {S1 S2 : ℕ} → S2 ≤ limit → (d : Store) (steps : List (Checked Step)) → Form S1 S2 d (d .used .trs) → ((s : Step) → In (good s) steps → InRange S1 S2 (s .to)) → 0 < d .used .states
     → weighOf true d steps ≡ andThen (storeSteps d steps) (λ e. good tt)
 unfolding weighOf isNew reachedWithin
 weigh-exact {S1} {S2} narrow d steps form ok any =

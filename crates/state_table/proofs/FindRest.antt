@@ -6,25 +6,24 @@ use native.Mathlib.Omega.{arith}
 use Rattle.lists.specs.Lists.{first}
 use Rattle.lists.proofs.Links.{first-same, linked-same}
 use Rattle.words.specs.Steps.{Triple}
-use Rattle.calls.specs.Store.{Store, stateRoom, tripleAt, nextAt, headOf, chainOf, sameTriple, find}
+use Rattle.calls.specs.Store.{Store, stateSize, stateRoom, tripleAt, nextPlace, nextAt, headOf, chainOf, sameTriple, find}
+use Rattle.calls.proofs.RecordLaws.{triple-same}
 use Rattle.calls.proofs.StoreForms.{Form}
 use Rattle.calls.proofs.ChainLaws.{chain-below}
 use Rattle.store_records.specs.Meaning.{stored}
 use Rattle.store_records.proofs.RestLaws.{SameRecords, state-same}
 
-module _ {S1 S2 : ℕ} (d : Store) {last : ℕ} (form : Form S1 S2 d last) (states trs : List ℕ) (same : SameRecords (d .memory .states) states) where
+module _ {S1 S2 : ℕ} (d : Store) {last : ℕ} (form : Form S1 S2 d last) (states trs : List ℕ) (same : SameRecords stateSize (d .memory .states) states) where
   abbrev U : ℕ
   U = d .used .states
 
   next-rest : (n : ℕ) → n < U → nextAt states n ≡ nextAt (d .memory .states) n
   unfolding nextAt stateRoom
-  next-rest n h = state-same same n 4 (omega (arith, form .states-fit)) (omega arith)
+  next-rest n h = state-same same n nextPlace (omega (arith, form .states-fit)) (omega arith)
 
   triple-rest : (n : ℕ) → n < U → tripleAt states n ≡ tripleAt (d .memory .states) n
-  unfolding tripleAt stateRoom
-  triple-rest n h =
-      let l = form .states-fit in
-      rw (state-same same n 0 (omega (arith, l)) (omega arith), state-same same n 1 (omega (arith, l)) (omega arith))
+  unfolding stateRoom
+  triple-rest n h = let l = form .states-fit in triple-same (d .memory .states) states n n (λ k b. state-same same n k (omega (arith, l)) (omega arith))
 
   pub find-rest : (t : Triple) (k : ℕ) → find (stored (d .memory .heads) states trs U k) t ≡ find d t
   unfolding find chainOf headOf

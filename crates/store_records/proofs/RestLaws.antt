@@ -7,32 +7,32 @@ use native.Mathlib.Omega.{arith}
 use lib.ListN.{length, getD}
 use Rattle.lists.proofs.Put.{put-after}
 use Rattle.words.specs.Steps.{Triple, Step}
-use Rattle.calls.specs.Store.{Store, roomOf, stateRoom, trRoom, stateField, trField, headOf, stateRecord, add, trRecord, append, mark}
+use Rattle.calls.specs.Store.{Store, stateSize, trSize, roomOf, stateRoom, trRoom, stateField, expandedPlace, trField, headOf, stateRecord, add, trRecord, append, mark}
 
-pub record SameRecords (s r : List ℕ) : Type 0 where
+pub record SameRecords (size : ℕ) (s r : List ℕ) : Type 0 where
   pub long : length r ≡ length s
-  pub words : (i : ℕ) → i < 5 * roomOf 5 s → getD r i 0 ≡ getD s i 0
+  pub words : (i : ℕ) → i < size * roomOf size s → getD r i 0 ≡ getD s i 0
 
 -- the words of a record within the room
-pub state-same : {s r : List ℕ} → SameRecords s r → (n k : ℕ) → n < roomOf 5 s → k < 5 → stateField r n k ≡ stateField s n k
+pub state-same : {s r : List ℕ} → SameRecords stateSize s r → (n k : ℕ) → n < roomOf stateSize s → k < stateSize → stateField r n k ≡ stateField s n k
 unfolding stateField
-state-same h n k l b = h .words (5 * n + k) (omega arith)
+state-same h n k l b = h .words (stateSize * n + k) (omega arith)
 
-pub tr-same : {s r : List ℕ} → SameRecords s r → (i k : ℕ) → i < roomOf 5 s → k < 5 → trField r i k ≡ trField s i k
+pub tr-same : {s r : List ℕ} → SameRecords trSize s r → (i k : ℕ) → i < roomOf trSize s → k < trSize → trField r i k ≡ trField s i k
 unfolding trField
-tr-same h i k l b = h .words (5 * i + k) (omega arith)
+tr-same h i k l b = h .words (trSize * i + k) (omega arith)
 
 -- a word past the room, after a record is added or marked
 module _ (d : Store) (i : ℕ) where
-  pub add-rest : (t : Triple) → d .used .states < stateRoom (d .memory) → 5 * stateRoom (d .memory) ≤ i → getD (add d t .memory .states) i 0 ≡ getD (d .memory .states) i 0
+  pub add-rest : (t : Triple) → d .used .states < stateRoom (d .memory) → stateSize * stateRoom (d .memory) ≤ i → getD (add d t .memory .states) i 0 ≡ getD (d .memory .states) i 0
   unfolding add stateRoom
-  add-rest t h l = put-after (d .memory .states) (5 * d .used .states) (stateRecord t (headOf (d .memory .heads) t)) i 0 (omega arith)
+  add-rest t h l = put-after (d .memory .states) (stateSize * d .used .states) (stateRecord t (headOf (d .memory .heads) t)) i 0 (omega arith)
 
-  pub append-rest : (st : Step) (target next : ℕ) → d .used .trs < trRoom (d .memory) → 5 * trRoom (d .memory) ≤ i
+  pub append-rest : (st : Step) (target next : ℕ) → d .used .trs < trRoom (d .memory) → trSize * trRoom (d .memory) ≤ i
       → getD (append d st target next .memory .trs) i 0 ≡ getD (d .memory .trs) i 0
   unfolding append trRoom
-  append-rest st target next h l = put-after (d .memory .trs) (5 * d .used .trs) (trRecord st target next) i 0 (omega arith)
+  append-rest st target next h l = put-after (d .memory .trs) (trSize * d .used .trs) (trRecord st target next) i 0 (omega arith)
 
-  pub mark-rest : (n first : ℕ) → n < stateRoom (d .memory) → 5 * stateRoom (d .memory) ≤ i → getD (mark d n first .memory .states) i 0 ≡ getD (d .memory .states) i 0
+  pub mark-rest : (n first : ℕ) → n < stateRoom (d .memory) → stateSize * stateRoom (d .memory) ≤ i → getD (mark d n first .memory .states) i 0 ≡ getD (d .memory .states) i 0
   unfolding mark stateRoom
-  mark-rest n first h l = put-after (d .memory .states) (5 * n + 2) (1 ∷ first ∷ []) i 0 (omega arith)
+  mark-rest n first h l = put-after (d .memory .states) (stateSize * n + expandedPlace) (1 ∷ first ∷ []) i 0 (omega arith)

@@ -7,7 +7,7 @@ use native.Mathlib.Omega.{arith}
 use lib.ListN.{length, getD, take, drop, length-drop}
 use lib.Seq.{length-take-le, getD-take, getD-drop, ext-getD}
 use Rattle.lists.specs.Lists.{linked}
-use Rattle.calls.specs.Store.{Store, stateRoom, trRoom, stateField, trNextAt, firstAt, partAt}
+use Rattle.calls.specs.Store.{Store, stateSize, trSize, stateRoom, trRoom, stateField, trNextAt, firstPlace, firstAt, partAt}
 use Rattle.calls.specs.Calls.{wordsOfPart}
 use Rattle.calls.proofs.RecordLaws.{room-words}
 use Rattle.calls.proofs.StoreForms.{Form}
@@ -51,7 +51,7 @@ part-same s r a k e h w =
     (λ i l. let b : i < k = omega (arith, m, l) in
     getD-take k (drop a r) i 0 b ∙ getD-drop a r i 0 ∙ w (a + i) (omega arith) ∙ sym (getD-take k (drop a s) i 0 b ∙ getD-drop a s i 0))
 
-module _ {S1 S2 : ℕ} (d : Store) (form : Form S1 S2 d (d .used .trs)) (states trs : List ℕ) (same : SameRecords (d .memory .states) states) (same-trs : SameRecords (d .memory .trs) trs) where
+module _ {S1 S2 : ℕ} (d : Store) (form : Form S1 S2 d (d .used .trs)) (states trs : List ℕ) (same : SameRecords stateSize (d .memory .states) states) (same-trs : SameRecords trSize (d .memory .trs) trs) where
   abbrev V′ : ℕ
   V′ = d .used .trs
 
@@ -65,8 +65,8 @@ module _ {S1 S2 : ℕ} (d : Store) (form : Form S1 S2 d (d .used .trs)) (states 
   pub part-rest : (heads : List ℕ) (u n : ℕ) → n < d .used .states → partAt (stored heads states trs u V′) n ≡ partAt d n
   unfolding partAt firstAt stateRoom
   part-rest heads u n h =
-      let f = state-same same n 3 (omega (arith, form .states-fit)) (omega arith) in
-      let l = linked-inside (trNextAt (d .memory .trs)) (trNextAt trs) V′ V′ (stateField (d .memory .states) n 3) rises next-rest (form .state n h .first) in
+      let f = state-same same n firstPlace (omega (arith, form .states-fit)) (omega arith) in
+      let l = linked-inside (trNextAt (d .memory .trs)) (trNextAt trs) V′ V′ (stateField (d .memory .states) n firstPlace) rises next-rest (form .state n h .first) in
       rw (f, l)
 
   pub words-rest : (n : ℕ) → n < d .used .states → wordsOfPart trs (partAt d n) ≡ wordsOfPart (d .memory .trs) (partAt d n)
@@ -75,5 +75,5 @@ module _ {S1 S2 : ℕ} (d : Store) (form : Form S1 S2 d (d .used .trs)) (states 
       let f = firstAt (d .memory .states) n in
       let c = length (linked (trNextAt (d .memory .trs)) V′ f) in
       let b = linked-short (trNextAt (d .memory .trs)) V′ V′ f rises (form .state n h .first) in
-      let w = room-words (d .memory .trs) V′ (form .trs-fit) in
-      part-same (d .memory .trs) trs (5 * (f - 1)) (5 * c) (same-trs .long) (omega (arith, b, w .1)) (λ i l. same-trs .words i (omega (arith, b, l, form .trs-fit)))
+      let w = room-words trSize (d .memory .trs) V′ (form .trs-fit) in
+      part-same (d .memory .trs) trs (trSize * (f - 1)) (trSize * c) (same-trs .long) (omega (arith, b, w .1)) (λ i l. same-trs .words i (omega (arith, b, l, form .trs-fit)))

@@ -3,7 +3,7 @@ use mathlib.Core.Path.{sym, _∙_, ap}
 use mathlib.Core.List.{[]}
 use native.Mathlib.Omega.{arith}
 use Rattle.words.specs.Labels.{good}
-use Rattle.calls.specs.Store.{Store, stateRoom}
+use Rattle.calls.specs.Store.{Store, stateSize, stateRoom}
 use Rattle.calls.proofs.RecordLaws.{room-words}
 use Rattle.compose_state_tuple.specs.Meaning.{tupleMeans}
 use Rattle.store_records.specs.Meaning.{stored}
@@ -25,7 +25,7 @@ add-t18 c =
     let p = c .before .before .before .before .before .before .before .before .before .before .before .before .before .before .pre in
     let a = c .before .before .before .before .before .before .before .before .before .before .before .before .before .before .args in
     let r = new-room (stored (a .heads .now) (a .states .now) [] (a .used) 0) (tupleMeans (a .tuple)) (sym (rw (c .before .before .before .before .before .before .before .enum-told .given .1) at (c .before .before .before .before .before .before .before .before .before .find-id .ensures [] 0))) (p .0 [] 0) in
-    omega (arith, r, room-words (a .states .now) _ r .0)
+    omega (arith, r, room-words stateSize (a .states .now) _ r .0)
 
 returns : tie.Need-returns
 returns c =

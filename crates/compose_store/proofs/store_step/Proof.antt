@@ -2,7 +2,7 @@
 use mathlib.Core.Path.{sym, _∙_, ap}
 use native.Mathlib.Omega.{arith}
 use Rattle.words.specs.Labels.{good}
-use Rattle.calls.specs.Store.{trRoom, append}
+use Rattle.calls.specs.Store.{trSize, trRoom, append}
 use Rattle.calls.specs.Calls.{nextFor}
 use Rattle.calls.proofs.RecordLaws.{room-words}
 use Rattle.compose_state_tuple.specs.Meaning.{tupleMeans}
@@ -20,7 +20,7 @@ link-requires c κs =
     let a = c .before .before .before .before .before .before .args in
     let d = stored (a .heads .now) (a .states .now) (a .trs .now) (a .used .states) (a .used .trs) in
     let r = step-room d (nextFor d (a .follows)) (composeTrMeans (a .tr)) (c .before .before .before .before .before .before .pre .0) .0 in
-    omega (arith, r, room-words (a .trs .now) _ r .0)
+    omega (arith, r, room-words trSize (a .trs .now) _ r .0)
 
 reach-requires : tie.Need-reach-requires
 reach-requires c κs =
@@ -43,7 +43,7 @@ add-t21 c =
     let a = c .before .before .before .before .before .before .before .before .before .before .before .before .before .before .before .before .before .before .before .before .args in
     let d = stored (a .heads .now) (a .states .now) (a .trs .now) (a .used .states) (a .used .trs) in
     let r = step-room d (nextFor d (a .follows)) (composeTrMeans (a .tr)) (c .before .before .before .before .before .before .before .before .before .before .before .before .before .before .before .before .before .before .before .before .pre .0) .0 in
-    omega (arith, r, room-words (a .trs .now) _ r .0)
+    omega (arith, r, room-words trSize (a .trs .now) _ r .0)
 
 returns : tie.Need-returns
 returns c =

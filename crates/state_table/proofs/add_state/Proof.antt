@@ -20,7 +20,7 @@ add-state-spec =
     (λ c κs. search needs)
     (λ c κs. search needs)
     (λ c κs. search needs)
-    (λ c. let r = room-words _ _ (c .before .before .before .before .before .before .before .before .before .before .before .pre .0) in omega (arith, r .0))
+    (λ c. let r = room-words _ _ _ (c .before .before .before .before .before .before .before .before .before .before .before .pre .0) in omega (arith, r .0))
     (λ c κs. search needs)
     (λ c. search needs)
     (λ c. search needs)

@@ -4,6 +4,7 @@ use Prim.Native.Nat.{_+_, _-_, _*_, min}
 use native.Mathlib.Omega.{arith}
 use lib.ListN.{length}
 use denote.Ref.{now}
+use Rattle.calls.specs.Store.{trSize}
 use Rattle.tr_lists.proofs.PartLaws.{part-cut}
 use borrow.Author.Needs.{needs}
 use Rattle.tr_lists.proofs.tr_part.Statement.{statement}
@@ -16,9 +17,9 @@ returns c =
     let k = c .before .least3 .result in
     let z : s + k - s ≡ k = omega arith in
     let b : x .part .first - c .before .before .before .before .least .result ≡ x .part .first - 1 = omega (arith, c .before .before .before .before .least .ensures) in
-    let e : s ≡ min (5 * (x .part .first - 1)) (length (now (x .trs))) = rw b at (c .before .before .before .least2 .ensures) in
-    let q : s * 4 + x .trs .ptr .1 ≡ x .trs .ptr .1 + 4 * min (5 * (x .part .first - 1)) (length (now (x .trs))) = omega (arith, e) in (
-      rw (z, c .before .least3 .ensures, c .before .before .before .least2 .ensures, b) (part-cut (now (x .trs)) (5 * (x .part .first - 1)) (5 * x .part .count)),
+    let e : s ≡ min (trSize * (x .part .first - 1)) (length (now (x .trs))) = rw b at (c .before .before .before .least2 .ensures) in
+    let q : s * 4 + x .trs .ptr .1 ≡ x .trs .ptr .1 + 4 * min (trSize * (x .part .first - 1)) (length (now (x .trs))) = omega (arith, e) in (
+      rw (z, c .before .least3 .ensures, c .before .before .before .least2 .ensures, b) (part-cut (now (x .trs)) (trSize * (x .part .first - 1)) (trSize * x .part .count)),
       (λ i. (x .trs .ptr .0, q i)),
     )
 

@@ -1,4 +1,4 @@
--- Word 2 of the record.
+-- The word at its place.
 use Rattle.calls.specs.Store.{expandedAt}
 use borrow.Author.Needs.{needs}
 use Rattle.store_records.proofs.state_records.expanded_word.Statement.{statement}

@@ -1,4 +1,4 @@
--- Word 3 of the record.
+-- The word at its place.
 use Rattle.calls.specs.Store.{firstAt}
 use borrow.Author.Needs.{needs}
 use Rattle.store_records.proofs.state_records.first_of.Statement.{statement}

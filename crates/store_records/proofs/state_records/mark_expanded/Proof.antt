@@ -3,7 +3,7 @@ use mathlib.Core.Path.{_≡_, refl}
 use Prim.Native.Nat.{suc, _+_, _*_}
 use native.Mathlib.Omega.{arith}
 use Rattle.lists.specs.Lists.{put}
-use Rattle.calls.specs.Store.{mark}
+use Rattle.calls.specs.Store.{stateSize, expandedPlace, firstPlace, mark}
 use borrow.Author.Needs.{needs}
 use Rattle.store_records.proofs.state_records.mark_expanded.Statement.{statement}
 use Rattle.store_records.proofs.state_records.mark_expanded.Tie as tie
@@ -12,7 +12,7 @@ returns : tie.Need-returns
 unfolding mark put
 returns c =
     let n = c .before .before .before .before .before .before .before .before .before .before .args .n .0 in
-    let e : 5 * n + 3 ≡ suc (5 * n + 2) = omega arith in
+    let e : stateSize * n + firstPlace ≡ suc (stateSize * n + expandedPlace) = omega arith in
     λ heads trs u k. rw (c .before .before .store2 .ensures, c .before .before .before .before .before .before .store .ensures, e)
 
 pub mark-expanded-spec : {M : Type 1} → statement M

@@ -1,4 +1,4 @@
--- Word 4 of the record.
+-- The word at its place.
 use Rattle.calls.specs.Store.{nextAt}
 use borrow.Author.Needs.{needs}
 use Rattle.store_records.proofs.state_records.next_of.Statement.{statement}
