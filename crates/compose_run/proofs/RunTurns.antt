@@ -7,14 +7,18 @@ use native.Mathlib.Omega.{arith}
 use lib.Dec.{eqb, leb}
 use borrow.Author.Tests.{le-leb, lt-leb}
 use Rattle.words.specs.Labels.{Checked, good, refused}
+use Rattle.words.specs.Machines.{limit}
 use Rattle.words.specs.Settings.{Lent}
 use Rattle.words.specs.Steps.{Composition}
 use Rattle.words.proofs.CheckedLaws.{good≢refused, refused-is}
-use Rattle.calls.specs.Store.{Memory, expandedAt, Part, partAt}
+use Rattle.calls.specs.Store.{Memory, stateSize, stateRoom, expandedAt, Part, partAt}
 use Rattle.calls.specs.Checks.{Session, storeOf, entered}
 use Rattle.calls.specs.Calls.{Outcome, settle, expansion, expandOf, onward, runEnded, runFrom}
+use Rattle.calls.specs.Owned.{stopBy, stopFrom}
 use Rattle.calls.proofs.RunLaws.{expand-under}
-use Rattle.calls.proofs.ExpandKept.{expand-kept}
+use Rattle.calls.proofs.ExpandKept.{entered-is, expand-kept}
+use Rattle.calls.proofs.RecordLaws.{room-words}
+use Rattle.calls.proofs.ExpandCases.{expand-late}
 use Rattle.store_records.specs.declared.Used.{Used}
 use Rattle.compose_fst_op.specs.declared.ComposeFstOpOptions.{ComposeFstOpOptions}
 use Rattle.compose_store.specs.Meaning.{sessionUnder}
@@ -41,6 +45,11 @@ module _ (l : Lent) where
   pub expand-new : (s : Session) (m : Memory) (n : ℕ) (c : Composition) → entered l s m ≡ good c → n < s .used .states → eqb (expandedAt (m .states) n) 1 ≡ false → settle s m (expansion c s m n) ≡ expandOf l s m n
   expand-new s m n c e found h = rw (expand-under l s m n c e (lt-leb _ _ found), h)
 
+  -- no more states are found than a word holds
+  pub few-found : (s : Session) (m : Memory) (c : Composition) → entered l s m ≡ good c → s .used .states ≤ limit
+  unfolding stateRoom
+  few-found s m c e = room-words stateSize (m .states) (s .used .states) (entered-is l s m c e .form .states-fit) .0
+
   -- none is left
   pub run-ends : (k n : ℕ) (s : Session) (m : Memory) (v : Outcome (Unit {0})) → 0 < k → s .used .states ≤ n → runFrom l k n s m ≡ v → runEnded s m ≡ v
   unfolding runFrom
@@ -60,6 +69,24 @@ module _ (l : Lent) where
   run-turn (suc k) n s m o v h b q e =
       let z : suc k - 1 ≡ k = omega arith in
       simp (z, add-one n, q) (rw b at e)
+
+  -- the state at which it stands, in the same three cases
+  pub stop-ends : (k n : ℕ) (s : Session) (m : Memory) (c : Composition) (v : ℕ) → entered l s m ≡ good c → 0 < k → s .used .states ≤ n → stopFrom l k n s m ≡ v → n ≡ v
+  unfolding stopFrom
+  stop-ends zero n s m c v e h b q = absurd (omega arith)
+  stop-ends (suc k) n s m c v e h b q = rw (expand-late l s m c e n b) at q
+
+  pub stop-over : (k n : ℕ) (s : Session) (m : Memory) (v : ℕ) → k ≡ 0 → stopFrom l k n s m ≡ v → n ≡ v
+  unfolding stopFrom
+  stop-over zero n s m v h e = e
+  stop-over (suc k) n s m v h e = absurd (omega arith)
+
+  stop-turn : (k n : ℕ) (s : Session) (m : Memory) (o : Outcome Part) (v : ℕ) → 0 < k → o ≡ expandOf l s m n → stopFrom l k n s m ≡ v → stopBy o (o .answer) n (stopFrom l (k - 1) (n + 1)) ≡ v
+  unfolding stopFrom
+  stop-turn zero n s m o v h q e = absurd (omega arith)
+  stop-turn (suc k) n s m o v h q e =
+      let z : suc k - 1 ≡ k = omega arith in
+      simp (z, add-one n, q) e
 
   -- a turn of a run: a state expanded before, and one not expanded before
   pub turn-listed : (s : Session) (m : Memory) (n : ℕ) (c : Composition) → entered l s m ≡ good c → n < s .used .states → eqb (expandedAt (m .states) n) 1 ≡ true
@@ -101,3 +128,19 @@ module _ (l : Lent) where
           let t = ap (ranLeft o m′) (sym h) ∙ q in
           let p = stopped (next .answer) j (ap (λ (x : Outcome (Unit {0})). x .answer) t) in
           subst (λ (x : Outcome (Unit {0})). record { answer = refused j; session = x .session; memory = x .memory } ≡ v) (sym t) (rw p at turned-on)
+
+    -- the state at which the run stands, after an accepted turn and after a refused one
+    module _ (k : ℕ) (v : ℕ) (some : 0 < k) (whole : stopFrom l k n (sessionUnder o u) m ≡ v) where
+      stops-on : stopBy next (next .answer) n (stopFrom l (k - 1) (n + 1)) ≡ v
+      stops-on = stop-turn k n (sessionUnder o u) m next v some refl whole
+
+      pub new-stop : (u′ : Used) → r ≡ Done u′ → stopFrom l (k - 1) (n + 1) (sessionUnder o u′) m′ ≡ v
+      new-stop u′ h =
+          let t = same u′ h in
+          let p = accepted (next .answer) (ap (λ (x : Outcome (Unit {0})). x .answer) t) in
+          subst (λ (x : Outcome (Unit {0})). stopFrom l (k - 1) (n + 1) (x .session) (x .memory) ≡ v) (sym t) (rw (p .1) at stops-on)
+
+      pub refused-stop : (j : ℕ) (kept : Used) → r ≡ Refused j kept → n ≡ v
+      refused-stop j kept h =
+          let t = ap (ranLeft o m′) (sym h) ∙ q in
+          rw (stopped (next .answer) j (ap (λ (x : Outcome (Unit {0})). x .answer) t)) at stops-on

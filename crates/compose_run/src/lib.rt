@@ -5,6 +5,7 @@ ghost use Rattle.words.specs.Labels.{good};
 ghost use Rattle.calls.specs.Store.{stateRoom};
 ghost use Rattle.calls.specs.Checks.{entered};
 ghost use Rattle.calls.specs.Calls.{expandOf, runFrom};
+ghost use Rattle.calls.specs.Owned.{stopFrom};
 ghost use Rattle.compose_fst_op.specs.Composing.{lentOf, composing};
 ghost use Rattle.store_records.specs.Meaning.{memoryOf};
 ghost use Rattle.compose_store.specs.Meaning.{sessionUnder, leftBy};
@@ -92,8 +93,87 @@ fn compute_state(
     }
 }
 
-// Expands in number order, where the checks 1 to 8 pass, until none is left or one is refused. After an accepted expansion the checks pass again: they are not made again. No more states are
-// found than there is room for.
+// Where a run stands when it ends: the state with which the next one goes on, which is the refused one where one is refused.
+pub struct Stopped {
+    pub next: StateId,
+    pub ran: Ran,
+}
+
+// A piece of a run, where the checks 1 to 8 pass: from a state on, in number order, so many states at most, until none is left or one is refused. After an accepted expansion the
+// checks pass again: they are not made again.
+pub fn compute_from(
+    m1: &[u32],
+    m2: &[u32],
+    a1: &[u32],
+    a2: &[u32],
+    options: ComposeFstOpOptions,
+    heads: &mut [u32],
+    states: &mut [u32],
+    trs: &mut [u32],
+    used: Used,
+    from: StateId,
+    count: u32,
+) -> Stopped
+    requires { ⌜ (
+        let l = lentOf options (now m1) (now m2) (now a1) (now a2) in
+        let m = memoryOf (now heads) (now states) (now trs) in
+        entered l (sessionUnder options used) m ≡ good (composing options (now m1) (now m2) (now a1) (now a2))
+        ) ⌝ }
+    ensures { λ r. ⌜ (
+        let l = lentOf options (now (m1 .entry)) (now (m2 .entry)) (now (a1 .entry)) (now (a2 .entry)) in
+        let m = memoryOf (now (heads .entry)) (now (states .entry)) (now (trs .entry)) in
+        let m′ = memoryOf (now (heads .exit)) (now (states .exit)) (now (trs .exit)) in
+        ranLeft options m′ (r .ran) ≡ runFrom l count (from .0) (sessionUnder options used) m
+        ) ⌝ }
+    ensures next { λ r. ⌜ (
+        let l = lentOf options (now (m1 .entry)) (now (m2 .entry)) (now (a1 .entry)) (now (a2 .entry)) in
+        let m = memoryOf (now (heads .entry)) (now (states .entry)) (now (trs .entry)) in
+        r .next .0 ≡ stopFrom l count (from .0) (sessionUnder options used) m
+        ) ⌝ }
+{
+    let mut latest = used;
+    let mut n = from.0;
+    let mut most = count;
+    while most > 0 {
+        if latest.states <= n {
+            return Stopped {
+                next: StateId(n),
+                ran: Ran::Done(latest),
+            };
+        }
+        let turn = compute_state(
+            m1,
+            m2,
+            a1,
+            a2,
+            options,
+            heads,
+            states,
+            trs,
+            latest,
+            StateId(n),
+        );
+        match turn {
+            Ran::Refused(k, kept) => {
+                return Stopped {
+                    next: StateId(n),
+                    ran: Ran::Refused(k, kept),
+                };
+            }
+            Ran::Done(after) => {
+                latest = after;
+            }
+        }
+        n += 1;
+        most -= 1;
+    }
+    Stopped {
+        next: StateId(n),
+        ran: Ran::Done(latest),
+    }
+}
+
+// Expands in number order, where the checks 1 to 8 pass, until none is left or one is refused. No more states are found than there is room for.
 pub fn compute(
     m1: &[u32],
     m2: &[u32],
@@ -117,35 +197,19 @@ pub fn compute(
         ranLeft options m′ r ≡ runFrom l (stateRoom m) 0 (sessionUnder options used) m
         ) ⌝ }
 {
-    let mut latest = used;
-    let mut n: u32 = 0;
-    let mut most = state_room(states);
-    while most > 0 {
-        if latest.states <= n {
-            return Ran::Done(latest);
-        }
-        let turn = compute_state(
-            m1,
-            m2,
-            a1,
-            a2,
-            options,
-            heads,
-            states,
-            trs,
-            latest,
-            StateId(n),
-        );
-        match turn {
-            Ran::Refused(k, kept) => {
-                return Ran::Refused(k, kept);
-            }
-            Ran::Done(after) => {
-                latest = after;
-            }
-        }
-        n += 1;
-        most -= 1;
-    }
-    Ran::Done(latest)
+    let most = state_room(states);
+    let stopped = compute_from(
+        m1,
+        m2,
+        a1,
+        a2,
+        options,
+        heads,
+        states,
+        trs,
+        used,
+        StateId(0),
+        most,
+    );
+    stopped.ran
 }

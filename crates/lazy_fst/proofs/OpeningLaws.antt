@@ -8,7 +8,7 @@ use native.Mathlib.Omega.{arith}
 use lib.Dec.{eqb}
 use lib.ListN.{length}
 use borrow.Author.Tests.{ne-eqb}
-use Rattle.words.specs.Machines.{startWord, lessOne, machineOf, wellFormed}
+use Rattle.words.specs.Machines.{limit, startWord, lessOne, machineOf, wellFormed}
 use Rattle.words.specs.Sides.{nonEmpty}
 use Rattle.words.specs.Steps.{Triple, startOf}
 use Rattle.words.proofs.FormLaws.{form}
@@ -18,7 +18,7 @@ pub no-heads : (l : List ℕ) → eqb (length l) 0 ≡ not (nonEmpty l)
 no-heads [] = refl
 no-heads (x ∷ xs) = ne-eqb (length {A = ℕ} (x ∷ xs)) 0 (λ e. omega arith)
 
-below-word : (w s : ℕ) → w ≤ 65535 → lessOne w ≡ some s → s < 65536
+below-word : (w s : ℕ) → w ≤ limit → lessOne w ≡ some s → s < 65536
 below-word zero s h e = absurd (Option·none-ne-some _ e)
 below-word (suc w) s h e = let z = Option·some-injective w s e in omega arith
 

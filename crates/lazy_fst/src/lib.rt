@@ -48,6 +48,12 @@ pub enum PartAnswer {
     Refused(u32, Session),
 }
 
+// What a piece of a run answers: as a run does; and the state with which the next piece goes on, which is the refused one where one is refused.
+pub struct PieceAnswer {
+    pub next: StateId,
+    pub answer: Answer,
+}
+
 // What final weight answers.
 pub enum WeightAnswer {
     Weight(u32, Session),

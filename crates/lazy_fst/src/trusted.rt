@@ -1,18 +1,22 @@
 // The calls without their checks 1 to 8, for a caller that knows that they pass: after an accepted opening, while nobody else writes, they do. Each answers just what the call with its
-// checks answers, and 9 as well.
+// checks answers, and 9 as well; a run is made in pieces.
 ghost use mathlib.Core.Path.{_≡_};
 ghost use Prim.Native.Nat.{_+_, _*_};
 ghost use Rattle.calls.specs.Checks.{Passes};
-ghost use Rattle.calls.specs.Calls.{expandOf, finalWeightOf, recordsOf, recordsPlace};
+ghost use Rattle.calls.specs.Calls.{expandOf, finalWeightOf, runFrom, recordsOf, recordsPlace};
+ghost use Rattle.calls.specs.Owned.{stopFrom};
 ghost use Rattle.store_records.specs.Meaning.{memoryOf};
-ghost use Rattle.lazy_fst.specs.Meaning.{lentWith, sessionMeans, partLeft, weightLeft};
+ghost use Rattle.lazy_fst.specs.Meaning.{lentWith, sessionMeans, left, partLeft, weightLeft};
 use crate::AllowedLists;
 use crate::PartAnswer;
+use crate::PieceAnswer;
 use crate::Session;
 use crate::WeightAnswer;
 use crate::answers::final_of;
 use crate::answers::options_of;
 use crate::answers::part_answer;
+use crate::answers::run_answer;
+use compose_run::compute_from;
 use compose_run::expand_found;
 use fst::REFUSED_NOT_FOUND;
 use fst::StateId;
@@ -97,6 +101,57 @@ impl Session {
         }
         let options = options_of(self.settings, listed, side_of(self.side));
         final_of(self, options, m1, m2, states, n)
+    }
+
+    // A piece of a run: from a state on, in number order, so many states at most, until none is left or one is refused.
+    pub fn trusted_run(
+        self,
+        m1: &[u32],
+        m2: &[u32],
+        allowed1: &[u32],
+        allowed2: &[u32],
+        listed: AllowedLists,
+        heads: &mut [u32],
+        states: &mut [u32],
+        trs: &mut [u32],
+        from: StateId,
+        count: u32,
+    ) -> PieceAnswer
+        requires { ⌜ (
+            let l = lentWith (now m1) (now m2) (now allowed1) (now allowed2) listed in
+            let m = memoryOf (now heads) (now states) (now trs) in
+            Passes l (sessionMeans self) m
+            ) ⌝ }
+        ensures { λ r. ⌜ (
+            let l = lentWith (now (m1 .entry)) (now (m2 .entry)) (now (allowed1 .entry)) (now (allowed2 .entry)) listed in
+            let m = memoryOf (now (heads .entry)) (now (states .entry)) (now (trs .entry)) in
+            let m′ = memoryOf (now (heads .exit)) (now (states .exit)) (now (trs .exit)) in
+            left (r .answer) m′ ≡ runFrom l count (from .0) (sessionMeans self) m
+            ) ⌝ }
+        ensures next { λ r. ⌜ (
+            let l = lentWith (now (m1 .entry)) (now (m2 .entry)) (now (allowed1 .entry)) (now (allowed2 .entry)) listed in
+            let m = memoryOf (now (heads .entry)) (now (states .entry)) (now (trs .entry)) in
+            r .next .0 ≡ stopFrom l count (from .0) (sessionMeans self) m
+            ) ⌝ }
+    {
+        let options = options_of(self.settings, listed, side_of(self.side));
+        let stopped = compute_from(
+            m1,
+            m2,
+            allowed1,
+            allowed2,
+            options,
+            heads,
+            states,
+            trs,
+            self.used,
+            from,
+            count,
+        );
+        let next = stopped.next;
+        let ran = stopped.ran;
+        let answer = run_answer(self, ran);
+        PieceAnswer { next, answer }
     }
 
     // The records of an expanded state, as a part of the lent slice; none where the state is not found or not expanded.
