@@ -9,14 +9,14 @@ use Rattle.lists.specs.Lists.{interval}
 use Rattle.lists.proofs.Put.{put-none}
 use Rattle.words.specs.Matches.{Tr}
 use Rattle.words.specs.Settings.{Lent}
-use Rattle.calls.specs.Store.{Memory, trAt}
+use Rattle.calls.specs.Store.{Memory, trSize, trAt}
 use Rattle.calls.specs.Checks.{Session}
 use Rattle.calls.specs.Listing.{Line, lineOf, trLines}
 use Rattle.listing_text.specs.Printing.{lineBytes, bytesOf}
 use Rattle.listing_write.specs.Written.{Written}
 use Rattle.listing_write.proofs.WrittenLaws.{then, same-text}
+use Rattle.final_weights.proofs.WeightLaws.{interval-on}
 use Rattle.listing.specs.Stages.{linesAt, linesFrom}
-use Rattle.listing.proofs.WeightLaws.{interval-on}
 
 -- the bytes of lines one after the other
 pub bytes-append : (xs ys : List Line) → bytesOf (xs ++ ys) ≡ bytesOf xs ++ bytesOf ys
@@ -68,9 +68,9 @@ pub trs-done : (words : List ℕ) (i k : ℕ) → k ≤ i → trLinesFrom words 
 unfolding trLinesFrom interval
 trs-done words i k h = let z : k - i ≡ 0 = omega arith in ap (λ (j : ℕ). map (trLineAt words) (interval i j)) z
 
-pub trs-all : (words : List ℕ) → trLinesFrom words 0 (length words / 5) ≡ trLines words
+pub trs-all : (words : List ℕ) → trLinesFrom words 0 (length words / trSize) ≡ trLines words
 unfolding trLinesFrom trLines
-trs-all words = ap (λ (j : ℕ). map (trLineAt words) (interval 0 j)) (sub-zero (length words / 5))
+trs-all words = ap (λ (j : ℕ). map (trLineAt words) (interval 0 j)) (sub-zero (length words / trSize))
 
 -- the line of a record that was read
 pub tr-line-bytes : (words : List ℕ) (i : ℕ) (t : Tr) → t ≡ trAt words i → lineBytes (lineOf t) ≡ bytesOf (trLineAt words i ∷ [])

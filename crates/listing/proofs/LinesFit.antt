@@ -10,7 +10,7 @@ use Rattle.lists.proofs.Totals.{length-interval, parts-length}
 use Rattle.words.specs.Labels.{Checked, good, refused}
 use Rattle.words.specs.Settings.{Settings, Lent}
 use Rattle.words.specs.Steps.{Composition}
-use Rattle.calls.specs.Store.{Memory, Store, partAt, expandedAt}
+use Rattle.calls.specs.Store.{Memory, Store, trSize, partAt, expandedAt}
 use Rattle.calls.specs.Checks.{Session, storeOf, enteredAt}
 use Rattle.calls.specs.Calls.{wordsOfPart, openOf, runOf, recordsBy, recordsOf}
 use Rattle.calls.specs.Listing.{trLines}
@@ -18,17 +18,17 @@ use Rattle.calls.proofs.FewRecords.{few-records}
 use Rattle.listing.specs.Stages.{linesAt, linesFrom, FewLines}
 
 -- a line for each record
-pub tr-lines-length : (words : List ℕ) → length (trLines words) ≡ length words / 5
+pub tr-lines-length : (words : List ℕ) → length (trLines words) ≡ length words / trSize
 unfolding trLines
 tr-lines-length words = rw (length-map, length-interval) refl
 
 -- what is handed back of a state has no more records than its list
-handed-length : (c : Checked Composition) (d : Store) (n : ℕ) → length (recordsBy c d n) / 5 ≤ partAt d n .count
+handed-length : (c : Checked Composition) (d : Store) (n : ℕ) → length (recordsBy c d n) / trSize ≤ partAt d n .count
 handed-length (refused k) d n = omega arith
 handed-length (good c) d n = go (eqb (expandedAt (d .memory .states) n) 1)
   where
-    go : (b : Bool) → length (cond b (wordsOfPart (d .memory .trs) (partAt d n)) []) / 5 ≤ partAt d n .count
-    go true = let t = length-take (5 * partAt d n .count) (drop (5 * (partAt d n .first - 1)) (d .memory .trs)) in omega (arith, t)
+    go : (b : Bool) → length (cond b (wordsOfPart (d .memory .trs) (partAt d n)) []) / trSize ≤ partAt d n .count
+    go true = let t = length-take (trSize * partAt d n .count) (drop (trSize * (partAt d n .first - 1)) (d .memory .trs)) in omega (arith, t)
     go false = omega arith
 
 -- a state's lines: its own, and one for each of its records

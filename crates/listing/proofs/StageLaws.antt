@@ -2,20 +2,22 @@
 use mathlib.Core.Path.{_≡_, refl, sym, ap, _∙_}
 use mathlib.Core.List.{List, [], _∷_, _++_, flatMap}
 use mathlib.Core.Option.{Option}
-use Prim.Native.Nat.{ℕ, _+_, _*_, _≤_}
+use Prim.Native.Nat.{ℕ, _+_, _*_, _≤_, _<_}
+use native.Mathlib.Nat.{mul-div-cancel-left}
 use native.Mathlib.Omega.{arith}
 use lib.ListN.{length}
 use borrow.Author.Tests.{eq-eqb, ne-eqb}
 use Rattle.words.specs.Labels.{good, refused}
 use Rattle.words.specs.Steps.{Triple}
 use Rattle.words.specs.Settings.{Settings, Lent}
-use Rattle.calls.specs.Store.{Memory, roomOf, stateRoom, trRoom, tripleAt}
+use Rattle.calls.specs.Store.{Memory, stateSize, trSize, roomOf, stateRoom, trRoom, tripleAt}
 use Rattle.calls.specs.Checks.{Session, Passes}
 use Rattle.calls.specs.Calls.{Outcome, openOf, runOf, finalWeightOf, recordsOf}
 use Rattle.calls.specs.Listing.{Line, sideLine, stateLine, endLine, refusedLine, trLines, listed, printed, composedLines, settingsOf, noSession, emptyMemory, listingOn}
 use Rattle.calls.proofs.RunLaws.{run-passes}
 use Rattle.listing_text.specs.Printing.{lineBytes, bytesOf}
-use Rattle.listing.specs.Stages.{givenWeight, linesAt, linesFrom, ranOf, openedOf, openedMemory, FewLines}
+use Rattle.final_weights.specs.Weights.{givenWeight}
+use Rattle.listing.specs.Stages.{linesAt, linesFrom, ranOf, openedOf, openedMemory, FewLines}
 use Rattle.listing.proofs.LinesFit.{few-lines}
 use Rattle.listing.proofs.LineLaws.{bytes-append, bytes-one}
 
@@ -67,15 +69,15 @@ module _ (s : Settings) (l : Lent) (got : Session) (m : Memory) (o : Outcome (Un
   open-few q = rw e (few-lines s l got m (ap (λ (x : Outcome (Unit {0})). x .answer) (sym e) ∙ q))
 
 -- "room is 1024 records of each sort": room for every line
-pub room-words : (w : List ℕ) → length w ≡ 5120 → roomOf 5 w ≡ 1024
+pub room-words : (size : ℕ) (w : List ℕ) → 0 < size → length w ≡ size * 1024 → roomOf size w ≡ 1024
 unfolding roomOf
-room-words w e = rw e refl
+room-words size w some e = rw (e, mul-div-cancel-left 1024 some)
 
-pub lines-room : (m : Memory) (n : ℕ) (out : List ℕ) → length (m .states) ≡ 5120 → length (m .trs) ≡ 5120 → n ≤ stateRoom m + trRoom m → 131200 ≤ length out → 128 + 64 * n ≤ length out
+pub lines-room : (m : Memory) (n : ℕ) (out : List ℕ) → length (m .states) ≡ stateSize * 1024 → length (m .trs) ≡ trSize * 1024 → n ≤ stateRoom m + trRoom m → 131200 ≤ length out → 128 + 64 * n ≤ length out
 unfolding stateRoom trRoom
 lines-room m n out p q h k =
-    let a = room-words (m .states) p in
-    let b = room-words (m .trs) q in
+    let a = room-words stateSize (m .states) (omega arith) p in
+    let b = room-words trSize (m .trs) (omega arith) q in
     omega (arith, a, b, h, k)
 
 -- "a settings line not of six such words is refused 1"

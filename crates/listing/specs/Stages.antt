@@ -1,32 +1,16 @@
 -- 01, "The listing", stage by stage, in any memory: "It opens, runs, then takes final weights in number order". `composedLines` of `calls` is `openedOf` in its own memory.
 use mathlib.Core.Path.{_≡_}
-use mathlib.Core.List.{List, map, flatMap}
-use mathlib.Core.Option.{Option, none}
+use mathlib.Core.List.{List, flatMap}
 use Prim.Native.Nat.{ℕ, _+_, _*_, _≤_}
 use lib.ListN.{length}
 use Rattle.lists.specs.Lists.{interval}
-use Rattle.words.specs.Labels.{Checked, good, refused, andThen, collect}
+use Rattle.words.specs.Labels.{Checked, good, refused, andThen}
 use Rattle.words.specs.Settings.{Settings, Lent}
-use Rattle.calls.specs.Store.{Memory, stateRoom, trRoom}
+use Rattle.calls.specs.Store.{Memory, stateSize, trSize, stateRoom, trRoom}
 use Rattle.calls.specs.Checks.{Session}
 use Rattle.calls.specs.Calls.{openOf, runOf, finalWeightOf}
 use Rattle.calls.specs.Listing.{Line, stateLines, listed}
-use Rattle.listing.specs.declared.weights.AllWeights.{AllWeights}
-use Rattle.listing.specs.declared.weights.AllWeights.the-variants.{All, Refused}
-
--- what is known of weights that were taken: that all were answered, or the first refusal
-abbrev pub verdict : {A : Type 0} → Checked A → AllWeights
-verdict (good a) = All
-verdict (refused n) = Refused n
-
--- "then takes final weights in number order": of the k states from state n on
-unfoldable pub weightsFrom : Lent → Session → Memory → ℕ → ℕ → Checked (List (Option ℕ))
-weightsFrom l s m n k = collect (map (λ i. finalWeightOf l s m i .answer) (interval n k))
-
--- the final weight that was answered; none where it was refused, of which no line is put
-abbrev pub givenWeight : Checked (Option ℕ) → Option ℕ
-givenWeight (good w) = w
-givenWeight (refused n) = none
+use Rattle.final_weights.specs.Weights.{givenWeight}
 
 -- the lines of state n
 abbrev pub linesAt : Lent → Session → Memory → ℕ → List Line
@@ -58,8 +42,8 @@ openedMemory s l got m = let o = openOf s l got m in whereAccepted (o .answer) (
 
 -- memory of 1024 records of each sort, and a buffer for as many lines and two more
 pub record Sized (states trs out : List ℕ) : Type 0 where
-  pub state-words : length states ≡ 5120
-  pub tr-words : length trs ≡ 5120
+  pub state-words : length states ≡ stateSize * 1024
+  pub tr-words : length trs ≡ trSize * 1024
   pub bytes : 131200 ≤ length out
 
 -- an accepted run leaves no more lines than there is room for records

@@ -1,7 +1,6 @@
 // The listing of document 01: from the words of its lines, or from a reader that has read them, to its bytes. No function of this file has a precondition.
 mod lines;
 mod stages;
-mod weights;
 
 ghost use mathlib.Core.Path.{_≡_};
 ghost use Rattle.io.specs.Counts.{Counts};
@@ -23,7 +22,6 @@ pub use stages::no_session;
 use stages::open_listing;
 use store_records::STATE_SIZE;
 use store_records::TR_SIZE;
-pub use weights::found;
 
 // "room is 1024 records of each sort and 64 heads"
 pub const HEADS: usize = 64;

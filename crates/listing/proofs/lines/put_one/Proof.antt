@@ -5,6 +5,7 @@ use Prim.Native.Nat.{ℕ, _/_}
 use native.Mathlib.Omega.{arith}
 use lib.ListN.{length}
 use borrow.Author.Needs.{needs}
+use Rattle.calls.specs.Store.{trSize}
 use Rattle.calls.specs.Calls.{recordsOf}
 use Rattle.store_records.specs.Meaning.{memoryOf}
 use Rattle.lazy_fst.specs.Meaning.{lentWith, sessionMeans}
@@ -21,7 +22,7 @@ put-trs-requires : tie.Need-put-trs-requires
 put-trs-requires c κs =
     let a = c .before .before .before .before .before .before .before .before .before .before .before .before .before .before .before .before .args in
     let w = c .before .before .before .before .put-weighed in
-    let e = ap (λ (x : List ℕ). length x / 5) (c .before .trusted-records .ensures .0) in
+    let e = ap (λ (x : List ℕ). length x / trSize) (c .before .trusted-records .ensures .0) in
     let t = tr-lines-length (recordsOf (lentWith (a .m1 .now) (a .m2 .now) (a .allowed1 .now) (a .allowed2 .now) (a .listed)) (sessionMeans (a .session)) (memoryOf (a .heads .now) (a .states .now) (a .trs .now)) (a .n .0)) in
     let s : length (w .last .0) ≡ length (a .out .now) = search needs in
     omega (arith, c .before .before .before .before .before .before .before .before .before .before .before .before .before .before .before .before .pre .0, w .ensures .1, e, t, s)
@@ -32,7 +33,7 @@ returns c =
     let w = c .before .before .before .before .before .before .before .put-weighed in
     let v = c .before .before .put-trs in
     let r = c .before .before .before .before .trusted-records in
-    let e = ap (λ (x : List ℕ). length x / 5) (r .ensures .0) in
+    let e = ap (λ (x : List ℕ). length x / trSize) (r .ensures .0) in
     let t = tr-lines-length (recordsOf (lentWith (a .m1 .now) (a .m2 .now) (a .allowed1 .now) (a .allowed2 .now) (a .listed)) (sessionMeans (a .session)) (memoryOf (a .heads .now) (a .states .now) (a .trs .now)) (a .n .0)) in (
       same-text (one-state (lentWith (a .m1 .now) (a .m2 .now) (a .allowed1 .now) (a .allowed2 .now) (a .listed)) (sessionMeans (a .session)) (memoryOf (a .heads .now) (a .states .now) (a .trs .now)) (a .n .0) _ _ _ (c .before .before .before .before .before .before .before .before .get-tuple .ensures) (c .before .before .before .before .before .before .before .before .before .before .trusted-final-weight .ensures) (r .ensures .0)) (then (w .ensures .0 (memoryOf (a .heads .now) (a .states .now) (a .trs .now))) (v .ensures .0)),
       omega (arith, w .ensures .1, v .ensures .1, e, t),

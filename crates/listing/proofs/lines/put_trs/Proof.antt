@@ -5,6 +5,7 @@ use Prim.Native.Nat.{_+_, _-_, _*_, _/_, _≤_}
 use native.Mathlib.Omega.{arith}
 use lib.ListN.{length}
 use borrow.Author.Needs.{needs}
+use Rattle.calls.specs.Store.{trSize}
 use Rattle.fst.specs.Meaning.{trMeans}
 use Rattle.listing_text.specs.Printing.{bytesOf}
 use Rattle.listing_write.proofs.WrittenLaws.{same-text}
@@ -31,7 +32,7 @@ loop-again : tie.Need-loop-again Inv-loop μ-loop
 loop-again c =
     let a = c .before .before .before .before .before .before .before .before .before .before .before .before .args in
     let p = c .before .before .before .before .before .before .before .before .before .loop in
-    let k = length (a .records .now) / 5 in
+    let k = length (a .records .now) / trSize in
     let t = c .before .before .before .before .before .before .before .before .loop-test .taken in
     let w = c .before .before .put-tr .ensures in
     let s : length (c .before .before .put-tr .last .0) ≡ length (p .out) = search needs in (
@@ -46,7 +47,7 @@ returns : tie.Need-returns Inv-loop μ-loop
 returns c =
     let a = c .before .before .before .before .args in
     let p = c .before .loop in
-    let k = length (a .records .now) / 5 in (
+    let k = length (a .records .now) / trSize in (
       same-text (ap bytesOf (trs-all (a .records .now))) (rest-done (trLinesFrom (a .records .now) 0 k) (trLinesFrom (a .records .now) (p .i) k) (p .inv .3) (trs-done (a .records .now) (p .i) k (c .loop-test .left))),
       omega (arith, p .inv .2),
     )

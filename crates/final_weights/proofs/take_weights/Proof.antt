@@ -3,12 +3,13 @@ use mathlib.Core.Path.{_≡_, ap, _∙_}
 use Prim.Native.Nat.{ℕ, _-_, _≤_}
 use native.Mathlib.Omega.{arith}
 use borrow.Author.Needs.{needs}
+use Rattle.calls.specs.Owned.{weightsFrom}
 use Rattle.store_records.specs.Meaning.{memoryOf}
 use Rattle.lazy_fst.specs.Meaning.{lentWith, sessionMeans}
-use Rattle.listing.specs.Stages.{verdict, weightsFrom}
-use Rattle.listing.proofs.WeightLaws.{weights-start, weights-again, weights-stop, weights-done}
-use Rattle.listing.proofs.weights.take_weights.Statement.{statement}
-use Rattle.listing.proofs.weights.take_weights.Tie as tie
+use Rattle.final_weights.specs.Weights.{verdict}
+use Rattle.final_weights.proofs.WeightLaws.{weights-start, weights-again, weights-stop, weights-done}
+use Rattle.final_weights.proofs.take_weights.Statement.{statement}
+use Rattle.final_weights.proofs.take_weights.Tie as tie
 
 abbrev Inv-loop : tie.InvT-loop
 Inv-loop session m1 m2 allowed1 allowed2 listed heads states trs count n₀ n =

@@ -1,7 +1,7 @@
 -- `judged` meets its contract, answer by answer.
 use borrow.Author.Needs.{needs}
-use Rattle.listing.proofs.weights.judged.Statement.{statement}
-use Rattle.listing.proofs.weights.judged.Tie as tie
+use Rattle.final_weights.proofs.judged.Statement.{statement}
+use Rattle.final_weights.proofs.judged.Tie as tie
 
 returns : tie.Need-returns
 returns c = λ m. rw (c .before .weight .given .1)
