@@ -9,9 +9,10 @@ use lib.Dec.{eqb}
 use lib.ListN.{length, length-take, length-drop, take, drop}
 use borrow.Author.Tests.{ne-eqb}
 use Rattle.words.specs.Labels.{Checked, good, refused}
+use Rattle.words.specs.Machines.{limit}
 use Rattle.words.specs.Settings.{Lent}
 use Rattle.words.specs.Steps.{Composition}
-use Rattle.calls.specs.Store.{Memory, Store, Part, roomOf, trRoom, firstAt, expandedAt, partAt}
+use Rattle.calls.specs.Store.{Memory, Store, Part, trSize, roomOf, trRoom, firstAt, expandedAt, partAt}
 use Rattle.calls.specs.Checks.{Session, storeOf, enteredAt}
 use Rattle.calls.specs.Calls.{openOf, expandOf, finalWeightOf, runOf, wordsOfPart, recordsBy, recordsOf}
 use Rattle.calls.specs.Sequences.{World, Call, opening, expand, finalWeight, records, run, Said, accepted, part, weight, answered, handed, saidOf, callOf, replies, after}
@@ -29,16 +30,16 @@ none-handed : (trs states : List ℕ) (n : ℕ) → wordsOfPart trs (handedPart 
 unfolding roomOf
 none-handed trs states n = refl
 
-pub room-of : (trs : List ℕ) (a k : ℕ) → a + 5 * k ≤ length trs → k ≤ 65535 → roomOf 5 (take (5 * k) (drop a trs)) ≡ k
+pub room-of : (trs : List ℕ) (a k : ℕ) → a + trSize * k ≤ length trs → k ≤ limit → roomOf trSize (take (trSize * k) (drop a trs)) ≡ k
 unfolding roomOf
-room-of trs a k h f = omega (arith, length-take (5 * k) (drop a trs), length-drop a trs, h, f)
+room-of trs a k h f = omega (arith, length-take (trSize * k) (drop a trs), length-drop a trs, h, f)
 
 -- the words of a part that lies within the slice name it
-part-handed : (trs states : List ℕ) (n : ℕ) (p : Part) → p .first ≡ firstAt states n → 5 * (p .first - 1) + 5 * p .count ≤ length trs → p .count ≤ 65535
+part-handed : (trs states : List ℕ) (n : ℕ) (p : Part) → p .first ≡ firstAt states n → trSize * (p .first - 1) + trSize * p .count ≤ length trs → p .count ≤ limit
     → wordsOfPart trs (handedPart states n (wordsOfPart trs p)) ≡ wordsOfPart trs p
-part-handed trs states n p e within few = go (p .count) refl (room-of trs (5 * (p .first - 1)) (p .count) within few)
+part-handed trs states n p e within few = go (p .count) refl (room-of trs (trSize * (p .first - 1)) (p .count) within few)
   where
-    go : (k : ℕ) → p .count ≡ k → roomOf 5 (take (5 * p .count) (drop (5 * (p .first - 1)) trs)) ≡ p .count → wordsOfPart trs (handedPart states n (wordsOfPart trs p)) ≡ wordsOfPart trs p
+    go : (k : ℕ) → p .count ≡ k → roomOf trSize (take (trSize * p .count) (drop (trSize * (p .first - 1)) trs)) ≡ p .count → wordsOfPart trs (handedPart states n (wordsOfPart trs p)) ≡ wordsOfPart trs p
     go zero z r = rw (r, z)
     go (suc k) z r = rw (r, z, ne-eqb (suc k) 0 (λ q. omega (arith, q)), ← e)
 
@@ -55,7 +56,7 @@ handed-part l s m n = go (enteredAt l s m n) refl
     by-mark c true e =
         let a = at-entered l s m n c e in
         let form = entered-is l s m c (a .0) .form in
-        let fit = room-words (m .trs) (s .used .trs) (form .trs-fit) in
+        let fit = room-words trSize (m .trs) (s .used .trs) (form .trs-fit) in
         let within = part-within d d form (omega arith) n (a .1) in
         part-handed (m .trs) (m .states) n (partAt d n) refl (omega (arith, within, fit .1)) (omega (arith, within, fit .0))
 

@@ -12,7 +12,7 @@ use borrow.Author.Tests.{eq-eqb, ne-eqb}
 use Rattle.words.specs.Labels.{Checked, good, refused}
 use Rattle.words.specs.Settings.{Lent}
 use Rattle.words.specs.Steps.{Composition}
-use Rattle.calls.specs.Store.{Memory, Part, roomOf, trRoom, expandedAt, firstAt, partAt}
+use Rattle.calls.specs.Store.{Memory, Part, trSize, roomOf, trRoom, expandedAt, firstAt, partAt}
 use Rattle.calls.specs.Checks.{Session, storeOf, enteredAt}
 use Rattle.calls.specs.Calls.{Outcome, wordsOfPart, expandOf, recordsOf}
 use Rattle.calls.specs.Sequences.{World, expand, records, part, answered, handed, turnOf, callOf}
@@ -23,31 +23,31 @@ use Rattle.lazy_fst.proofs.CallLaws.{at-entered}
 use Rattle.rinkolza.specs.Exported.{sessionWords, partWords, handedPart, recordsWords}
 use Rattle.rinkolza.proofs.CallerLaws.{room-of}
 
-none-room : roomOf 5 [] ≡ 0
+none-room : roomOf trSize [] ≡ 0
 unfolding roomOf
 none-room = refl
 
 -- the words of an expanded state name its list
 part-is : (l : Lent) (s : Session) (m : Memory) (n : ℕ) (c : Composition) → enteredAt l s m n ≡ good c
-    → let p = partAt (storeOf s m) n in roomOf 5 (wordsOfPart (m .trs) p) ≢ 0 → handedPart (m .states) n (wordsOfPart (m .trs) p) ≡ p
+    → let p = partAt (storeOf s m) n in roomOf trSize (wordsOfPart (m .trs) p) ≢ 0 → handedPart (m .states) n (wordsOfPart (m .trs) p) ≡ p
 unfolding trRoom partAt
 part-is l s m n c e any =
     let d = storeOf s m in
     let p = partAt d n in
     let a = at-entered l s m n c e in
     let form = entered-is l s m c (a .0) .form in
-    let fit = room-words (m .trs) (s .used .trs) (form .trs-fit) in
+    let fit = room-words trSize (m .trs) (s .used .trs) (form .trs-fit) in
     let within = part-within d d form (omega arith) n (a .1) in
-    let count = room-of (m .trs) (5 * (p .first - 1)) (p .count) (omega (arith, within, fit .1)) (omega (arith, within, fit .0)) in
-    rw (ne-eqb (roomOf 5 (wordsOfPart (m .trs) p)) 0 any) (ap (λ (k : ℕ). record { first = firstAt (m .states) n; count = k }) count)
+    let count = room-of (m .trs) (trSize * (p .first - 1)) (p .count) (omega (arith, within, fit .1)) (omega (arith, within, fit .0)) in
+    rw (ne-eqb (roomOf trSize (wordsOfPart (m .trs) p)) 0 any) (ap (λ (k : ℕ). record { first = firstAt (m .states) n; count = k }) count)
 
 -- where the part that is named has a record, expand answers it and changes nothing
-pub names-part : (l : Lent) (s : Session) (m : Memory) (n : ℕ) → roomOf 5 (recordsOf l s m n) ≢ 0
+pub names-part : (l : Lent) (s : Session) (m : Memory) (n : ℕ) → roomOf trSize (recordsOf l s m n) ≢ 0
     → expandOf l s m n ≡ record { answer = good (handedPart (m .states) n (recordsOf l s m n)); session = s; memory = m }
 unfolding recordsOf expandOf
 names-part l s m n = by-checks (enteredAt l s m n) refl (eqb (expandedAt (m .states) n) 1) refl
   where
-    by-checks : (x : Checked Composition) → enteredAt l s m n ≡ x → (b : Bool) → eqb (expandedAt (m .states) n) 1 ≡ b → roomOf 5 (recordsOf l s m n) ≢ 0
+    by-checks : (x : Checked Composition) → enteredAt l s m n ≡ x → (b : Bool) → eqb (expandedAt (m .states) n) 1 ≡ b → roomOf trSize (recordsOf l s m n) ≢ 0
         → expandOf l s m n ≡ record { answer = good (handedPart (m .states) n (recordsOf l s m n)); session = s; memory = m }
     by-checks (refused k) e b f h = absurd ((rw e at h) none-room)
     by-checks (good c) e false f h = absurd ((rw (e, f) at h) none-room)
@@ -66,7 +66,7 @@ pub records-alike : (l : Lent) (w v : World) (n a b c d : ℕ) → callOf l v (r
     → ((p : Part) → callOf l w (expand n) .reply ≡ answered (part p) (w .session) → callOf l v (expand n) .reply ≡ callOf l w (expand n) .reply)
     → recordsWords l (sessionWords (v .session)) (c ∷ d ∷ []) (v .memory) n ≡ recordsWords l (sessionWords (w .session)) (a ∷ b ∷ []) (w .memory) n
 unfolding callOf recordsWords
-records-alike l w v n a b c d same again = ap partWords (go (ℕ-discrete (roomOf 5 (recordsOf l (w .session) (w .memory) n)) 0))
+records-alike l w v n a b c d same again = ap partWords (go (ℕ-discrete (roomOf trSize (recordsOf l (w .session) (w .memory) n)) 0))
   where
     words : recordsOf l (v .session) (v .memory) n ≡ recordsOf l (w .session) (w .memory) n
     words = words-said same
@@ -74,9 +74,9 @@ records-alike l w v n a b c d same again = ap partWords (go (ℕ-discrete (roomO
     first : Part
     first = handedPart (w .memory .states) n (recordsOf l (w .session) (w .memory) n)
 
-    go : Dec (roomOf 5 (recordsOf l (w .session) (w .memory) n) ≡ 0) → handedPart (v .memory .states) n (recordsOf l (v .session) (v .memory) n) ≡ first
+    go : Dec (roomOf trSize (recordsOf l (w .session) (w .memory) n) ≡ 0) → handedPart (v .memory .states) n (recordsOf l (v .session) (v .memory) n) ≡ first
     go (yes z) = rw (words, eq-eqb _ 0 z)
     go (no z) =
         let p = ap (λ (o : Outcome Part). turnOf part o .reply) (names-part l (w .session) (w .memory) n z) in
-        let q = ap (λ (o : Outcome Part). turnOf part o .reply) (names-part l (v .session) (v .memory) n (λ y. z (sym (ap (roomOf 5) words) ∙ y))) in
+        let q = ap (λ (o : Outcome Part). turnOf part o .reply) (names-part l (v .session) (v .memory) n (λ y. z (sym (ap (roomOf trSize) words) ∙ y))) in
         part-said (sym q ∙ again first p ∙ p)

@@ -1,4 +1,5 @@
 pub mod WordLaws
+pub mod TrustedLaws
 pub mod Numbers
 pub mod CallerLaws
 pub mod HandedLaws

@@ -1,12 +1,11 @@
 -- Nine words and a session are the same thing, written either way.
 use mathlib.Core.Path.{_≡_, refl, ap, _∙_}
 use mathlib.Core.Bool.{true, _&&_}
-use mathlib.Core.List.{List, [], _∷_, _++_, append-nil}
-use Prim.Native.Nat.{ℕ, zero, suc, _+_}
+use mathlib.Core.List.{List, [], _∷_}
+use Prim.Native.Nat.{ℕ, zero, suc}
 use native.Mathlib.Omega.{arith}
 use mathlib.Core.Option.{Option}
-use lib.ListN.{length, getD, drop-of-length-le}
-use lib.Seq.{sets, sets-eq}
+use lib.ListN.{length, getD}
 use borrow.Author.Tests.{eqb-true}
 use Rattle.lists.proofs.Members.{and-left, and-right}
 use Rattle.words.specs.Labels.{Checked, good, refused, andThen}
@@ -39,10 +38,6 @@ session-of-words s = refl
 -- nine words that are read and written again
 pub words-of-session : (w : List ℕ) → length w ≡ 9 → sessionWords (sessionAt w) ≡ w
 words-of-session w e = reads-all w 9 e
-
--- all words of a slice, written one after the other
-pub sets-all : (w r : List ℕ) → length w ≡ length r → sets w 0 r ≡ r
-sets-all w r e = sets-eq r w 0 (omega (arith, e)) ∙ ap (λ (q : List ℕ). r ++ q) (drop-of-length-le w {i = 0 + length r} (omega (arith, e))) ∙ append-nil r
 
 -- session and answer have their lengths
 pub both-sized : (w old : List ℕ) → nine w && two old ≡ true → (length w ≡ 9) × (length old ≡ 2)

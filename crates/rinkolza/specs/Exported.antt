@@ -1,7 +1,6 @@
 -- The calls of 01, "Session and memory" and "Answers", as C functions have them: the session, the settings and the answers are words in lent slices.
 use mathlib.Core.Bool.{Bool, true, false, not, _&&_, cond}
 use mathlib.Core.List.{List, [], _∷_, _++_}
-use mathlib.Core.Option.{Option, none, some}
 use Prim.Native.Nat.{ℕ}
 use lib.Dec.{eqb}
 use lib.ListN.{length, getD}
@@ -13,6 +12,7 @@ use Rattle.calls.specs.Sequences.{Said, refusal, accepted, part, weight, saidOf
 use Rattle.calls.specs.Listing.{settingsSize, settingsOf}
 use Rattle.lazy_fst.specs.Meaning.{lentWith}
 use Rattle.lazy_fst.specs.declared.AllowedLists.{AllowedLists}
+use Rattle.final_weights.specs.Weights.{weightWords}
 
 -- "kind, filter, sigma 1, mode 1, sigma 2, mode 2"; `settingsOf` reads them
 abbrev pub settingsWords : Settings → List ℕ
@@ -63,11 +63,6 @@ numberOf (weight w) = 0
 -- "Expand answers their first and count"
 abbrev pub partWords : Part → List ℕ
 partWords p = p .first ∷ p .count ∷ []
-
--- 1 and the weight; two zeros where the composed state is not final
-abbrev pub weightWords : Option ℕ → List ℕ
-weightWords (some w) = 1 ∷ w ∷ []
-weightWords none = 0 ∷ 0 ∷ []
 
 -- the answer's words: a refused call leaves them as they were
 abbrev pub answerOf : List ℕ → Said → List ℕ

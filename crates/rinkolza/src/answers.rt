@@ -5,10 +5,13 @@ ghost use lib.ListN.{length};
 ghost use Rattle.calls.specs.Store.{Memory};
 ghost use Rattle.calls.specs.Sequences.{accepted, part, weight};
 ghost use Rattle.lazy_fst.specs.Meaning.{left, partLeft, weightLeft};
+ghost use Rattle.rinkolza.specs.Trusted.{pieceLeft};
 ghost use Rattle.rinkolza.specs.Exported.{leaves, inWords, sessionWords, partWords, handedPart};
+use crate::slices::USED_STATES;
 use crate::slices::write_answer;
 use crate::slices::write_session;
 use fst::StateId;
+use fst::word;
 use lazy_fst::Answer;
 use lazy_fst::PartAnswer;
 use lazy_fst::WeightAnswer;
@@ -48,6 +51,21 @@ pub fn leave_part(session: &mut [u32], words: &mut [u32], answer: PartAnswer) ->
             k
         }
     }
+}
+
+// Of a piece of a run: the session; the state with which the next piece goes on, and how many found states there are from it on.
+pub fn leave_piece(session: &mut [u32], words: &mut [u32], next: StateId, answer: Answer) -> u32
+    requires { ⌜ (length (now session) ≡ 9) × (length (now words) ≡ 2) ⌝ }
+    ensures { λ r. ⌜ ((m : Memory) → leaves r (now (session .exit)) (now (words .exit)) m ≡ pieceLeft (next .0) (left answer m)) ⌝ }
+{
+    let number = leave(session, answer);
+    let found = word(session, USED_STATES);
+    if found <= next.0 {
+        write_answer(words, next.0, 0);
+    } else {
+        write_answer(words, next.0, found - next.0);
+    }
+    number
 }
 
 // Of final weight: whether the state is final, and its weight. The session that it hands back is the one that it got.

@@ -1,6 +1,8 @@
-// The five calls for C and Rust: `include/rinkolza.h` says what each word and number means. None has a precondition.
+// The five calls for C and Rust: `include/rinkolza.h` says what each word and number means. None of this file has a precondition; those of `trusted`, for a caller that owns its
+// memory, ask that the checks 1 to 8 pass.
 mod answers;
 mod slices;
+mod trusted;
 
 ghost use mathlib.Core.Path.{_≡_};
 ghost use mathlib.Core.List.{[]};

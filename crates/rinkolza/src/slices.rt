@@ -15,6 +15,9 @@ pub const SESSION_WORDS: usize = 9;
 
 pub const ANSWER_WORDS: usize = 2;
 
+// The place of the used states in a session.
+pub const USED_STATES: usize = 7;
+
 // Whether session and answer have their lengths.
 pub fn sized(session: &[u32], answer: &[u32]) -> bool
     ensures { λ r. ⌜ r ≡ (nine (now (session .entry)) && two (now (answer .entry))) ⌝ }
@@ -34,7 +37,7 @@ pub fn read_session(words: &[u32]) -> Session
         settings,
         side: word(words, 6),
         used: Used {
-            states: word(words, 7),
+            states: word(words, USED_STATES),
             trs: word(words, 8),
         },
     }
@@ -54,7 +57,7 @@ pub fn write_session(words: &mut [u32], session: Session)
     words[4] = settings.sigma2.0;
     words[5] = settings.mode2;
     words[6] = session.side;
-    words[7] = used.states;
+    words[USED_STATES] = used.states;
     words[8] = used.trs;
 }
 

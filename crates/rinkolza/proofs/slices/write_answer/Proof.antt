@@ -1,7 +1,7 @@
 -- Two words are the whole slice.
 use mathlib.Core.List.{[], _∷_}
 use denote.Ref.{now}
-use Rattle.rinkolza.proofs.WordLaws.{sets-all}
+use Rattle.final_weights.proofs.WordLaws.{sets-all}
 use borrow.Author.Needs.{needs}
 use Rattle.rinkolza.proofs.slices.write_answer.Statement.{statement}
 use Rattle.rinkolza.proofs.slices.write_answer.Tie as tie

@@ -3,8 +3,8 @@ use native.Mathlib.Omega.{arith}
 use lib.ListN.{length-set}
 use denote.Ref.{now}
 use Rattle.lazy_fst.specs.Meaning.{sessionMeans}
+use Rattle.final_weights.proofs.WordLaws.{sets-all}
 use Rattle.rinkolza.specs.Exported.{sessionWords}
-use Rattle.rinkolza.proofs.WordLaws.{sets-all}
 use borrow.Author.Needs.{needs}
 use Rattle.rinkolza.proofs.slices.write_session.Statement.{statement}
 use Rattle.rinkolza.proofs.slices.write_session.Tie as tie
