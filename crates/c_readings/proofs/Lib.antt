@@ -1,1 +1,3 @@
 pub mod LargerRecords
+pub mod Trusted
+pub mod TrustedCase
