@@ -3,8 +3,10 @@
  *
  * The library is an archive made by `rt staticlib rinkolza` from the crate
  * crates/rinkolza, for x86-64 Linux. Every function below is proved to meet
- * its contract (crates/rinkolza/src/lib.rt), an equation with the definitions
- * in crates/rinkolza/specs/Exported.antt and crates/calls/specs.
+ * its contract (crates/rinkolza/src), an equation with the definitions in
+ * crates/rinkolza/specs and crates/calls/specs. Five of them check all that
+ * they are given; the five rinkolza_trusted_... do not, and may be called by
+ * those alone who own their memory, see below.
  *
  * ---------------------------------------------------------------------------
  * Rules for every call
@@ -15,21 +17,23 @@
  *   it, and it may be NULL.
  * - A slice that is not const must not overlap any other slice of the same
  *   call. Slices that are const may overlap each other.
- * - Nothing else is asked of a caller: any words in any slice, of any length,
- *   and any number are answered. Bad machines, settings, sessions, memory and
- *   lengths get a refusal.
+ * - The five functions that check ask nothing else of a caller: any words in
+ *   any slice, of any length, and any number are answered. Bad machines,
+ *   settings, sessions, memory and lengths get a refusal.
  * - There is no global state, no allocation and no input or output. A call
  *   writes to nothing but the slices that are not const. Two threads may call
  *   at the same time, as long as no slice that one call may write is lent to
  *   the other.
  * - A call returns 0 where it is accepted, else the number of the refusal
  *   (RINKOLZA_REFUSED_..., 1 to 13). A refused call changes no word of any
- *   slice. The one exception is rinkolza_run: refused at a state, it keeps
- *   the expansions before it, with the session that belongs to them.
- *   rinkolza_records returns no number.
- * - Lengths: settings has 6 words, session 9, answer 2. With any other length
- *   the call is refused with 1 and changes nothing (rinkolza_records: see
- *   there).
+ *   slice. The exceptions are rinkolza_run and rinkolza_trusted_run: refused
+ *   at a state, they keep the expansions before it, with the session that
+ *   belongs to them. The two for records return no number.
+ * - Lengths: settings has 6 words, session 9, answer 2 (the answer of
+ *   rinkolza_trusted_final_weights: 2 for each found state). With any other
+ *   length the call is refused with 1 and changes nothing (rinkolza_records:
+ *   see there).
+ * - No call uses more than 16 KiB of stack.
  *
  * ---------------------------------------------------------------------------
  * A machine in words (const, both machines, lent at every call)
@@ -127,9 +131,9 @@
  *     7       used states: state records in use
  *     8       used transitions: transition records in use
  *
- * rinkolza_open writes it, an accepted rinkolza_expand and rinkolza_run carry
- * it on. Give every call the session as the call before it left it. Before
- * the first opening its words may be anything.
+ * rinkolza_open writes it, expansions and runs carry it on. Give every call the
+ * session as the call before it left it. Before the first opening its words may
+ * be anything.
  *
  * ---------------------------------------------------------------------------
  * Memory: three slices, lent at every call of a session
@@ -155,14 +159,40 @@
  * Room is whole records: states_len / 5 and trs_len / 5, of each at most
  * RINKOLZA_LIMIT; what is past that is never read or written. A composition
  * has at most 3 S1 S2 states. There is no bound for its transitions that is
- * worth lending at once: where a call is refused with 13, open again with
- * larger slices and make the calls again (tests/c_grow.c does so). With no slice
- * shorter every call answers as before, up to where the smaller memory was
- * refused with 13.
+ * worth lending at once: where a call is refused with 13, lengthen states and
+ * trs at their ends and call again (tests/c_grow.c does so). A copy will do, or
+ * realloc; the words behind may be anything. The heads stay as they are, the
+ * same number and words, so lend enough of them at the opening: as many as
+ * states are expected, or some 16384. Only an opening that is refused with 13
+ * is made again with more heads and a state record. Slices may be lengthened at
+ * any time: every call then answers as it would have, or goes on where it would
+ * have been refused with 13, and what was given is given again.
  *
  * Before the opening the words of memory may be anything. After it, nobody
  * but these calls may write to memory, or the answers are those of whatever
  * stands there; where the form is broken the call is refused with 8.
+ *
+ * ---------------------------------------------------------------------------
+ * Calls for a caller that owns its memory
+ *
+ * A call that checks goes through both machines and all used memory, whatever
+ * it is asked for. The functions rinkolza_trusted_... answer the same without
+ * the checks 1 to 8, so that states may be expanded one by one at the cost of a
+ * run. They ask that these checks pass. That is proved (OwnedClaim in
+ * crates/readings/specs/Owned.antt) for a caller that after an accepted
+ * rinkolza_open keeps to this:
+ *
+ * - every call, of whatever sort, accepted or refused, gets the machines and the
+ *   allowed lists, with has1 and has2, that this opening got; but a further
+ *   opening may get others, and where it is accepted all begins anew;
+ * - it gets the session, the heads, the states and the trs as the call before
+ *   left them, or the states and trs lengthened at their ends;
+ * - nobody but these calls writes to any of them.
+ *
+ * The words count, not where they stand: copies will do. Anything else is
+ * undefined behaviour, and words outside of the slices may be read and written.
+ * Where others may write machines, session or memory, or they come from a file,
+ * make the calls that check.
  *
  * ---------------------------------------------------------------------------
  * The order of the checks
@@ -176,6 +206,7 @@
  *   rinkolza_final_weight  1 to 9, then 12
  *   rinkolza_run           1 to 8, then as for the expansions that it makes
  *   rinkolza_records       1 to 9, each of which gives an empty part
+ *   rinkolza_trusted_...   1 for lengths, then as above from 9 on
  */
 #ifndef RINKOLZA_H
 #define RINKOLZA_H
@@ -351,6 +382,93 @@ void rinkolza_records(const uint32_t *session, size_t session_len,
                       const uint32_t *trs, size_t trs_len,
                       uint32_t n,
                       uint32_t *answer, size_t answer_len);
+
+/*
+ * As rinkolza_expand, without the checks 1 to 8, which must pass.
+ * Refusals: 1 for a length, 9 to 13.
+ */
+uint32_t rinkolza_trusted_expand(uint32_t *session, size_t session_len,
+                                 const uint32_t *m1, size_t m1_len,
+                                 const uint32_t *m2, size_t m2_len,
+                                 const uint32_t *allowed1, size_t allowed1_len, uint32_t has1,
+                                 const uint32_t *allowed2, size_t allowed2_len, uint32_t has2,
+                                 uint32_t *heads, size_t heads_len,
+                                 uint32_t *states, size_t states_len,
+                                 uint32_t *trs, size_t trs_len,
+                                 uint32_t n,
+                                 uint32_t *answer, size_t answer_len);
+
+/*
+ * As rinkolza_final_weight, without the checks 1 to 8, which must pass.
+ * Refusals: 1 for a length, 9, 12.
+ */
+uint32_t rinkolza_trusted_final_weight(const uint32_t *session, size_t session_len,
+                                       const uint32_t *m1, size_t m1_len,
+                                       const uint32_t *m2, size_t m2_len,
+                                       const uint32_t *allowed1, size_t allowed1_len, uint32_t has1,
+                                       const uint32_t *allowed2, size_t allowed2_len, uint32_t has2,
+                                       const uint32_t *heads, size_t heads_len,
+                                       const uint32_t *states, size_t states_len,
+                                       const uint32_t *trs, size_t trs_len,
+                                       uint32_t n,
+                                       uint32_t *answer, size_t answer_len);
+
+/*
+ * As rinkolza_records, without the checks 1 to 8, which must pass.
+ */
+void rinkolza_trusted_records(const uint32_t *session, size_t session_len,
+                              const uint32_t *m1, size_t m1_len,
+                              const uint32_t *m2, size_t m2_len,
+                              const uint32_t *allowed1, size_t allowed1_len, uint32_t has1,
+                              const uint32_t *allowed2, size_t allowed2_len, uint32_t has2,
+                              const uint32_t *heads, size_t heads_len,
+                              const uint32_t *states, size_t states_len,
+                              const uint32_t *trs, size_t trs_len,
+                              uint32_t n,
+                              uint32_t *answer, size_t answer_len);
+
+/*
+ * The final weights of all found states in one go, without the checks 1 to 8,
+ * which must pass. The answer has exactly 2 words for each found state:
+ * answer[2 * n] and answer[2 * n + 1] are what rinkolza_final_weight answers
+ * for state n. Session and memory stay as they are.
+ * Refusals: 1 for a length, 12 where any of the weights is too large; the
+ * answer is then not written to.
+ */
+uint32_t rinkolza_trusted_final_weights(const uint32_t *session, size_t session_len,
+                                        const uint32_t *m1, size_t m1_len,
+                                        const uint32_t *m2, size_t m2_len,
+                                        const uint32_t *allowed1, size_t allowed1_len, uint32_t has1,
+                                        const uint32_t *allowed2, size_t allowed2_len, uint32_t has2,
+                                        const uint32_t *heads, size_t heads_len,
+                                        const uint32_t *states, size_t states_len,
+                                        const uint32_t *trs, size_t trs_len,
+                                        uint32_t *answer, size_t answer_len);
+
+/*
+ * A piece of a run, without the checks 1 to 8, which must pass: from state n
+ * on, in number order, at most k states are expanded, until none is left or one
+ * is refused. A state that is expanded already counts as one of the k; to pass
+ * it costs no more than to read its flag. Refused at a state (10 to 13), it
+ * keeps the expansions before it: session and memory are then as those left
+ * them. Accepted or refused so, answer[0] is the state with which the next piece
+ * goes on, the refused one or the one after the last that was passed, and
+ * answer[1] how many found states there are from it on; 0: none is left. From
+ * n = 0 with k = RINKOLZA_MAX it is a whole run. Where n is not below the used
+ * states nothing is done, and the answer is n and 0.
+ * Refusals: 1 for a length, and then nothing changes; 10 to 13.
+ */
+uint32_t rinkolza_trusted_run(uint32_t *session, size_t session_len,
+                              const uint32_t *m1, size_t m1_len,
+                              const uint32_t *m2, size_t m2_len,
+                              const uint32_t *allowed1, size_t allowed1_len, uint32_t has1,
+                              const uint32_t *allowed2, size_t allowed2_len, uint32_t has2,
+                              uint32_t *heads, size_t heads_len,
+                              uint32_t *states, size_t states_len,
+                              uint32_t *trs, size_t trs_len,
+                              uint32_t n,
+                              uint32_t k,
+                              uint32_t *answer, size_t answer_len);
 
 #ifdef __cplusplus
 }

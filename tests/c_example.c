@@ -1,5 +1,6 @@
 /* Calls the library from C: document 01's case 1, listed and compared with 01's listing by tests/c_example.sh; then slices of every short length and damaged words, where it checks that a
- * refused call changes nothing. It prints the listing, then what it counted; it ends with 1 at the first thing that is wrong. */
+ * refused call changes nothing. Where the checks 1 to 8 pass, it makes the call that does not check too, on a copy of the same words, and compares all that the two leave.
+ * It prints the listing, then what it counted; it ends with 1 at the first thing that is wrong. */
 #define _DEFAULT_SOURCE
 #include <stdio.h>
 #include <stdlib.h>
@@ -82,9 +83,10 @@ typedef struct {
 #define SLICES 9
 #define PAGES 8
 
+/* Slice `which`, or a second one of the sort at SLICES + `which`: `held` words of `from`, then others. */
 static slice lend(int which, const uint32_t *from, size_t n, size_t held) {
-    static unsigned char *ends[SLICES];
-    static uint32_t olds[SLICES][5 * RECORDS];
+    static unsigned char *ends[2 * SLICES];
+    static uint32_t olds[2 * SLICES][5 * RECORDS];
     slice s;
     size_t i;
     if (ends[which] == NULL) {
@@ -112,7 +114,55 @@ static uint32_t draw(void) {
     return seed >> 8;
 }
 
-static unsigned long calls, refused;
+static unsigned long calls, refused, trusted;
+
+/* What a call after the opening is lent, the slices in the order of `all` below; without the session, and with it. */
+#define REST(x) (x)[2].w, (x)[2].n, (x)[3].w, (x)[3].n, (x)[8].w, (x)[8].n, has, (x)[8].w, (x)[8].n, has, (x)[4].w, (x)[4].n, (x)[5].w, (x)[5].n, (x)[6].w, (x)[6].n
+#define LENT(x) (x)[1].w, (x)[1].n, REST(x)
+
+/* Whether the checks 1 to 8 pass, for a session of another length with the words that it has and 0 for those that it lacks. */
+static int passes(const slice *x, uint32_t has) {
+    uint32_t nine[9] = {0}, two[2], r;
+    memcpy(nine, x[1].w, (x[1].n < 9 ? x[1].n : 9) * sizeof(uint32_t));
+    r = rinkolza_final_weight(nine, 9, REST(x), 0, two, 2);
+    return r == 0 || r >= 9;
+}
+
+/* All final weights in one go: as one by one. */
+static void weigh(const slice *x, uint32_t has, uint32_t used) {
+    static uint32_t all[2 * RECORDS + 1];
+    uint32_t n, r = 0, two[2], got;
+    memset(all, 77, sizeof all);
+    got = rinkolza_trusted_final_weights(LENT(x), all, 2 * used);
+    for (n = 0; n < used && r == 0; n++) {
+        r = rinkolza_final_weight(LENT(x), n, two, 2);
+        if (got == 0) need(all[2 * n] == two[0] && all[2 * n + 1] == two[1], "all final weights: a weight");
+    }
+    need(r == got && all[2 * used] == 77 * UINT32_C(16843009), "all final weights");
+    need(got == 0 || used == 0 || all[0] == 77 * UINT32_C(16843009), "all final weights: refused and written");
+    need(rinkolza_trusted_final_weights(LENT(x), all, 2 * used + 1) == 1, "all final weights: length");
+}
+
+/* The call that does not check, on copies of the words that `x` had at the call's entry: it leaves what the call that checks left in `x`, and returns the same. */
+static void trust(int call, const slice *x, uint32_t n, uint32_t has, uint32_t r) {
+    slice y[SLICES];
+    uint32_t got = 0, next[2] = {0, 0};
+    int i;
+    for (i = 0; i < SLICES; i++) y[i] = lend(SLICES + i, x[i].old, x[i].n, x[i].n);
+    if (!passes(y, has)) return;
+    switch (call) {
+    case 1: got = rinkolza_trusted_expand(LENT(y), n, y[7].w, y[7].n); break;
+    case 2: got = rinkolza_trusted_final_weight(LENT(y), n, y[7].w, y[7].n); break;
+    case 3: got = rinkolza_trusted_run(LENT(y), 0, RINKOLZA_MAX, next, 2); break;
+    default: rinkolza_trusted_records(LENT(y), n, y[7].w, y[7].n); break;
+    }
+    trusted++;
+    need(got == r, "the call that does not check returns another number");
+    for (i = 0; i < SLICES; i++) need(memcmp(x[i].w, y[i].w, x[i].n * sizeof(uint32_t)) == 0, "the call that does not check leaves other words");
+    if (y[1].n != 9) return;
+    weigh(y, has, y[1].w[RINKOLZA_SESSION_USED_STATES]);
+    if (call == 3) need(next[1] == y[1].w[RINKOLZA_SESSION_USED_STATES] - next[0] && (r != 0) == (next[1] > 0) && (r == 0 || y[5].w[5 * next[0] + 2] == 0), "where a run stopped");
+}
 
 /* All five calls on fresh copies of the words, with slices of the given lengths and, where `damage` is not 0, some words replaced. */
 static void all_calls(size_t settings_len, size_t session_len, size_t answer_len, size_t heads_len, size_t states_len, size_t trs_len, int damage) {
@@ -134,11 +184,12 @@ static void all_calls(size_t settings_len, size_t session_len, size_t answer_len
         }
         switch (call) {
         case 0: r = rinkolza_open(six.w, six.n, s.w, s.n, x.w, x.n, y.w, y.n, l.w, l.n, has, l.w, l.n, has, h.w, h.n, st.w, st.n, t.w, t.n); break;
-        case 1: r = rinkolza_expand(s.w, s.n, x.w, x.n, y.w, y.n, l.w, l.n, has, l.w, l.n, has, h.w, h.n, st.w, st.n, t.w, t.n, n, a.w, a.n); break;
-        case 2: r = rinkolza_final_weight(s.w, s.n, x.w, x.n, y.w, y.n, l.w, l.n, has, l.w, l.n, has, h.w, h.n, st.w, st.n, t.w, t.n, n, a.w, a.n); break;
-        case 3: r = rinkolza_run(s.w, s.n, x.w, x.n, y.w, y.n, l.w, l.n, has, l.w, l.n, has, h.w, h.n, st.w, st.n, t.w, t.n); break;
-        default: rinkolza_records(s.w, s.n, x.w, x.n, y.w, y.n, l.w, l.n, has, l.w, l.n, has, h.w, h.n, st.w, st.n, t.w, t.n, n, a.w, a.n); break;
+        case 1: r = rinkolza_expand(LENT(all), n, a.w, a.n); break;
+        case 2: r = rinkolza_final_weight(LENT(all), n, a.w, a.n); break;
+        case 3: r = rinkolza_run(LENT(all)); break;
+        default: rinkolza_records(LENT(all), n, a.w, a.n); break;
         }
+        if (call != 0) trust(call, all, n, has, r);
         calls++;
         refused += r != 0;
         need(r <= 13, "a number of no refusal");
@@ -180,6 +231,7 @@ int main(void) {
     for (round = 0; round < 20000; round++) {
         all_calls(6, 9, 2, 1 + draw() % 4, draw() % 40, draw() % 40, (int)(draw() % 4));
     }
-    fprintf(stderr, "%lu calls, %lu refused\n", calls, refused);
+    need(trusted > 10000, "few calls that do not check");
+    fprintf(stderr, "%lu calls, %lu refused, %lu made without checks too\n", calls, refused, trusted);
     return 0;
 }

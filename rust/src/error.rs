@@ -65,6 +65,11 @@ impl Refusal {
         ALL.into_iter().find(|refusal| refusal.number() == number)
     }
 
+    /// The refusal that the library answered: it answers 0 or a refusal's number and nothing else.
+    pub(crate) fn known(number: u32) -> Refusal {
+        Refusal::from_number(number).unwrap_or(Refusal::Broken)
+    }
+
     /// What the refusal means, in words.
     pub fn meaning(self) -> &'static str {
         match self {

@@ -1,19 +1,18 @@
 //! A composition that owns its memory.
 //!
 //! The library below works in memory that it is lent and refuses a call, 13, where a record is lacking. Here memory
-//! is owned: on 13 the composition is opened anew in larger memory, the calls made so far are made again in the
-//! same order, and the refused call is made again. It is proved of the library that larger memory yields the same
-//! answer to every call before the smaller one's first 13, so that what was answered before stays as it was.
+//! is owned: on 13 the state and transition records get more room behind and the refused call is made again. It is
+//! proved of the library that every call then answers as it would have and that what was answered before stays.
+//! Since nobody else writes what is owned, machines and memory are checked by the opening alone.
 
 #![forbid(unsafe_code)]
 
-use crate::error::{reserve, Error, Refusal};
+use crate::error::{Error, Refusal};
 use crate::machine::Machine;
 use crate::prepare::Inputs;
 use crate::settings::{Options, Room};
-use crate::sys::{self, Memory, Session};
-use crate::words::{self, Trs};
-use std::collections::hash_map::{Entry, HashMap};
+use crate::sys::Owned;
+use crate::words::Trs;
 use std::ops::Range;
 
 /// The side on which the machines are matched.
@@ -49,13 +48,6 @@ pub struct Progress {
     pub trs: u32,
 }
 
-/// A call that changed memory, to be made again in larger memory.
-#[derive(Clone, Copy, Debug, PartialEq, Eq)]
-enum Call {
-    Expand(u32),
-    Run,
-}
-
 /// Two machines being composed.
 ///
 /// ```
@@ -72,12 +64,9 @@ enum Call {
 /// ```
 #[derive(Clone, Debug)]
 pub struct Composition {
-    inputs: Inputs,
+    owned: Owned,
     room: Room,
     most: Room,
-    memory: Memory,
-    session: Session,
-    calls: Vec<Call>,
     growths: u32,
     next: u32,
 }
@@ -107,21 +96,15 @@ impl Composition {
     /// [`Error::Refused`] by the numbers 1 to 7 or 13; [`Error::Memory`] where there is no memory for the room.
     pub fn open_words(inputs: Inputs, room: Room, most: Room) -> Result<Composition, Error> {
         let (room, most) = (room.within(Room::LARGEST), most.within(Room::LARGEST));
-        let mut composition = Composition {
-            inputs,
-            room,
+        let owned = Owned::open(inputs, room, most)?;
+        let opened = owned.memory().room();
+        Ok(Composition {
+            owned,
+            room: opened,
             most,
-            memory: Memory::new(room)?,
-            session: Session::default(),
-            calls: Vec::new(),
-            growths: 0,
+            growths: u32::from(opened != room),
             next: 0,
-        };
-        match composition.begin() {
-            Err(Refusal::NoRoom) => composition.grow()?,
-            other => other.map_err(Error::refused)?,
-        }
-        Ok(composition)
+        })
     }
 
     /// Expands state n, where it is not yet, and gives its transitions.
@@ -130,16 +113,15 @@ impl Composition {
     ///
     /// [`Error::Refused`], with the state, by [`Refusal::NotFound`], [`Refusal::BothNeedMatching`],
     /// [`Refusal::SigmaWalked`], [`Refusal::TooLarge`] or, where no more room is left to grow, [`Refusal::NoRoom`];
-    /// [`Error::Memory`] where memory to grow is not to be had. The composition stays as it was.
+    /// [`Error::Memory`] where memory to grow is not to be had. The composition stays as it was and may be asked again.
     pub fn expand(&mut self, n: u32) -> Result<Trs<'_>, Error> {
-        let new = !self.is_expanded(n);
-        reserve(&mut self.calls, 1, "calls")?;
-        self.insist(|own| own.expand_once(n))
-            .map_err(|error| error.at(Some(n)))?;
-        if new {
-            self.calls.push(Call::Expand(n));
-        }
-        Ok(self.trs(n))
+        let (first, count) = loop {
+            match self.owned.expand(n) {
+                Ok(part) => break part,
+                Err(number) => self.make_room(number, n)?,
+            }
+        };
+        Ok(Trs::new(self.owned.memory().part(first, count)))
     }
 
     /// Expands all states, those that are found on the way too, in number order.
@@ -149,28 +131,24 @@ impl Composition {
     /// As for [`Composition::expand`] at one of the states, [`Refusal::NotFound`] apart; the states expanded before it
     /// stay.
     pub fn run(&mut self) -> Result<(), Error> {
-        reserve(&mut self.calls, 1, "calls")?;
-        let answer = self.insist(Composition::run_once);
-        if self.calls.last() != Some(&Call::Run) {
-            self.calls.push(Call::Run);
-        }
-        answer.map_err(|error| error.at(self.first_unexpanded()))
+        self.piece(u32::MAX)
     }
 
-    /// Expands at most `count` states, the lowest numbers first, as a run does; says how far it has come. Each step
-    /// checks machines and memory again, so that a run is faster.
+    /// Expands at most `count` states, the lowest numbers first, as a run does; says how far it has come.
     ///
     /// # Errors
     ///
     /// As for [`Composition::run`].
     pub fn step(&mut self, count: u32) -> Result<Progress, Error> {
-        for _ in 0..count {
-            match self.first_unexpanded() {
-                None => break,
-                Some(n) => self.expand(n)?,
-            };
+        let mut left = count;
+        loop {
+            let stretch = self.stretch(left);
+            if stretch == 0 {
+                return Ok(self.progress());
+            }
+            self.piece(stretch)?;
+            left -= stretch;
         }
-        Ok(self.progress())
     }
 
     /// Runs in steps of `every` states (at least one) and tells `show` after each how far it has come.
@@ -194,24 +172,16 @@ impl Composition {
     ///
     /// [`Error::Refused`], with the state, by [`Refusal::NotFound`] or [`Refusal::TooLarge`].
     pub fn final_weight(&self, n: u32) -> Result<Option<u32>, Error> {
-        sys::final_weight(&self.inputs.lent(), &self.session, &self.memory, n)
-            .map_err(|number| Error::refused(known(number)).at(Some(n)))
+        let weight = self.owned.final_weight(n);
+        weight.map_err(|number| Error::refused(Refusal::known(number)).at(Some(n)))
     }
 
     /// The transitions of state n, where it is expanded; else none.
-    ///
-    /// They are read where they stand in memory, which nobody else writes: the same as the call for records hands
-    /// back, without its checks of machines and memory.
     pub fn trs(&self, n: u32) -> Trs<'_> {
-        match self.record(n) {
-            Some(record) => Trs::new(run_of(&self.memory.trs, record[3])),
-            None => Trs::new(&[]),
-        }
+        Trs::new(self.owned.records(n))
     }
 
     /// The composed machine as far as it is expanded; its states are those found, 0 the start.
-    ///
-    /// A state's final weight depends on the final weights of its two states alone: each pair of these is asked for once.
     ///
     /// # Errors
     ///
@@ -219,18 +189,13 @@ impl Composition {
     /// the machine.
     pub fn machine(&self) -> Result<Machine, Error> {
         let mut machine = Machine::new();
-        let mut asked = HashMap::new();
         for _ in self.states() {
             machine.add_state()?;
         }
-        for n in self.states() {
+        for (n, weight) in self.states().zip(self.owned.final_weights()?) {
             for tr in self.trs(n) {
                 machine.add_tr(n, tr)?;
             }
-            let weight = match asked.entry(self.ends(n)) {
-                Entry::Occupied(known) => *known.get(),
-                Entry::Vacant(new) => *new.insert(self.final_weight(n)?),
-            };
             machine.set_final(n, weight)?;
         }
         machine.set_start((self.found() > 0).then_some(0))?;
@@ -239,7 +204,7 @@ impl Composition {
 
     /// The side on which the machines are matched.
     pub fn side(&self) -> Side {
-        match self.session.side() {
+        match self.owned.session().side() {
             0 => Side::Input,
             1 => Side::Output,
             _ => Side::Both,
@@ -253,12 +218,12 @@ impl Composition {
 
     /// How many states are found.
     pub fn found(&self) -> u32 {
-        self.session.used_states()
+        self.owned.session().used_states()
     }
 
     /// How many transitions are stored.
     pub fn tr_count(&self) -> u32 {
-        self.session.used_trs()
+        self.owned.session().used_trs()
     }
 
     /// Whether state n is found and expanded.
@@ -295,13 +260,8 @@ impl Composition {
         }
     }
 
-    /// The lowest state that is found and not expanded; the next search begins there, since expanded states stay so.
-    fn first_unexpanded(&mut self) -> Option<u32> {
-        self.next = self.lowest_unexpanded();
-        (self.next < self.found()).then_some(self.next)
-    }
-
-    /// The lowest number that is not an expanded state's.
+    /// The lowest number that is not an expanded state's; the search begins where one ended before, since expanded
+    /// states stay so.
     fn lowest_unexpanded(&self) -> u32 {
         let mut n = self.next;
         while self.is_expanded(n) {
@@ -310,93 +270,57 @@ impl Composition {
         n
     }
 
-    /// The final weights of the two states that state n is made of.
-    fn ends(&self, n: u32) -> Option<[Option<u32>; 2]> {
-        let triple = self.triple(n)?;
-        Some([
-            words::final_weight(&self.inputs.first, triple.first),
-            words::final_weight(&self.inputs.second, triple.second),
-        ])
+    /// How many states are found and not expanded, from the lowest such up to the next that is expanded; at most so many.
+    fn stretch(&self, most: u32) -> u32 {
+        let lowest = self.lowest_unexpanded();
+        let end = self.found().min(lowest.saturating_add(most));
+        let unexpanded = (lowest..end).take_while(|&n| !self.is_expanded(n));
+        unexpanded.count() as u32
     }
 
     fn record(&self, n: u32) -> Option<&[u32]> {
         if n >= self.found() {
             return None;
         }
-        self.memory.states.chunks_exact(5).nth(n as usize)
+        self.owned.memory().states.chunks_exact(5).nth(n as usize)
     }
 
-    /// Makes a call; on 13 again in larger memory, until there is no larger.
-    fn insist(
-        &mut self,
-        call: impl Fn(&mut Composition) -> Result<(), Refusal>,
-    ) -> Result<(), Error> {
+    /// A piece of a run: at most k states, from the lowest that is not expanded on. Where room is lacking it grows and
+    /// goes on.
+    fn piece(&mut self, k: u32) -> Result<(), Error> {
+        self.next = self.lowest_unexpanded();
+        let end = self.next.saturating_add(k);
         loop {
-            match call(self) {
-                Err(Refusal::NoRoom) if self.room.larger(self.most).is_some() => self.grow()?,
-                other => return other.map_err(Error::refused),
+            let piece = self.owned.run_from(self.next, end - self.next);
+            self.next = piece.next;
+            match piece.refused {
+                None => return Ok(()),
+                Some(number) => self.make_room(number, piece.next)?,
             }
         }
     }
 
-    /// Opens anew in larger memory and makes the same calls again.
-    fn grow(&mut self) -> Result<(), Error> {
-        loop {
-            let larger = self.room.larger(self.most);
-            let larger = larger.ok_or(Error::refused(Refusal::NoRoom))?;
-            self.memory = self.larger_memory(larger)?;
-            self.room = larger;
-            self.growths += 1;
-            match self.repeat() {
-                Err(Refusal::NoRoom) => continue,
-                other => return other.map_err(Error::refused),
-            }
+    /// After a call that was refused at state n: more room, where that is what is lacking; else the refusal.
+    fn make_room(&mut self, number: u32, n: u32) -> Result<(), Error> {
+        let refusal = Refusal::known(number);
+        match self.larger() {
+            Some(larger) if refusal == Refusal::NoRoom => self.grow(larger),
+            _ => Err(Error::refused(refusal).at(Some(n))),
         }
     }
 
-    /// Larger memory. Where it is not to be had all stays as it is, and grows no more: a run that stopped for want of
-    /// room must not be made again in more of it, where it would go on and give other numbers to what was found since.
-    fn larger_memory(&mut self, larger: Room) -> Result<Memory, Error> {
-        let memory = Memory::new(larger);
-        if memory.is_err() {
-            self.most = self.room;
-        }
-        memory
+    /// The room to grow into; heads stay as opened.
+    fn larger(&self) -> Option<Room> {
+        let heads = self.room.heads;
+        self.room.larger(Room { heads, ..self.most })
     }
 
-    fn repeat(&mut self) -> Result<(), Refusal> {
-        self.begin()?;
-        for k in 0..self.calls.len() {
-            match self.calls[k] {
-                Call::Expand(n) => self.expand_once(n)?,
-                // A run that was refused kept its expansions, and does so again.
-                Call::Run => drop(self.run_once()),
-            }
-        }
+    /// Grows. Where memory is not to be had all stays, and it may be asked for again.
+    fn grow(&mut self, larger: Room) -> Result<(), Error> {
+        self.owned.lengthen(larger.states, larger.trs)?;
+        self.room = larger;
+        self.growths += 1;
         Ok(())
-    }
-
-    fn begin(&mut self) -> Result<(), Refusal> {
-        let lent = self.inputs.lent();
-        accepted(sys::open(
-            &self.inputs.settings,
-            &lent,
-            &mut self.session,
-            &mut self.memory,
-        ))
-    }
-
-    fn expand_once(&mut self, n: u32) -> Result<(), Refusal> {
-        let lent = self.inputs.lent();
-        match sys::expand(&lent, &mut self.session, &mut self.memory, n) {
-            Ok(_) => Ok(()),
-            Err(number) => Err(known(number)),
-        }
-    }
-
-    fn run_once(&mut self) -> Result<(), Refusal> {
-        let lent = self.inputs.lent();
-        accepted(sys::run(&lent, &mut self.session, &mut self.memory))
     }
 }
 
@@ -420,29 +344,6 @@ pub fn compose(first: &Machine, second: &Machine, options: &Options) -> Result<M
     let mut composition = Composition::open(first, second, options)?;
     composition.run()?;
     composition.machine()
-}
-
-/// The words of a state's records: one after the other from `first` on, the last with next 0; none where `first` is 0.
-fn run_of(trs: &[u32], first: u32) -> &[u32] {
-    if first == 0 {
-        return &[];
-    }
-    let rest = trs.get(5 * (first as usize - 1)..).unwrap_or(&[]);
-    let links = rest.chunks_exact(5).take_while(|record| record[4] != 0);
-    let words = 5 * (links.count() + 1);
-    rest.get(..words).unwrap_or(&[])
-}
-
-fn accepted(number: u32) -> Result<(), Refusal> {
-    match number {
-        0 => Ok(()),
-        other => Err(known(other)),
-    }
-}
-
-/// The library answers 0 or a refusal's number and nothing else.
-fn known(number: u32) -> Refusal {
-    Refusal::from_number(number).unwrap_or(Refusal::Broken)
 }
 
 #[cfg(test)]
@@ -472,17 +373,23 @@ mod tests {
         let mut composition = Composition::open(&one, &chain(), &options).unwrap();
         composition.expand(0).unwrap();
         // Memory of this size is never to be had.
-        composition.room.heads = usize::MAX / 16;
-        composition.most.heads = usize::MAX;
+        composition.room.trs = usize::MAX / 16;
+        composition.most.trs = usize::MAX;
         let refused = composition.run().unwrap_err();
         assert!(
             matches!(refused, Error::Memory { what: "words", .. }),
             "{refused}"
         );
         assert_eq!((composition.found(), composition.tr_count()), (4, 3));
-        assert_eq!(composition.expand(0).unwrap().len(), 1);
-        let refused = composition.run().unwrap_err();
-        assert_eq!(refused.refusal(), Some(Refusal::NoRoom));
         assert_eq!(composition.growths(), 0);
+        assert_eq!(composition.owned.memory().room(), room);
+        assert_eq!(composition.expand(0).unwrap().len(), 1);
+        assert_eq!(composition.progress().expanded, 3);
+        // Asked again, when it is to be had, the run goes on.
+        composition.room = room;
+        composition.most = Room::LARGEST;
+        composition.run().unwrap();
+        assert_eq!((composition.found(), composition.tr_count()), (9, 8));
+        assert_eq!(composition.growths(), 2);
     }
 }

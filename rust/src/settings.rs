@@ -119,7 +119,7 @@ pub enum Sort {
 /// Room for a composition, in records.
 #[derive(Clone, Copy, Debug, PartialEq, Eq)]
 pub struct Room {
-    /// Heads of the state table; more of them make it faster.
+    /// Heads of the state table; more of them make it faster. An open composition keeps those that it was opened with.
     pub heads: usize,
     /// State records.
     pub states: usize,
@@ -144,7 +144,8 @@ impl Room {
         }
     }
 
-    /// Twice the room, within `most`; none where there is no more to be had.
+    /// Twice the room, within `most`; none where there is no more to be had. A composition takes it where a call lacks
+    /// room; once it is open, for records alone, with `most.heads` the heads that it has.
     pub fn larger(self, most: Room) -> Option<Room> {
         let more = |count: usize, most: usize| count.max(1).saturating_mul(2).min(most).max(count);
         let larger = Room {
@@ -180,7 +181,9 @@ pub struct Options {
     pub sigma2: Sigma,
     /// What is sorted first.
     pub sort: Sort,
-    /// The room to begin with; it grows where it does not suffice. What is above [`Room::LARGEST`] counts as that.
+    /// The room to begin with; records grow where they do not suffice. Heads stay as they are at the opening (16384 where
+    /// nothing is said, enough for as many states as a composition may have): with few heads for many states it is slow.
+    /// What is above [`Room::LARGEST`] counts as that.
     pub room: Room,
     /// The room beyond which it does not grow. What is above [`Room::LARGEST`] counts as that.
     pub most: Room,
@@ -195,7 +198,7 @@ impl Default for Options {
             sigma2: Sigma::default(),
             sort: Sort::default(),
             room: Room {
-                heads: 1024,
+                heads: 16384,
                 states: 1024,
                 trs: 4096,
             },
@@ -205,7 +208,8 @@ impl Default for Options {
 }
 
 impl Options {
-    /// Costs, the filter sequence, no sigma, sorted where needed, and room that grows up to [`Room::LARGEST`].
+    /// Costs, the filter sequence, no sigma, sorted where needed, 16384 heads, and records that grow up to
+    /// [`Room::LARGEST`].
     pub fn new() -> Options {
         Options::default()
     }
@@ -296,5 +300,19 @@ mod tests {
         }
         assert_eq!((room.heads, room.states, room.trs), (65535, 65535, 65535));
         assert!(steps < 20);
+    }
+
+    #[test]
+    fn heads_stay_where_they_are_the_most() {
+        let room = Options::default().room;
+        let most = Room {
+            heads: room.heads,
+            ..Room::LARGEST
+        };
+        let larger = room.larger(most).unwrap();
+        assert_eq!(
+            (larger.heads, larger.states, larger.trs),
+            (room.heads, 2 * room.states, 2 * room.trs)
+        );
     }
 }

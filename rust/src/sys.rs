@@ -1,11 +1,15 @@
-//! The library's five calls, made safe: the only place with `unsafe`. For those who keep memory of their own; others
-//! use [`Composition`](crate::Composition).
+//! The library's calls, made safe: the only place with `unsafe`. For those who keep memory of their own; others use
+//! [`Composition`](crate::Composition).
 //!
 //! `include/rinkolza.h` says what each call reads and writes. It asks two things of a caller, that each pointer
 //! points to as many words as its length says and that a slice that is written overlaps no other; Rust's slices and
-//! borrows give both. Any words are answered: machines, settings, sessions and memory may be damaged.
+//! borrows give both.
+//!
+//! The five functions here answer any words: machines, settings, sessions and memory may be damaged, and each call
+//! checks them anew. The calls that do not check are made by [`Owned`] alone, which nobody else can write to.
 
-use crate::error::{reserve, Error};
+use crate::error::{reserve, Error, Refusal};
+use crate::prepare::Inputs;
 use crate::settings::Room;
 
 /// What is lent at every call: the machines' words and the allowed lists.
@@ -45,6 +49,21 @@ impl Memory {
             trs: zeros(room.trs.saturating_mul(5))?,
         })
     }
+
+    /// The room: heads, and whole records of each sort.
+    pub fn room(&self) -> Room {
+        Room {
+            heads: self.heads.len(),
+            states: self.states.len() / 5,
+            trs: self.trs.len() / 5,
+        }
+    }
+
+    /// The words of so many transition records from this one on, counted from 1, as an expansion answers them.
+    pub fn part(&self, first: u32, count: u32) -> &[u32] {
+        let from = 5 * (first as usize).saturating_sub(1);
+        self.trs.get(from..from + 5 * count as usize).unwrap_or(&[])
+    }
 }
 
 fn zeros(count: usize) -> Result<Vec<u32>, Error> {
@@ -52,6 +71,11 @@ fn zeros(count: usize) -> Result<Vec<u32>, Error> {
     reserve(&mut words, count, "words")?;
     words.resize(count, 0);
     Ok(words)
+}
+
+/// How many words are lacking to so many records.
+fn lacking(words: &[u32], records: usize) -> usize {
+    records.saturating_mul(5).saturating_sub(words.len())
 }
 
 /// The nine words of a session: six settings, side, used states, used transitions.
@@ -178,7 +202,7 @@ pub fn final_weight(
         memory,
         [n, answer.as_mut_ptr(), answer.len()]
     ) {
-        0 => Ok((answer[0] == 1).then_some(answer[1])),
+        0 => Ok(weight_of(&answer)),
         refused => Err(refused),
     }
 }
@@ -202,13 +226,202 @@ pub fn records<'m>(lent: &Lent<'_>, session: &Session, memory: &'m Memory, n: u3
         memory,
         [n, answer.as_mut_ptr(), answer.len()]
     );
-    part(&memory.trs, answer[0] as usize, answer[1] as usize)
+    memory.part(answer[0], answer[1])
 }
 
-/// So many records from this one on, counted from 1.
-pub(crate) fn part(trs: &[u32], first: usize, count: usize) -> &[u32] {
-    let from = 5 * first.saturating_sub(1);
-    trs.get(from..from + 5 * count).unwrap_or(&[])
+/// A composition that owns its inputs, session and memory, so that its calls need not check them.
+///
+/// The calls that do not check ask that the checks 1 to 8 pass. That is proved (`OwnedClaim` in
+/// `crates/readings/specs/Owned.antt`) after an accepted opening, where every call gets the same machines and lists and
+/// the session and memory as the call before left them, or with words added behind the states and the transitions; and
+/// it holds here by construction: the one way to a value is an accepted opening (or a copy of a value, word for word),
+/// the fields are private, nothing hands out a way to write them, and only the calls and [`Owned::lengthen`] do.
+#[derive(Clone, Debug, PartialEq, Eq)]
+pub struct Owned {
+    inputs: Inputs,
+    session: Session,
+    memory: Memory,
+}
+
+/// How far a piece of a run came.
+#[derive(Clone, Copy, Debug, PartialEq, Eq)]
+pub struct Piece {
+    /// The refusal's number, 10 to 13, where the expansion of state `next` is refused.
+    pub refused: Option<u32>,
+    /// The state with which the next piece goes on.
+    pub next: u32,
+    /// How many found states there are from it on.
+    pub left: u32,
+}
+
+/// Calls a function that does not check.
+macro_rules! trusted {
+    ($name:ident, $ptr:ident, $own:expr, [$($after:expr),*]) => {{
+        let lent = $own.inputs.lent();
+        // SAFETY: beside what `call!` says, the checks 1 to 8 pass, see `Owned`.
+        call!($name, $ptr, [], $own.session, lent, $own.memory, [$($after),*])
+    }};
+}
+
+impl Owned {
+    /// Opens a composition in memory with this room; where a head or a state record is lacking, in larger room within
+    /// `most`. Both count as [`Room::LARGEST`] where they are above it.
+    ///
+    /// # Errors
+    ///
+    /// [`Error::Refused`] by the numbers 1 to 7 or 13; [`Error::Memory`] where there is no memory for the room.
+    pub fn open(inputs: Inputs, room: Room, most: Room) -> Result<Owned, Error> {
+        let (room, most) = (room.within(Room::LARGEST), most.within(Room::LARGEST));
+        let mut owned = Owned {
+            inputs,
+            session: Session::default(),
+            memory: Memory::new(room)?,
+        };
+        loop {
+            let number = open(
+                &owned.inputs.settings,
+                &owned.inputs.lent(),
+                &mut owned.session,
+                &mut owned.memory,
+            );
+            let refusal = match number {
+                0 => return Ok(owned),
+                refused => Refusal::known(refused),
+            };
+            match owned.memory.room().larger(most) {
+                Some(larger) if refusal == Refusal::NoRoom => owned.memory = Memory::new(larger)?,
+                _ => return Err(Error::refused(refusal)),
+            }
+        }
+    }
+
+    /// What is composed.
+    pub fn inputs(&self) -> &Inputs {
+        &self.inputs
+    }
+
+    /// The session as the last call left it.
+    pub fn session(&self) -> &Session {
+        &self.session
+    }
+
+    /// Memory as the last call left it.
+    pub fn memory(&self) -> &Memory {
+        &self.memory
+    }
+
+    /// As [`expand`].
+    ///
+    /// # Errors
+    ///
+    /// The refusal's number, from 9 to 13; all stays.
+    pub fn expand(&mut self, n: u32) -> Result<(u32, u32), u32> {
+        let mut answer = [0; 2];
+        match trusted!(
+            rinkolza_trusted_expand,
+            as_mut_ptr,
+            self,
+            [n, answer.as_mut_ptr(), answer.len()]
+        ) {
+            0 => Ok((answer[0], answer[1])),
+            refused => Err(refused),
+        }
+    }
+
+    /// As [`final_weight`].
+    ///
+    /// # Errors
+    ///
+    /// The refusal's number: 9 or 12.
+    pub fn final_weight(&self, n: u32) -> Result<Option<u32>, u32> {
+        let mut answer = [0; 2];
+        match trusted!(
+            rinkolza_trusted_final_weight,
+            as_ptr,
+            self,
+            [n, answer.as_mut_ptr(), answer.len()]
+        ) {
+            0 => Ok(weight_of(&answer)),
+            refused => Err(refused),
+        }
+    }
+
+    /// The final weights of all found states.
+    ///
+    /// # Errors
+    ///
+    /// [`Error::Refused`] by [`Refusal::TooLarge`], with the first state whose weight is; [`Error::Memory`] where there is
+    /// no memory for them.
+    pub fn final_weights(&self) -> Result<Vec<Option<u32>>, Error> {
+        let mut answer = zeros(2 * self.session.used_states() as usize)?;
+        let mut weights = Vec::new();
+        reserve(&mut weights, answer.len() / 2, "final weights")?;
+        match trusted!(
+            rinkolza_trusted_final_weights,
+            as_ptr,
+            self,
+            [answer.as_mut_ptr(), answer.len()]
+        ) {
+            0 => weights.extend(answer.chunks_exact(2).map(weight_of)),
+            refused => {
+                let mut states = 0..self.session.used_states();
+                let at = states.find(|&n| self.final_weight(n).is_err());
+                return Err(Error::refused(Refusal::known(refused)).at(at));
+            }
+        }
+        Ok(weights)
+    }
+
+    /// A piece of a run: from state n on, in number order, at most k states are expanded. A state that is expanded
+    /// already is passed and counts as one of the k. Refused at a state, the expansions before it stay.
+    pub fn run_from(&mut self, n: u32, k: u32) -> Piece {
+        let mut answer = [0; 2];
+        let number = trusted!(
+            rinkolza_trusted_run,
+            as_mut_ptr,
+            self,
+            [n, k, answer.as_mut_ptr(), answer.len()]
+        );
+        Piece {
+            refused: (number != 0).then_some(number),
+            next: answer[0],
+            left: answer[1],
+        }
+    }
+
+    /// As [`records`]: empty where state n is not found or not expanded.
+    pub fn records(&self, n: u32) -> &[u32] {
+        let mut answer = [0; 2];
+        trusted!(
+            rinkolza_trusted_records,
+            as_ptr,
+            self,
+            [n, answer.as_mut_ptr(), answer.len()]
+        );
+        self.memory.part(answer[0], answer[1])
+    }
+
+    /// Adds room behind, up to so many records of each sort in all; where there is as much nothing is done. Heads stay
+    /// as opened. Every call then answers as it would have, and one that was refused for lack of room may be made again.
+    ///
+    /// # Errors
+    ///
+    /// [`Error::Memory`] where so much is not to be had; all stays.
+    pub fn lengthen(&mut self, states: usize, trs: usize) -> Result<(), Error> {
+        let memory = &mut self.memory;
+        let more_states = lacking(&memory.states, states);
+        let more_trs = lacking(&memory.trs, trs);
+        reserve(&mut memory.states, more_states, "words")?;
+        reserve(&mut memory.trs, more_trs, "words")?;
+        memory.states.resize(memory.states.len() + more_states, 0);
+        memory.trs.resize(memory.trs.len() + more_trs, 0);
+        Ok(())
+    }
+}
+
+/// The final weight in an answer's two words.
+fn weight_of(answer: &[u32]) -> Option<u32> {
+    (answer[0] == 1).then_some(answer[1])
 }
 
 /// An allowed list as a slice and a flag.
@@ -336,4 +549,124 @@ extern "C" {
         answer: *mut u32,
         answer_len: usize,
     );
+
+    fn rinkolza_trusted_expand(
+        session: *mut u32,
+        session_len: usize,
+        m1: *const u32,
+        m1_len: usize,
+        m2: *const u32,
+        m2_len: usize,
+        allowed1: *const u32,
+        allowed1_len: usize,
+        has1: u32,
+        allowed2: *const u32,
+        allowed2_len: usize,
+        has2: u32,
+        heads: *mut u32,
+        heads_len: usize,
+        states: *mut u32,
+        states_len: usize,
+        trs: *mut u32,
+        trs_len: usize,
+        n: u32,
+        answer: *mut u32,
+        answer_len: usize,
+    ) -> u32;
+
+    fn rinkolza_trusted_final_weight(
+        session: *const u32,
+        session_len: usize,
+        m1: *const u32,
+        m1_len: usize,
+        m2: *const u32,
+        m2_len: usize,
+        allowed1: *const u32,
+        allowed1_len: usize,
+        has1: u32,
+        allowed2: *const u32,
+        allowed2_len: usize,
+        has2: u32,
+        heads: *const u32,
+        heads_len: usize,
+        states: *const u32,
+        states_len: usize,
+        trs: *const u32,
+        trs_len: usize,
+        n: u32,
+        answer: *mut u32,
+        answer_len: usize,
+    ) -> u32;
+
+    fn rinkolza_trusted_records(
+        session: *const u32,
+        session_len: usize,
+        m1: *const u32,
+        m1_len: usize,
+        m2: *const u32,
+        m2_len: usize,
+        allowed1: *const u32,
+        allowed1_len: usize,
+        has1: u32,
+        allowed2: *const u32,
+        allowed2_len: usize,
+        has2: u32,
+        heads: *const u32,
+        heads_len: usize,
+        states: *const u32,
+        states_len: usize,
+        trs: *const u32,
+        trs_len: usize,
+        n: u32,
+        answer: *mut u32,
+        answer_len: usize,
+    );
+
+    fn rinkolza_trusted_final_weights(
+        session: *const u32,
+        session_len: usize,
+        m1: *const u32,
+        m1_len: usize,
+        m2: *const u32,
+        m2_len: usize,
+        allowed1: *const u32,
+        allowed1_len: usize,
+        has1: u32,
+        allowed2: *const u32,
+        allowed2_len: usize,
+        has2: u32,
+        heads: *const u32,
+        heads_len: usize,
+        states: *const u32,
+        states_len: usize,
+        trs: *const u32,
+        trs_len: usize,
+        answer: *mut u32,
+        answer_len: usize,
+    ) -> u32;
+
+    fn rinkolza_trusted_run(
+        session: *mut u32,
+        session_len: usize,
+        m1: *const u32,
+        m1_len: usize,
+        m2: *const u32,
+        m2_len: usize,
+        allowed1: *const u32,
+        allowed1_len: usize,
+        has1: u32,
+        allowed2: *const u32,
+        allowed2_len: usize,
+        has2: u32,
+        heads: *mut u32,
+        heads_len: usize,
+        states: *mut u32,
+        states_len: usize,
+        trs: *mut u32,
+        trs_len: usize,
+        n: u32,
+        k: u32,
+        answer: *mut u32,
+        answer_len: usize,
+    ) -> u32;
 }

@@ -107,15 +107,6 @@ pub fn decode(words: &[u32]) -> Result<Machine, Error> {
     Ok(machine)
 }
 
-/// The final weight of a state; none where it is not final or not there.
-pub(crate) fn final_weight(words: &[u32], state: u32) -> Option<u32> {
-    let record = words
-        .get(HEADER..)?
-        .chunks_exact(STATE)
-        .nth(state as usize)?;
-    (record[1] == 1).then_some(record[2])
-}
-
 /// The transition in a record of five words.
 pub(crate) fn tr_of(record: &[u32]) -> Tr {
     Tr::new(record[0], record[1], record[2], record[3])

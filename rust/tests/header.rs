@@ -4,12 +4,17 @@ use rinkolza::Refusal;
 use std::fs;
 use std::path::Path;
 
-const CALLS: [&str; 5] = [
+const CALLS: [&str; 10] = [
     "rinkolza_open",
     "rinkolza_expand",
     "rinkolza_final_weight",
     "rinkolza_run",
     "rinkolza_records",
+    "rinkolza_trusted_expand",
+    "rinkolza_trusted_final_weight",
+    "rinkolza_trusted_records",
+    "rinkolza_trusted_final_weights",
+    "rinkolza_trusted_run",
 ];
 
 fn header() -> String {
@@ -52,6 +57,8 @@ fn in_rust(parameter: &str) -> String {
 fn the_calls_are_declared_as_in_the_header() {
     let header = header();
     let own = include_str!("../src/sys.rs");
+    assert_eq!(header.matches(");\n").count(), CALLS.len());
+    assert_eq!(own.matches("\n    fn rinkolza_").count(), CALLS.len());
     for name in CALLS {
         let (returned, parameters, _) = declaration(&header, " ", name);
         let theirs: Vec<String> = parameters.split(',').map(in_rust).collect();

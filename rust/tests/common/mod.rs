@@ -102,6 +102,40 @@ impl Draw {
             allowed2: self.one_in(3).then(|| vec![2, 7]),
         }
     }
+
+    /// Makes some of a machine's weights, final weights too, so large that products may not fit.
+    pub fn make_heavy(&mut self, words: &mut [u32]) {
+        let (header, records) = words.split_at_mut(6);
+        let (states, trs) = records.split_at_mut(3 * header[0] as usize);
+        let last = states.chunks_exact_mut(3).filter(|state| state[1] == 1);
+        for record in last.chain(trs.chunks_exact_mut(5)) {
+            if self.one_in(4) {
+                record[2] = u32::MAX - 1 - self.below(3);
+            }
+        }
+    }
+}
+
+/// Two chains of so many states, the first with output epsilon all along, the second with input epsilon: every pair of
+/// their states is found, side × side.
+pub fn grid(side: u32) -> Inputs {
+    let chain = |input: u32, output: u32| {
+        let mut words = vec![side, side - 1, 1, 0, 0, 0];
+        for state in 0..side {
+            words.extend([if state + 1 < side { state + 1 } else { 0 }, 1, 0]);
+        }
+        for state in 1..side {
+            words.extend([input, output, 1, state, 0]);
+        }
+        words
+    };
+    Inputs {
+        first: chain(1, 0),
+        second: chain(0, 1),
+        settings: [0, 0, u32::MAX, 0, u32::MAX, 0],
+        allowed1: None,
+        allowed2: None,
+    }
 }
 
 /// A composition under test; refusals by their numbers.
@@ -116,7 +150,8 @@ pub trait World: Sized {
     fn trs(&self, n: u32) -> Vec<Tr>;
 }
 
-/// The five calls in memory that stays as it is.
+/// The five calls that check, in memory that stays as it is.
+#[derive(Clone, Debug, PartialEq, Eq)]
 pub struct Fixed {
     pub inputs: Inputs,
     pub session: Session,

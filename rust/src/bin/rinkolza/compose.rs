@@ -90,7 +90,7 @@ fn options(args: &Args, tables: &Tables) -> Result<Options, Stop> {
         .with_sigma1(sigma(args, "1", tables.inner())?)
         .with_sigma2(sigma(args, "2", tables.inner())?)
         .with_sort(args.choice("sort", &sorts)?)
-        // Some three megabytes; so nothing is done twice.
+        // Some three megabytes; so nothing is copied.
         .with_room(Room::LARGEST))
 }
 
