@@ -8,7 +8,7 @@ use Rattle.calls.specs.Sequences.{World, expand, after}
 use Rattle.calls.specs.Owned.{stopFrom}
 use Rattle.calls.proofs.Cases.{Holds}
 use Rattle.readings.specs.Worlds.{worldOf, expandIn, handedIn}
-use Rattle.readings.specs.Owned.{InScope, pieceIn, nextIn, grownBy, Later, at-once, by-calls, by-copy, Owns}
+use Rattle.readings.specs.Owned.{InScope, pieceIn, nextIn, grownBy, at-once, by-calls, by-copy, Owns}
 use Rattle.readings.proofs.DemandCase.{both, set, got, small, from, opens-small}
 use Rattle.readings.proofs.RoomCase.{before, leftLarge, leftSmall, left-small, one-lacks}
 use Rattle.readings.proofs.Owned.{owned}

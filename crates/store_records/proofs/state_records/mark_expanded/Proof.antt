@@ -1,5 +1,5 @@
 -- Two words, one after the other.
-use mathlib.Core.Path.{_≡_, refl}
+use mathlib.Core.Path.{_≡_}
 use Prim.Native.Nat.{suc, _+_, _*_}
 use native.Mathlib.Omega.{arith}
 use Rattle.lists.specs.Lists.{put}
