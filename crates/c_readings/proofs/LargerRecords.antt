@@ -9,7 +9,7 @@ use Rattle.words.specs.Settings.{Settings, Lent}
 use Rattle.calls.specs.Store.{Memory}
 use Rattle.calls.specs.Checks.{Session}
 use Rattle.calls.specs.Calls.{openOf}
-use Rattle.calls.specs.Sequences.{World, Call, opening, expand, finalWeight, records, run, refusal, accepted, part, weight, Reply, answered, handed, callOf, replies, after}
+use Rattle.calls.specs.Sequences.{World, Call, opening, expand, finalWeight, records, run, refusal, accepted, part, weight, Reply, answered, handed, callOf, replies, after, callWith}
 use Rattle.readings.specs.Worlds.{worldOf, OpeningsRefused}
 use Rattle.readings.specs.Larger.{NoShorter, NoRoom, SameUntil}
 use Rattle.readings.proofs.Demands.{demand-3}
@@ -45,7 +45,7 @@ pub larger-records : (s : Settings) (l : Lent) (got : Session) (m : Memory) → 
     → let w = after l (worldOf (openOf s l got m)) cs in
     let v = after l (worldOf (openOf s l got′ big)) cs in
     recordsWords l (sessionWords (v .session)) (c ∷ d ∷ []) (v .memory) n ≡ recordsWords l (sessionWords (w .session)) (a ∷ b ∷ []) (w .memory) n
-unfolding callOf
+unfolding callWith
 larger-records s l got m e got′ big N cs R none n a b c d =
     records-alike l (after l w₀ cs) (after l v₀ cs) n a b c d
     (⊎-elim (λ h. absurd (no-refusal _ refl h)) sym (same-reply l w₀ v₀ cs (records n) (until (records n) (λ v. tt)) none))

@@ -41,7 +41,7 @@ sigma1 x = 0 ∷ 0 ∷ x ∷ 0 ∷ MAX ∷ 0 ∷ []
 unfoldable pub callCases : List Case
 callCases =
     -- Room for just what is found: no 13 before memory is full, every list is stored, used counts are the records found, words past them stay.
-    calling both (before (9 ∷ 9 ∷ []) (replicate 24 8) (replicate 17 8))
+    calling both (before (9 ∷ 9 ∷ []) (replicate 28 8) (replicate 17 8))
     (opens ∷ run ∷ records 0 ∷ records 1 ∷ records 2 ∷ records 3 ∷ finalWeight 2 ∷ finalWeight 3 ∷ expand 4 ∷ [])
     (answered accepted (with 1 0)
     ∷ answered accepted (with 4 3)
@@ -54,18 +54,18 @@ callCases =
     ∷ answered (refusal 9) (with 4 3)
     ∷ [])
     (world (with 4 3) (4 ∷ 2 ∷ [])
-    (0 ∷ 0 ∷ 1 ∷ 1 ∷ 0 ∷ 65536 ∷ 0 ∷ 1 ∷ 2 ∷ 0 ∷ 65537 ∷ 0 ∷ 1 ∷ 3 ∷ 1 ∷ 131074 ∷ 0 ∷ 1 ∷ 0 ∷ 3 ∷ 8 ∷ 8 ∷ 8 ∷ 8 ∷ [])
+    (0 ∷ 0 ∷ 0 ∷ 1 ∷ 1 ∷ 0 ∷ 1 ∷ 0 ∷ 0 ∷ 1 ∷ 2 ∷ 0 ∷ 1 ∷ 1 ∷ 0 ∷ 1 ∷ 3 ∷ 1 ∷ 2 ∷ 2 ∷ 0 ∷ 1 ∷ 0 ∷ 3 ∷ 8 ∷ 8 ∷ 8 ∷ 8 ∷ [])
     (1 ∷ 0 ∷ 1 ∷ 1 ∷ 0 ∷ 0 ∷ 7 ∷ 4 ∷ 2 ∷ 0 ∷ 2 ∷ 8 ∷ 3 ∷ 3 ∷ 0 ∷ 8 ∷ 8 ∷ []))
     -- A state record too few: the run keeps two expansions and their session; a second run, and what was given, stay the same.
-    ∷ calling both (before (0 ∷ []) (replicate 19 0) (replicate 15 0))
+    ∷ calling both (before (0 ∷ []) (replicate 23 0) (replicate 15 0))
     (opens ∷ run ∷ run ∷ expand 1 ∷ records 1 ∷ records 2 ∷ [])
     (answered accepted (with 1 0) ∷ answered (refusal 13) (with 3 2) ∷ answered (refusal 13) (with 3 2) ∷ answered (listPart 2 1) (with 3 2) ∷ handed (0 ∷ 7 ∷ 4 ∷ 2 ∷ 0 ∷ []) ∷ handed [] ∷ [])
-    (world (with 3 2) (3 ∷ []) (0 ∷ 0 ∷ 1 ∷ 1 ∷ 0 ∷ 65536 ∷ 0 ∷ 1 ∷ 2 ∷ 1 ∷ 65537 ∷ 0 ∷ 0 ∷ 0 ∷ 2 ∷ replicate 4 0) (1 ∷ 0 ∷ 1 ∷ 1 ∷ 0 ∷ 0 ∷ 7 ∷ 4 ∷ 2 ∷ 0 ∷ replicate 5 0))
+    (world (with 3 2) (3 ∷ []) (0 ∷ 0 ∷ 0 ∷ 1 ∷ 1 ∷ 0 ∷ 1 ∷ 0 ∷ 0 ∷ 1 ∷ 2 ∷ 1 ∷ 1 ∷ 1 ∷ 0 ∷ 0 ∷ 0 ∷ 2 ∷ replicate 5 0) (1 ∷ 0 ∷ 1 ∷ 1 ∷ 0 ∷ 0 ∷ 7 ∷ 4 ∷ 2 ∷ 0 ∷ replicate 5 0))
     -- a transition record too few
-    ∷ calling both (before (0 ∷ []) (replicate 20 0) (replicate 14 0))
+    ∷ calling both (before (0 ∷ []) (replicate 24 0) (replicate 14 0))
     (opens ∷ run ∷ [])
     (answered accepted (with 1 0) ∷ answered (refusal 13) (with 3 2) ∷ [])
-    (world (with 3 2) (3 ∷ []) (0 ∷ 0 ∷ 1 ∷ 1 ∷ 0 ∷ 65536 ∷ 0 ∷ 1 ∷ 2 ∷ 1 ∷ 65537 ∷ 0 ∷ 0 ∷ 0 ∷ 2 ∷ replicate 5 0) (1 ∷ 0 ∷ 1 ∷ 1 ∷ 0 ∷ 0 ∷ 7 ∷ 4 ∷ 2 ∷ 0 ∷ replicate 4 0))
+    (world (with 3 2) (3 ∷ []) (0 ∷ 0 ∷ 0 ∷ 1 ∷ 1 ∷ 0 ∷ 1 ∷ 0 ∷ 0 ∷ 1 ∷ 2 ∷ 1 ∷ 1 ∷ 1 ∷ 0 ∷ 0 ∷ 0 ∷ 2 ∷ replicate 6 0) (1 ∷ 0 ∷ 1 ∷ 1 ∷ 0 ∷ 0 ∷ 7 ∷ 4 ∷ 2 ∷ 0 ∷ replicate 4 0))
     -- at opening no head, or no state record, is lacking where a machine has no start; the heads are cleared all the same
     ∷ (let none1 = lend (set example1 2 0) example2 in
     calling none1 (before (9 ∷ 9 ∷ []) [] [])
@@ -80,7 +80,7 @@ callCases =
     -- Two moves to one new state: it is found once, counted once, and takes one record. Expanded first, state 1 has an empty list; a list of three goes by next.
     ∷ (let new = session (plain 0 0) 1 in
     let l = lend twice (loops 0) in
-    calling l (before (0 ∷ []) (replicate 10 0) (replicate 15 0))
+    calling l (before (0 ∷ []) (replicate 12 0) (replicate 15 0))
     (opening (settingsOf (plain 0 0)) l ∷ expand 1 ∷ expand 0 ∷ expand 1 ∷ expand 0 ∷ records 0 ∷ run ∷ [])
     (answered accepted (new 1 0)
     ∷ answered (refusal 9) (new 1 0)
@@ -90,49 +90,49 @@ callCases =
     ∷ handed (1 ∷ 4 ∷ 0 ∷ 1 ∷ 2 ∷ 1 ∷ 4 ∷ 0 ∷ 1 ∷ 3 ∷ 2 ∷ 6 ∷ 5 ∷ 0 ∷ 0 ∷ [])
     ∷ answered accepted (new 2 3)
     ∷ [])
-    (world (new 2 3) (2 ∷ []) (0 ∷ 0 ∷ 1 ∷ 1 ∷ 0 ∷ 65536 ∷ 0 ∷ 1 ∷ 0 ∷ 1 ∷ []) (1 ∷ 4 ∷ 0 ∷ 1 ∷ 2 ∷ 1 ∷ 4 ∷ 0 ∷ 1 ∷ 3 ∷ 2 ∷ 6 ∷ 5 ∷ 0 ∷ 0 ∷ [])))
+    (world (new 2 3) (2 ∷ []) (0 ∷ 0 ∷ 0 ∷ 1 ∷ 1 ∷ 0 ∷ 1 ∷ 0 ∷ 0 ∷ 1 ∷ 0 ∷ 1 ∷ []) (1 ∷ 4 ∷ 0 ∷ 1 ∷ 2 ∷ 1 ∷ 4 ∷ 0 ∷ 1 ∷ 3 ∷ 2 ∷ 6 ∷ 5 ∷ 0 ∷ 0 ∷ [])))
     -- 12 and 13 at one move: 12. The third move of state 0 is too large, and its record is lacking too.
     ∷ (let new = session (plain 0 0) 1 in
     let l = lend twice (loops 4294967290) in
-    calling l (before (0 ∷ []) (replicate 10 0) (replicate 10 0))
+    calling l (before (0 ∷ []) (replicate 12 0) (replicate 10 0))
     (opening (settingsOf (plain 0 0)) l ∷ expand 0 ∷ [])
     (answered accepted (new 1 0) ∷ answered (refusal 12) (new 1 0) ∷ [])
-    (world (new 1 0) (1 ∷ []) (replicate 10 0) (replicate 10 0)))
+    (world (new 1 0) (1 ∷ []) (replicate 12 0) (replicate 10 0)))
     -- 13 at a move before one that is too large: 13
     ∷ (let new = session (plain 0 0) 1 in
     let l = lend twice (loops 4294967290) in
-    calling l (before (0 ∷ []) (replicate 5 0) (replicate 15 0))
+    calling l (before (0 ∷ []) (replicate 6 0) (replicate 15 0))
     (opening (settingsOf (plain 0 0)) l ∷ expand 0 ∷ [])
     (answered accepted (new 1 0) ∷ answered (refusal 13) (new 1 0) ∷ [])
-    (world (new 1 0) (1 ∷ []) (replicate 5 0) (replicate 15 0)))
+    (world (new 1 0) (1 ∷ []) (replicate 6 0) (replicate 15 0)))
     -- 11 at a walked label after a move that lacks a record: 13; with the record: 11, and nothing is stored
     ∷ (let new = session (sigma1 8) 1 in
     let l = lend twice (loops 0) in
-    calling l (before (0 ∷ []) (replicate 5 0) (replicate 15 0))
+    calling l (before (0 ∷ []) (replicate 6 0) (replicate 15 0))
     (opening (settingsOf (sigma1 8)) l ∷ expand 0 ∷ [])
     (answered accepted (new 1 0) ∷ answered (refusal 13) (new 1 0) ∷ [])
-    (world (new 1 0) (1 ∷ []) (replicate 5 0) (replicate 15 0)))
+    (world (new 1 0) (1 ∷ []) (replicate 6 0) (replicate 15 0)))
     ∷ (let new = session (sigma1 8) 1 in
     let l = lend twice (loops 0) in
-    calling l (before (0 ∷ []) (replicate 10 0) (replicate 15 0))
+    calling l (before (0 ∷ []) (replicate 12 0) (replicate 15 0))
     (opening (settingsOf (sigma1 8)) l ∷ expand 0 ∷ run ∷ [])
     (answered accepted (new 1 0) ∷ answered (refusal 11) (new 1 0) ∷ answered (refusal 11) (new 1 0) ∷ [])
-    (world (new 1 0) (1 ∷ []) (replicate 10 0) (replicate 15 0)))
+    (world (new 1 0) (1 ∷ []) (replicate 12 0) (replicate 15 0)))
     -- 10 before 11, and before 13: marks 1, each state has a transition with its sigma label, and no transition record is there
     ∷ (let w : List ℕ = 0 ∷ 0 ∷ 4 ∷ 0 ∷ 4 ∷ 0 ∷ [] in
     let l = lend marked1 marked2 in
-    calling l (before (0 ∷ []) (replicate 5 0) [])
+    calling l (before (0 ∷ []) (replicate 6 0) [])
     (opening (settingsOf w) l ∷ expand 0 ∷ run ∷ finalWeight 0 ∷ [])
     (answered accepted (session w 2 1 0) ∷ answered (refusal 10) (session w 2 1 0) ∷ answered (refusal 10) (session w 2 1 0) ∷ answered (weight none) (session w 2 1 0) ∷ [])
-    (world (session w 2 1 0) (1 ∷ []) (replicate 5 0) []))
+    (world (session w 2 1 0) (1 ∷ []) (replicate 6 0) []))
     -- side input, by the mark of machine 2 alone: machine 1, whose labels fall, is walked
     ∷ printing (plain 0 0) (1 ∷ 2 ∷ 1 ∷ 0 ∷ 0 ∷ 0 ∷ 1 ∷ 0 ∷ 0 ∷ 3 ∷ 3 ∷ 0 ∷ 0 ∷ 2 ∷ 2 ∷ 2 ∷ 0 ∷ 0 ∷ 0 ∷ []) (1 ∷ 2 ∷ 1 ∷ 1 ∷ 0 ∷ 0 ∷ 1 ∷ 1 ∷ 6 ∷ 2 ∷ 7 ∷ 1 ∷ 0 ∷ 2 ∷ 3 ∷ 8 ∷ 2 ∷ 0 ∷ 0 ∷ [])
     (sideLine 0 ∷ stateLine 0 (triple 0 0 0) none ∷ trLine 3 8 2 0 ∷ trLine 2 7 1 0 ∷ endLine 1 2 ∷ [])
     -- an opening refused changes nothing and hands back the session that it got, also in the middle of a list
-    ∷ calling both (before (0 ∷ []) (replicate 10 0) (replicate 5 0))
+    ∷ calling both (before (0 ∷ []) (replicate 12 0) (replicate 5 0))
     (opens ∷ expand 0 ∷ opening (settingsOf (plain 2 0)) both ∷ opening (settingsOf (plain 0 0)) (lend [] []) ∷ expand 0 ∷ [])
     (answered accepted (with 1 0) ∷ answered (listPart 1 1) (with 2 1) ∷ answered (refusal 1) (with 2 1) ∷ answered (refusal 2) (with 2 1) ∷ answered (listPart 1 1) (with 2 1) ∷ [])
-    (world (with 2 1) (2 ∷ []) (0 ∷ 0 ∷ 1 ∷ 1 ∷ 0 ∷ 65536 ∷ 0 ∷ 0 ∷ 0 ∷ 1 ∷ []) (1 ∷ 0 ∷ 1 ∷ 1 ∷ 0 ∷ []))
+    (world (with 2 1) (2 ∷ []) (0 ∷ 0 ∷ 0 ∷ 1 ∷ 1 ∷ 0 ∷ 1 ∷ 0 ∷ 0 ∷ 0 ∷ 0 ∷ 1 ∷ []) (1 ∷ 0 ∷ 1 ∷ 1 ∷ 0 ∷ []))
     ∷ []
 
 call-cases : AllHold callCases

@@ -7,17 +7,17 @@ use Rattle.lists.specs.Lists.{keepIf, every, interval, put, first, linked}
 use Rattle.words.specs.Labels.{collect}
 use Rattle.words.specs.Weights.{times, isZero}
 use Rattle.words.specs.Matches.{labelled, sortedMatches}
-use Rattle.words.specs.Machines.{stateCount, trCount, startWord, sideMark, acceptorMark, stateWord, trWord, firstOk, nextOk, firstOf, nextOf, listBy, listFrom, listOf, noFall, sorted, stateOk, trOk, acceptor, marksOk, sizeOk, wellFormed}
+use Rattle.words.specs.Machines.{stateCount, trCount, startWord, sideMark, acceptorMark, stateWord, trWord, firstOk, nextOk, firstOf, nextOf, listBy, listFrom, listOf, noFall, sorted, stateOk, trOk, acceptor, marksOk, sizeUpTo, wellFormedUpTo}
 use Rattle.words.specs.Sides.{sideOf, directionAt}
 use Rattle.words.specs.Filters.{noneAt, allAt}
 use Rattle.words.specs.Sigmas.{has, sigmaTrs, restMatches, lookup, given}
 use Rattle.words.specs.Steps.{walk, keptAlong, keptAt, stepOf, stepsAt, startAt, finalAt}
 use Rattle.words.specs.Settings.{settingsOk, Lent}
-use Rattle.calls.specs.Store.{roomOf, stateRoom, trRoom, stateField, tripleAt, expandedAt, firstAt, nextAt, trField, targetAt, trNextAt, slot, headOf, chainOf, sameTriple, find, add, append, mark, partAt}
-use Rattle.calls.specs.Forms.{fits, headsOk, tripleOk, expandedOk, stateFormOk, trFormOk, formOk}
-use Rattle.calls.specs.Checks.{sideFor, sessionOk, entered, enteredAt}
-use Rattle.calls.specs.Calls.{cleared, begun, openOf, reach, storeStep, storeSteps, expansion, expandOf, finalWeightOf, runFrom, runOf, recordsOf}
-use Rattle.calls.specs.Sequences.{World, Call, Reply, callOf, replies, after}
+use Rattle.calls.specs.Store.{tripleAt, targetAt, trNextAt, slot, headOf, sameTriple, append, addWith, chainWith, expandedWith, fieldOf, findWith, firstWith, markWith, nextWith, partWith, roomWith, stateRoomWith, trRoomWith}
+use Rattle.calls.specs.Forms.{headsOk, trFormOk, expandedOkWith, fitsWith, formOkWith, stateFormOkWith, tripleOkWith}
+use Rattle.calls.specs.Checks.{enteredAtWith, enteredWith, sessionOkWith, sideForWith}
+use Rattle.calls.specs.Calls.{cleared, begunWith, expandWith, expansionWith, finalWeightWith, openWith, reachWith, recordsWith, runFromWith, runWith, storeStepWith, storeStepsWith}
+use Rattle.calls.specs.Sequences.{World, Call, Reply, replies, after, afterWith, callWith, repliesWith}
 use Rattle.calls.specs.Listing.{Line, trLines, composedLines, listing}
 
 pub data Case : Type 0 where
@@ -28,7 +28,7 @@ pub data Case : Type 0 where
 
 -- The case holds. Its own `unfolding` line opens all that the calls are made of: a closed case names `Holds` alone.
 unfoldable pub Holds : Case → Type 0
-unfolding callOf replies after listing composedLines trLines recordsOf runOf runFrom finalWeightOf expandOf expansion storeSteps storeStep reach openOf begun cleared enteredAt entered sessionOk sideFor formOk trFormOk stateFormOk expandedOk tripleOk headsOk fits partAt mark append add find sameTriple chainOf headOf slot trNextAt targetAt trField nextAt firstAt expandedAt tripleAt stateField trRoom stateRoom roomOf put first linked settingsOk wellFormed sizeOk stateOk trOk marksOk acceptor collect startAt finalAt isZero times stepsAt stepOf given keptAt keptAlong flatMap walk lookup has sigmaTrs restMatches labelled keepIf sortedMatches noneAt allAt every directionAt sideOf sorted noFall interval sideMark acceptorMark stateCount trCount startWord stateWord trWord firstOk nextOk firstOf nextOf listBy listFrom listOf
+unfolding callWith repliesWith afterWith listing composedLines trLines recordsWith runWith runFromWith finalWeightWith expandWith expansionWith storeStepsWith storeStepWith reachWith openWith begunWith cleared enteredAtWith enteredWith sessionOkWith sideForWith formOkWith trFormOk stateFormOkWith expandedOkWith tripleOkWith headsOk fitsWith partWith markWith append addWith findWith sameTriple chainWith headOf slot trNextAt targetAt fieldOf nextWith firstWith expandedWith tripleAt trRoomWith stateRoomWith roomWith put first linked settingsOk wellFormedUpTo sizeUpTo stateOk trOk marksOk acceptor collect startAt finalAt isZero times stepsAt stepOf given keptAt keptAlong flatMap walk lookup has sigmaTrs restMatches labelled keepIf sortedMatches noneAt allAt every directionAt sideOf sorted noFall interval sideMark acceptorMark stateCount trCount startWord stateWord trWord firstOk nextOk firstOf nextOf listBy listFrom listOf
 Holds (printing w m1 m2 wants) = listing w m1 m2 ≡ wants
 Holds (calling l w cs rs left) = (replies l w cs ≡ rs) × (after l w cs ≡ left)
 

@@ -5,7 +5,7 @@ use mathlib.Core.Bool.{true, false}
 use mathlib.Core.List.{List, _∷_, List·Memᴰ as In}
 use mathlib.Core.Logic.{_≢_}
 use mathlib.Core.Option.{some}
-use Prim.Native.Nat.{ℕ, suc, _+_, _*_, _/_, _%_, _≤_, _<_}
+use Prim.Native.Nat.{ℕ, suc, _+_, _*_, _≤_, _<_}
 use native.Mathlib.Nat.{mod-lt}
 use native.Mathlib.Numerals.{add-one}
 use native.Mathlib.Omega.{arith}
@@ -18,8 +18,8 @@ use Rattle.lists.specs.Lists.{first, linked}
 use Rattle.lists.proofs.Members.{and-left, and-right}
 use Rattle.lists.proofs.Links.{first-sound, first-same, Falls, linked-below, linked-same}
 use Rattle.words.specs.Steps.{Triple}
-use Rattle.calls.specs.Store.{Store, stateSize, stateRoom, stateField, tripleAt, nextPlace, nextAt, slot, headOf, chainOf, sameTriple, find, stateRecord, add}
-use Rattle.calls.proofs.RecordLaws.{room-words, field-before, field-new, triple-before}
+use Rattle.calls.specs.Store.{Store, stateSize, stateRoom, stateField, tripleAt, nextAt, slot, headOf, chainOf, sameTriple, find, stateRecord, add, addWith, chainWith, findWith, nextWith, stateRoomWith}
+use Rattle.calls.proofs.RecordLaws.{nextPlace, room-words, field-before, field-new, triple-before}
 use Rattle.calls.proofs.StoreForms.{Form}
 
 -- the test compares triples
@@ -58,30 +58,30 @@ module _ {S1 S2 : ℕ} (d : Store) {last : ℕ} (form : Form S1 S2 d last) where
 
   -- the states of a chain are used ones
   pub chain-below : (t : Triple) {n : ℕ} → In n (chainOf d t) → n < U
-  unfolding chainOf
+  unfolding chainWith
   chain-below t i = let r = linked-below (nextAt (d .memory .states)) U U (headOf (d .memory .heads) t) falls (head-low t) i in omega (arith, r, head-low t)
 
   -- a state found is a used one, with that triple
   pub find-sound : (t : Triple) (n : ℕ) → find d t ≡ some n → (n < U) × (tripleAt (d .memory .states) n ≡ t)
-  unfolding find
+  unfolding findWith
   find-sound t n e =
       let r = first-sound (λ k. sameTriple (tripleAt (d .memory .states) k) t) (chainOf d t) n e in
       (chain-below t (r .0), same-triple (tripleAt (d .memory .states) n) t (r .1))
 
   -- other records of states, with the same triples where a state is used: the same of a chain is found
   first-alike : (ss : List ℕ) → ((n : ℕ) → n < U → tripleAt ss n ≡ tripleAt (d .memory .states) n) → (t : Triple) → first (λ n. sameTriple (tripleAt ss n) t) (chainOf d t) ≡ find d t
-  unfolding find
+  unfolding findWith
   first-alike ss same t = first-same (λ n. sameTriple (tripleAt ss n) t) (λ n. sameTriple (tripleAt (d .memory .states) n) t) (chainOf d t) (λ n i. ap (λ u. sameTriple u t) (same n (chain-below t i)))
 
   -- and with the same links too, under the same heads: the same is found
   pub find-same : (ss ts : List ℕ) → ((n : ℕ) → n < U → nextAt ss n ≡ nextAt (d .memory .states) n) → ((n : ℕ) → n < U → tripleAt ss n ≡ tripleAt (d .memory .states) n) → (t : Triple)
       → find (record { memory = record { heads = d .memory .heads; states = ss; trs = ts }; used = d .used }) t ≡ find d t
-  unfolding find chainOf
+  unfolding findWith chainWith
   find-same ss ts links same t =
       let low = head-low t in
       ap (first (λ n. sameTriple (tripleAt ss n) t)) (linked-same (nextAt (d .memory .states)) (nextAt ss) U U U (headOf (d .memory .heads) t) falls links low low low) ∙ first-alike ss same t
 
-  module _ (t : Triple) (narrow : t .s2 < 65536) (room : U < stateRoom (d .memory)) (headed : 0 < length (d .memory .heads)) where
+  module _ (t : Triple) (room : U < stateRoom (d .memory)) (headed : 0 < length (d .memory .heads)) where
     abbrev new : List ℕ
     new = stateRecord t (headOf (d .memory .heads) t)
 
@@ -89,39 +89,38 @@ module _ {S1 S2 : ℕ} (d : Store) {last : ℕ} (form : Form S1 S2 d last) where
     ss = add d t .memory .states
 
     fits : stateSize * U + stateSize ≤ length (d .memory .states)
-    unfolding stateRoom
+    unfolding stateRoomWith
     fits = let r = room-words stateSize (d .memory .states) (suc U) room in omega (arith, r .1)
 
     -- the records before it stay
     pub add-field : (n k : ℕ) → n < U → k < stateSize → stateField ss n k ≡ stateField (d .memory .states) n k
-    unfolding add
+    unfolding addWith
     add-field n k h l = field-before (d .memory .states) new U n k h l
 
     pub add-new : (k : ℕ) → k < stateSize → stateField ss U k ≡ getD new k 0
-    unfolding add
+    unfolding addWith
     add-new k h = field-new (d .memory .states) new U k h fits
 
     pub add-triple : (n : ℕ) → n < U → tripleAt ss n ≡ tripleAt (d .memory .states) n
-    unfolding add
+    unfolding addWith
     add-triple n h = triple-before (d .memory .states) new U n h
 
     -- the new record holds the triple
     pub add-holds : tripleAt ss U ≡ t
     unfolding tripleAt
     add-holds =
-        let p : stateField ss U 0 ≡ t .s1 * 65536 + t .s2 = add-new 0 (omega arith) in
-        let q : stateField ss U 1 ≡ t .f = add-new 1 (omega arith) in
-        let a : stateField ss U 0 / 65536 ≡ t .s1 = omega (arith, p, narrow) in
-        let b : stateField ss U 0 % 65536 ≡ t .s2 = omega (arith, p, narrow) in
-        λ i. record { s1 = a i; s2 = b i; f = q i }
+        let p : stateField ss U 0 ≡ t .s1 = add-new 0 (omega arith) in
+        let q : stateField ss U 1 ≡ t .s2 = add-new 1 (omega arith) in
+        let r : stateField ss U 2 ≡ t .f = add-new 2 (omega arith) in
+        λ i. record { s1 = p i; s2 = q i; f = r i }
 
     next-old : (n : ℕ) → n < U → nextAt ss n ≡ nextAt (d .memory .states) n
-    unfolding nextAt
+    unfolding nextWith
     next-old n h = add-field n nextPlace h (omega arith)
 
     -- the chain of its head begins with it
     pub add-chain-same : (u : Triple) → slot (d .memory .heads) u ≡ slot (d .memory .heads) t → chainOf (add d t) u ≡ U ∷ chainOf d u
-    unfolding chainOf headOf add linked nextAt
+    unfolding chainWith headOf addWith linked nextWith
     add-chain-same u e =
         let hs = d .memory .heads in
         let hd : getD (set hs (slot hs t) (U + 1)) (slot (set hs (slot hs t) (U + 1)) u) 0 ≡ suc U
@@ -133,7 +132,7 @@ module _ {S1 S2 : ℕ} (d : Store) {last : ℕ} (form : Form S1 S2 d last) where
 
     -- every other chain is as it was
     pub add-chain-other : (u : Triple) → slot (d .memory .heads) u ≢ slot (d .memory .heads) t → chainOf (add d t) u ≡ chainOf d u
-    unfolding chainOf headOf add
+    unfolding chainWith headOf addWith
     add-chain-other u e =
         let hs = d .memory .heads in
         let hd : getD (set hs (slot hs t) (U + 1)) (slot (set hs (slot hs t) (U + 1)) u) 0 ≡ headOf hs u
@@ -143,12 +142,12 @@ module _ {S1 S2 : ℕ} (d : Store) {last : ℕ} (form : Form S1 S2 d last) where
 
     -- what was added is found
     pub find-added : find (add d t) t ≡ some U
-    unfolding find first
+    unfolding findWith first
     find-added = rw (add-chain-same t refl, add-holds, same-self)
 
     -- another triple is found as before
     pub find-other : (u : Triple) → sameTriple t u ≡ false → find (add d t) u ≡ find d u
-    unfolding find first
+    unfolding findWith first
     find-other u e = go (ℕ-discrete (slot (d .memory .heads) u) (slot (d .memory .heads) t))
       where
         go : Dec (slot (d .memory .heads) u ≡ slot (d .memory .heads) t) → find (add d t) u ≡ find d u

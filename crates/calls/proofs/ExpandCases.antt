@@ -22,8 +22,8 @@ use Rattle.words.specs.AsPapers.{directionOf}
 use Rattle.words.proofs.PapersOpened.{direction-refused, kept-refused}
 use Rattle.words.proofs.PapersSteps.{opened-as-papers}
 use Rattle.calls.specs.Store.{Memory, Store, stateRoom, trRoom, tripleAt, expandedAt, find, mark, Part, partAt}
-use Rattle.calls.specs.Checks.{Session, storeOf, entered, enteredAt}
-use Rattle.calls.specs.Calls.{Outcome, reachedBy, reach, storeStep, nextFor, storeSteps, newPart, expansion, expandBy, expandOf, settle}
+use Rattle.calls.specs.Checks.{Session, storeOf, entered, enteredAtWith}
+use Rattle.calls.specs.Calls.{Outcome, reachedBy, storeStep, nextFor, storeSteps, newPart, expansion, expandBy, expandOf, settle, expandWith, expansionWith, reachWith, storeStepWith, storeStepsWith}
 use Rattle.calls.proofs.ExpandKept.{entered-is, sided}
 use Rattle.calls.proofs.RunLaws.{expand-under}
 
@@ -46,7 +46,7 @@ module _ (l : Lent) (s : Session) (m : Memory) (c : Composition) (enters : enter
       → (n < s .used .states → expandedAt (m .states) n ≢ 1 → (k : ℕ) → storeSteps (storeOf s m) (stepsAt c (tripleAt (m .states) n)) ≡ refused k → P (stayed s m (refused k)))
       → (n < s .used .states → expandedAt (m .states) n ≢ 1 → (e : Store) → storeSteps (storeOf s m) (stepsAt c (tripleAt (m .states) n)) ≡ good e → P (stored s n e))
       → P (expandOf l s m n)
-  unfolding expandOf enteredAt expansion
+  unfolding expandWith enteredAtWith expansionWith
   by-expand n P late old stop new = go (leb (s .used .states) n) refl
     where
       by-store : (x : Checked Store) → n < s .used .states → expandedAt (m .states) n ≢ 1 → storeSteps (storeOf s m) (stepsAt c (tripleAt (m .states) n)) ≡ x → P (settle s m (expansion c s m n))
@@ -85,14 +85,14 @@ reach-refused d t (some n) k e = absurd (good≢refused e)
 reach-refused d t none k e = ⊎-elim (λ z. z) (λ z. absurd (good≢refused z)) (stop-if (leb (stateRoom (d .memory)) (d .used .states)) 13 _ k e)
 
 step-refused : (d : Store) (next : ℕ) (st : Step) (k : ℕ) → storeStep d next st ≡ refused k → k ≡ 13
-unfolding storeStep reach
+unfolding storeStepWith reachWith
 step-refused d next st k e =
     ⊎-elim (λ z. z) (λ z. ⊎-elim (reach-refused d (st .to) (find d (st .to)) k) (λ x. absurd (good≢refused (x .2))) (stop-then (reachedBy d (st .to) (find d (st .to))) _ k z))
     (stop-if (leb (trRoom (d .memory)) (d .used .trs)) 13 _ k e)
 
 -- steps are refused by 13, or by a refusal among them
 pub stored-refused : (d : Store) (steps : List (Checked Step)) (k : ℕ) → storeSteps d steps ≡ refused k → (k ≡ 13) ⊎ In (refused k) steps
-unfolding storeSteps
+unfolding storeStepsWith
 stored-refused d [] k e = absurd (good≢refused e)
 stored-refused d (refused n ∷ others) k e = inr (here (ap refused (refused-is (sym e))))
 stored-refused d (good st ∷ others) k e =

@@ -14,13 +14,12 @@ use Rattle.words.specs.Machines.{stateCount, wellFormed}
 use Rattle.words.specs.Sides.{Side, sideOf}
 use Rattle.words.specs.Steps.{Composition, Step, stepsAt}
 use Rattle.words.specs.Settings.{Settings, settingsOk, Lent, operand1, operand2, compositionOf}
-use Rattle.words.proofs.FormLaws.{form}
 use Rattle.words.proofs.CheckedLaws.{good≢refused, good-is, past-check, past-then}
 use Rattle.words.proofs.StepRange.{InRange, steps-in-range}
-use Rattle.calls.specs.Store.{Memory, Used, Store, tripleAt, expandedAt, mark, Part}
+use Rattle.calls.specs.Store.{Memory, Used, Store, tripleAt, expandedAt, mark, Part, markWith}
 use Rattle.calls.specs.Forms.{fits}
-use Rattle.calls.specs.Checks.{Session, sideNumber, storeOf, sideFor, sessionOk, entered, enteredAt}
-use Rattle.calls.specs.Calls.{Done, settle, storeSteps, newPart, expansion, expandBy, expandOf}
+use Rattle.calls.specs.Checks.{Session, sideNumber, storeOf, sideFor, sessionOk, entered, enteredAt, enteredAtWith, enteredWith, sessionOkWith, sideForWith}
+use Rattle.calls.specs.Calls.{Done, settle, storeSteps, newPart, expansion, expandBy, expandOf, expandWith, expansionWith}
 use Rattle.calls.proofs.StoreForms.{Form, form-of, of-form}
 use Rattle.calls.proofs.FormKept.{mark-form}
 use Rattle.calls.proofs.StepsKept.{steps-kept, longer}
@@ -33,7 +32,7 @@ pub record Sided (s : Settings) (l : Lent) (side : Side) : Type 0 where
   pub rule : sideOf (operand1 s l) (operand2 s l) ≡ good side
 
 pub sided : (s : Settings) (l : Lent) (side : Side) → sideFor s l ≡ good side → Sided s l side
-unfolding sideFor
+unfolding sideForWith
 sided s l side e =
     let a = past-check (not (settingsOk s)) 1 _ side e in
     let b = past-check (not (wellFormed (l .m1))) 2 _ side (a .1) in
@@ -56,7 +55,7 @@ module _ (l : Lent) where
   S2 = stateCount (l .m2)
 
   pub entered-is : (s : Session) (m : Memory) (c : Composition) → entered l s m ≡ good c → Entered l s m c
-  unfolding entered sessionOk
+  unfolding enteredWith sessionOkWith
   entered-is s m c e =
       let a = past-then (sideFor (s .settings) l) _ c e in
       let b = past-check (not (sessionOk l s m (a .0))) 8 _ c (a .2) in
@@ -71,7 +70,7 @@ module _ (l : Lent) where
       }
 
   pub is-entered : (s : Session) (m : Memory) (c : Composition) → Entered l s m c → entered l s m ≡ good c
-  unfolding entered sessionOk
+  unfolding enteredWith sessionOkWith
   is-entered s m c h =
       let f = of-form S1 S2 (storeOf s m) (h .form) in
       rw (h .rule, eq-eqb (s .side) (sideNumber (h .side)) (h .same), f .0, f .1) (ap good (sym (h .composition)))
@@ -99,15 +98,14 @@ module _ (l : Lent) where
       → Form S1 S2 (mark d n (newPart (s .used) (d .used) .first)) (d .used .trs)
   marked s m c n d h found e =
       let z = sided (s .settings) l (h .side) (h .rule) in
-      let narrow = form (l .m2) (z .formed2) .states in
       let steps = stepsAt c (tripleAt (m .states) n) in
       let more = longer (storeOf s m) (s .used .trs + length steps) (h .form) (omega arith) in
-      let k = steps-kept narrow (storeOf s m) (s .used .trs + length steps) steps d more (λ st i. in-range s m c n h found st i) (omega (arith, found)) refl e in
-      mark-form narrow d (k .form) n (newPart (s .used) (d .used) .first) (omega (arith, found, k .states)) (first-used (s .used) (d .used) (length steps) (k .trs))
+      let k = steps-kept (storeOf s m) (s .used .trs + length steps) steps d more (λ st i. in-range s m c n h found st i) (omega (arith, found)) refl e in
+      mark-form d (k .form) n (newPart (s .used) (d .used) .first) (omega (arith, found, k .states)) (first-used (s .used) (d .used) (length steps) (k .trs))
 
   -- the expansion of an unexpanded state
   expansion-kept : (s : Session) (m : Memory) (c : Composition) (n : ℕ) (r : Done Part) → Entered l s m c → n < s .used .states → expansion c s m n ≡ good r → Entered l (r .session) (r .memory) c
-  unfolding expansion mark
+  unfolding expansionWith markWith
   expansion-kept s m c n r h found e =
       let x = past-then (storeSteps (storeOf s m) (stepsAt c (tripleAt (m .states) n))) _ r e in
       let p = newPart (s .used) (x .0 .used) in
@@ -126,7 +124,7 @@ module _ (l : Lent) where
   -- an accepted expansion, of a state expanded before or not, leaves a session and memory that pass the checks 1 to 8 with the same composition
   pub expand-kept : (s : Session) (m : Memory) (n : ℕ) (c : Composition) (p : Part) → entered l s m ≡ good c → expandOf l s m n .answer ≡ good p
       → entered l (expandOf l s m n .session) (expandOf l s m n .memory) ≡ good c
-  unfolding expandOf enteredAt
+  unfolding expandWith enteredAtWith
   expand-kept s m n c p e = settled s m c (andThen (enteredAt l s m n) (λ c. expandBy c s m n (eqb (expandedAt (m .states) n) 1))) p done
     where
       done : (r : Done Part) → andThen (enteredAt l s m n) (λ c. expandBy c s m n (eqb (expandedAt (m .states) n) 1)) ≡ good r → Entered l (r .session) (r .memory) c

@@ -6,21 +6,21 @@ use Prim.Native.Nat.{ℕ, _+_, _≤_, _<_}
 use native.Mathlib.Omega.{arith}
 use lib.ListN.{length}
 use Rattle.words.specs.Labels.{good}
-use Rattle.words.specs.Machines.{limit, stateCount}
+use Rattle.words.specs.Machines.{stateCount}
 use Rattle.words.specs.Steps.{Composition, Step, stepsAt}
 use Rattle.words.specs.Settings.{Lent}
-use Rattle.words.proofs.FormLaws.{form}
 use Rattle.words.proofs.StepRange.{InRange}
-use Rattle.calls.specs.Store.{Memory, Store, stateSize, stateField, tripleAt, firstPlace, expandedAt, firstAt, mark, partAt}
+use Rattle.calls.specs.Store.{Memory, Store, stateSize, stateField, tripleAt, expandedAt, mark, partAt, firstWith, markWith}
 use Rattle.calls.specs.Checks.{Session, storeOf, entered}
 use Rattle.calls.specs.Calls.{storeSteps, newPart}
-use Rattle.calls.proofs.ExpandKept.{sided, Entered, entered-is, steps-range}
+use Rattle.calls.proofs.ExpandKept.{Entered, entered-is, steps-range}
 use Rattle.calls.proofs.FormKept.{mark-other, mark-expanded}
 use Rattle.calls.proofs.StepsKept.{longer}
 use Rattle.calls.proofs.StepsStay.{Stays, steps-stay}
 use Rattle.calls.proofs.FindLaws.{Whole, marked-triple, whole-mark}
 use Rattle.calls.proofs.StepsMade.{stay-state, stored-good, StepsMade, steps-made}
 use Rattle.calls.proofs.Parts.{part-alike, new-low, part-new}
+use Rattle.calls.proofs.RecordLaws.{firstPlace}
 
 -- the store e after the steps of state n, with the state's mark
 abbrev pub markedBy : Session → ℕ → Store → Store
@@ -55,9 +55,6 @@ module _ (l : Lent) (c : Composition) (s : Session) (m : Memory) (enters : enter
   checks : Entered l s m c
   checks = entered-is l s m c enters
 
-  narrow : S2 ≤ limit
-  narrow = form (l .m2) (sided (s .settings) l (checks .side) (checks .rule) .formed2) .states
-
   all : (steps : List Step) × (stepsAt c (tripleAt (m .states) n) ≡ map good steps)
   all = stored-good d (stepsAt c (tripleAt (m .states) n)) e stored
 
@@ -66,7 +63,7 @@ module _ (l : Lent) (c : Composition) (s : Session) (m : Memory) (enters : enter
 
   made′ : StepsMade S1 S2 d (all .0) e
   made′ =
-      steps-made narrow d (s .used .trs + length (all .0)) (all .0) e (longer d (s .used .trs + length (all .0)) (checks .form) (omega arith)) all-found in-range (omega (arith, found)) refl
+      steps-made d (s .used .trs + length (all .0)) (all .0) e (longer d (s .used .trs + length (all .0)) (checks .form) (omega arith)) all-found in-range (omega (arith, found)) refl
       (subst (λ x. storeSteps d x ≡ good e) (all .1) stored)
 
   stays′ : Stays d e
@@ -82,20 +79,20 @@ module _ (l : Lent) (c : Composition) (s : Session) (m : Memory) (enters : enter
   here′ = omega (arith, found, made′ .states)
 
   field-other′ : (k j : ℕ) → k < s .used .states → k ≢ n → j < stateSize → stateField (markedBy s n e .memory .states) k j ≡ stateField (m .states) k j
-  field-other′ k j h x i = mark-other narrow e (made′ .form) n from here′ low k j x i ∙ stay-state stays′ k j h i
+  field-other′ k j h x i = mark-other e (made′ .form) n from here′ low k j x i ∙ stay-state stays′ k j h i
 
   pub expand-made : ExpandMade l c s m n e
-  unfolding mark firstAt
+  unfolding markWith firstWith
   expand-made = record {
     steps = all .0;
     moves = all .1;
     made = made′;
     stays = stays′;
-    whole = whole-mark e (made′ .form) (made′ .whole) narrow n from here′ low;
-    triple = marked-triple e (made′ .form) (made′ .whole) narrow n from here′ low;
-    other = λ k j x i. mark-other narrow e (made′ .form) n from here′ low k j x i;
+    whole = whole-mark e (made′ .form) (made′ .whole) n from here′ low;
+    triple = marked-triple e (made′ .form) (made′ .whole) n from here′ low;
+    other = λ k j x i. mark-other e (made′ .form) n from here′ low k j x i;
     field-other = field-other′;
-    expanded = mark-expanded narrow e (made′ .form) n from here′ low;
-    part-it = part-new narrow (s .used) e (made′ .form) n here′ (all .0) (made′ .trs) (made′ .written) low;
+    expanded = mark-expanded e (made′ .form) n from here′ low;
+    part-it = part-new (s .used) e (made′ .form) n here′ (all .0) (made′ .trs) (made′ .written) low;
     part-other = λ k h x. part-alike d (markedBy s n e) (checks .form) (stays′ .trs) k h (λ i y. stays′ .tr-word i (inl y)) (field-other′ k firstPlace h x (omega arith));
   }

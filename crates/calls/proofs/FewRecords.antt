@@ -13,9 +13,9 @@ use Rattle.words.specs.Labels.{Checked, good, refused}
 use Rattle.words.specs.Steps.{Composition, stepsAt}
 use Rattle.words.specs.Settings.{Settings, Lent}
 use Rattle.words.proofs.CheckedLaws.{good≢refused}
-use Rattle.calls.specs.Store.{Memory, Store, stateSize, stateRoom, trRoom, stateField, tripleAt, expandedPlace, expandedAt, mark, Part, partAt, add}
+use Rattle.calls.specs.Store.{Memory, Store, stateSize, stateRoom, trRoom, stateField, tripleAt, expandedPlace, expandedAt, Part, partAt, add, addWith, expandedWith, markWith, stateRoomWith}
 use Rattle.calls.specs.Checks.{Session, storeOf, entered}
-use Rattle.calls.specs.Calls.{Outcome, cleared, storeSteps, newPart, expandOf, onward, runBy, runFrom, openOf, runOf}
+use Rattle.calls.specs.Calls.{Outcome, cleared, storeSteps, newPart, expandOf, onward, runBy, runFrom, openOf, runOf, runFromWith, runWith}
 use Rattle.calls.proofs.RecordLaws.{room-same}
 use Rattle.calls.proofs.FindLaws.{Whole}
 use Rattle.calls.proofs.ExpandKept.{expand-kept, entered-is}
@@ -45,7 +45,7 @@ module _ (l : Lent) (c : Composition) where
   -- state n was not expanded: its list is the part of the new records, which no other list has
   stored-on : (n : ℕ) (s : Session) (m : Memory) → CameTo l c n s m → n < s .used .states → (e : Store) → storeSteps (storeOf s m) (stepsAt c (tripleAt (m .states) n)) ≡ good e
       → entered l (stored s n e .session) (stored s n e .memory) ≡ good c → CameTo l c (suc n) (stored s n e .session) (stored s n e .memory) × (stateRoom (stored s n e .memory) ≡ stateRoom m)
-  unfolding mark expandedAt stateRoom
+  unfolding markWith expandedWith stateRoomWith
   stored-on n s m h found e y k =
       let w = expand-made l c s m (h .enters) (h .whole) n found e y in
       let same : recordsBelow (markedBy s n e) n ≡ recordsBelow (storeOf s m) n = total-same (λ i. partAt (markedBy s n e) i .count) (λ i. partAt (storeOf s m) i .count) 0 n (λ i j. ap (λ (q : Part). q .count) (w .part-other i (omega (arith, found)) (λ z. omega (arith, z)))) in
@@ -85,7 +85,7 @@ module _ (l : Lent) (c : Composition) where
   Few k n s m = CameTo l c n s m → stateRoom m ≤ k + n → runFrom l k n s m .answer ≡ good tt → FewRecords (runFrom l k n s m .session) (runFrom l k n s m .memory)
 
   from-few : (k n : ℕ) (s : Session) (m : Memory) → Few k n s m
-  unfolding runFrom
+  unfolding runFromWith
   from-few zero n s m h room = λ g. end-few n s m h (omega (arith, room, entered-is l s m c (h .enters) .form .states-fit))
   from-few (suc k) n s m h room = go (leb (s .used .states) n) refl (λ s′ m′. from-few k (suc n) s′ m′)
     where
@@ -103,19 +103,19 @@ module _ (l : Lent) (c : Composition) where
       go false e rec g = on (o .answer) refl (leb-false _ _ e) rec g
 
   run-few : (s : Session) (m : Memory) → CameTo l c 0 s m → runOf l s m .answer ≡ good tt → FewRecords (runOf l s m .session) (runOf l s m .memory)
-  unfolding runOf
+  unfolding runWith
   run-few s m h = rw (h .enters) (from-few (stateRoom m) 0 s m h (omega arith))
 
 -- an opening leaves no expanded state, and each is found
 open-bare : (s : Settings) (l : Lent) (got : Session) (m : Memory) → openOf s l got m .answer ≡ good tt
     → Whole (storeOf (openOf s l got m .session) (openOf s l got m .memory)) × ((i : ℕ) → i < openOf s l got m .session .used .states → expandedAt (openOf s l got m .memory .states) i ≡ 0)
-unfolding cleared add expandedAt
+unfolding cleared addWith expandedWith
 open-bare s l got m =
     by-open s l got m (λ (o : Outcome (Unit {0})). o .answer ≡ good tt → Whole (storeOf (o .session) (o .memory)) × ((i : ℕ) → i < o .session .used .states → expandedAt (o .memory .states) i ≡ 0))
     (λ k r z. absurd (good≢refused (sym z)))
     (λ x r h z. (λ n i. absurd (omega arith), λ n i. absurd (omega arith)))
     (λ x t r h z. absurd (good≢refused (sym z)))
-    (λ x t r h b z. (begun-whole s l x t r h m b, λ n i. let e : 0 ≡ n = omega arith in subst (λ k. stateField (add (cleared m) t .memory .states) k expandedPlace ≡ 0) e (begun-field s l x t r h m b expandedPlace (omega arith))))
+    (λ x t r h b z. (begun-whole t m b, λ n i. let e : 0 ≡ n = omega arith in subst (λ k. stateField (add (cleared m) t .memory .states) k expandedPlace ≡ 0) e (begun-field t m b expandedPlace (omega arith))))
 
 pub few-records : (s : Settings) (l : Lent) (got : Session) (m : Memory) → openOf s l got m .answer ≡ good tt
     → let o = openOf s l got m in let r = runOf l (o .session) (o .memory) in r .answer ≡ good tt → FewRecords (r .session) (r .memory)

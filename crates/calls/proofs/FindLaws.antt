@@ -7,10 +7,9 @@ use Prim.Native.Nat.{ℕ, _≤_, _<_}
 use native.Mathlib.Omega.{arith}
 use native.Mathlib.Decide.{ℕ-discrete, decLt}
 use lib.ListN.{length}
-use Rattle.words.specs.Machines.{limit}
 use Rattle.words.specs.Steps.{Triple, Step}
-use Rattle.calls.specs.Store.{Store, stateRoom, tripleAt, nextPlace, nextAt, chainOf, sameTriple, find, add, append, mark}
-use Rattle.calls.proofs.RecordLaws.{triple-same}
+use Rattle.calls.specs.Store.{Store, stateRoom, tripleAt, nextAt, sameTriple, find, add, append, mark, addWith, chainWith, findWith, markWith, nextWith}
+use Rattle.calls.proofs.RecordLaws.{nextPlace, triple-same}
 use Rattle.calls.proofs.StoreForms.{Form}
 use Rattle.calls.proofs.ChainLaws.{same-triple, find-sound, find-same, add-triple, add-holds, find-added, find-other}
 use Rattle.calls.proofs.FormKept.{mark-other, mark-triple, mark-next}
@@ -25,9 +24,9 @@ whole-distinct d h i j p q e = Option·some-injective i j (sym (h i p) ∙ (ap (
 
 module _ {S1 S2 : ℕ} (d : Store) {last : ℕ} (form : Form S1 S2 d last) (whole : Whole d) where
   -- a new state, of a triple that was not found
-  pub whole-add : (t : Triple) → t .s2 < 65536 → d .used .states < stateRoom (d .memory) → 0 < length (d .memory .heads) → find d t ≡ none → Whole (add d t)
-  unfolding add
-  whole-add t narrow room headed e n h = go (decLt n (d .used .states))
+  pub whole-add : (t : Triple) → d .used .states < stateRoom (d .memory) → 0 < length (d .memory .heads) → find d t ≡ none → Whole (add d t)
+  unfolding addWith
+  whole-add t room headed e n h = go (decLt n (d .used .states))
     where
       other : (u : Triple) (b : Bool) → sameTriple t u ≡ b → find d u ≡ some n → sameTriple t u ≡ false
       other u true s f = absurd (Option·none-ne-some n (sym e ∙ (ap (find d) (same-triple t u s) ∙ f)))
@@ -36,39 +35,39 @@ module _ {S1 S2 : ℕ} (d : Store) {last : ℕ} (form : Form S1 S2 d last) (whol
       go : Dec (n < d .used .states) → find (add d t) (tripleAt (add d t .memory .states) n) ≡ some n
       go (yes l) =
           let u = tripleAt (d .memory .states) n in
-          ap (find (add d t)) (add-triple d form t narrow room headed n l) ∙ (find-other d form t narrow room headed u (other u (sameTriple t u) refl (whole n l)) ∙ whole n l)
+          ap (find (add d t)) (add-triple d form t room headed n l) ∙ (find-other d form t room headed u (other u (sameTriple t u) refl (whole n l)) ∙ whole n l)
       go (no l) =
           let z : n ≡ d .used .states = omega arith in
-          ap (λ k. find (add d t) (tripleAt (add d t .memory .states) k)) z ∙ (ap (find (add d t)) (add-holds d form t narrow room headed) ∙ (find-added d form t narrow room headed ∙ ap some (sym z)))
+          ap (λ k. find (add d t) (tripleAt (add d t .memory .states) k)) z ∙ (ap (find (add d t)) (add-holds d form t room headed) ∙ (find-added d form t room headed ∙ ap some (sym z)))
 
   -- a new transition: the table does not look at transitions
   pub whole-append : (st : Step) (target next : ℕ) → Whole (append d st target next)
-  unfolding append find chainOf
+  unfolding append findWith chainWith
   whole-append st target next = whole
 
-  module _ (narrow : S2 ≤ limit) (n first′ : ℕ) (found : n < d .used .states) (within : first′ ≤ d .used .trs) where
+  module _ (n first′ : ℕ) (found : n < d .used .states) (within : first′ ≤ d .used .trs) where
     pub marked-triple : (k : ℕ) → tripleAt (mark d n first′ .memory .states) k ≡ tripleAt (d .memory .states) k
     marked-triple k = go (ℕ-discrete k n)
       where
         go : Dec (k ≡ n) → tripleAt (mark d n first′ .memory .states) k ≡ tripleAt (d .memory .states) k
-        go (yes e) = subst (λ j. tripleAt (mark d n first′ .memory .states) j ≡ tripleAt (d .memory .states) j) (sym e) (mark-triple narrow d form n first′ found within)
-        go (no e) = triple-same (d .memory .states) (mark d n first′ .memory .states) k k (λ j h. mark-other narrow d form n first′ found within k j e (omega arith))
+        go (yes e) = subst (λ j. tripleAt (mark d n first′ .memory .states) j ≡ tripleAt (d .memory .states) j) (sym e) (mark-triple d form n first′ found within)
+        go (no e) = triple-same (d .memory .states) (mark d n first′ .memory .states) k k (λ j h. mark-other d form n first′ found within k j e (omega arith))
 
     marked-next : (k : ℕ) → nextAt (mark d n first′ .memory .states) k ≡ nextAt (d .memory .states) k
-    unfolding nextAt
+    unfolding nextWith
     marked-next k = go (ℕ-discrete k n)
       where
         go : Dec (k ≡ n) → nextAt (mark d n first′ .memory .states) k ≡ nextAt (d .memory .states) k
-        go (yes e) = subst (λ j. nextAt (mark d n first′ .memory .states) j ≡ nextAt (d .memory .states) j) (sym e) (mark-next narrow d form n first′ found within)
-        go (no e) = mark-other narrow d form n first′ found within k nextPlace e (omega arith)
+        go (yes e) = subst (λ j. nextAt (mark d n first′ .memory .states) j ≡ nextAt (d .memory .states) j) (sym e) (mark-next d form n first′ found within)
+        go (no e) = mark-other d form n first′ found within k nextPlace e (omega arith)
 
     marked-find : (t : Triple) → find (mark d n first′) t ≡ find d t
-    unfolding mark
+    unfolding markWith
     marked-find = find-same d form (mark d n first′ .memory .states) (d .memory .trs) (λ k h. marked-next k) (λ k h. marked-triple k)
 
     -- a mark
     pub whole-mark : Whole (mark d n first′)
-    unfolding mark
+    unfolding markWith
     whole-mark k h = ap (find (mark d n first′)) (marked-triple k) ∙ (marked-find (tripleAt (d .memory .states) k) ∙ whole k h)
 
 -- two stores with the same triples find the same

@@ -9,17 +9,16 @@ use lib.ListN.{length, getD, length-set}
 use lib.Seq.{getD-set-same, getD-set-other}
 use Rattle.lists.specs.Lists.{put}
 use Rattle.lists.proofs.Put.{length-put, put-before, put-after, put-in}
-use Rattle.words.specs.Machines.{limit}
 use Rattle.words.specs.Steps.{Triple, Step}
 use Rattle.words.proofs.StepRange.{InRange}
-use Rattle.calls.specs.Store.{Store, stateSize, trSize, stateRoom, trRoom, stateField, tripleAt, expandedPlace, firstPlace, nextPlace, expandedAt, firstAt, nextAt, trField, targetAt, trNextAt, slot, headOf, stateRecord, add, trRecord, append, mark}
-use Rattle.calls.proofs.RecordLaws.{room-words, room-same, triple-same}
+use Rattle.calls.specs.Store.{Store, stateSize, trSize, stateRoom, trRoom, stateField, tripleAt, expandedPlace, expandedAt, firstAt, nextAt, trField, targetAt, trNextAt, slot, headOf, stateRecord, add, trRecord, append, mark, addWith, expandedWith, fieldOf, firstWith, markWith, nextWith, stateRoomWith, trRoomWith}
+use Rattle.calls.proofs.RecordLaws.{firstPlace, nextPlace, room-words, room-same, triple-same}
 use Rattle.calls.proofs.StoreForms.{StateForm, TrForm, Form}
 use Rattle.calls.proofs.ChainLaws.{add-field, add-new, add-holds, slot-in}
 
 -- the words of a state's record that form looks at, taken over from a record with the same ones
 pub moved : {S1 S2 : ℕ} (ss rr : List ℕ) (trs more n : ℕ) → trs ≤ more → ((k : ℕ) → k < stateSize → stateField rr n k ≡ stateField ss n k) → StateForm S1 S2 ss trs n → StateForm S1 S2 rr more n
-unfolding expandedAt firstAt nextAt
+unfolding expandedWith firstWith nextWith
 moved ss rr trs more n h e s = record {
   triple = rw (triple-same ss rr n n (λ k i. e k (omega arith))) (s .triple);
   expanded = rw (e expandedPlace (omega arith)) (s .expanded);
@@ -28,39 +27,36 @@ moved ss rr trs more n h e s = record {
   next = rw (e nextPlace (omega arith)) (s .next);
 }
 
-module _ {S1 S2 : ℕ} (narrow : S2 ≤ limit) (d : Store) {last : ℕ} (form : Form S1 S2 d last) where
+module _ {S1 S2 : ℕ} (d : Store) {last : ℕ} (form : Form S1 S2 d last) where
   abbrev U : ℕ
   U = d .used .states
 
   -- a new state: its record and its head are in form, the others stay
   module _ (t : Triple) (ok : InRange S1 S2 t) (room : U < stateRoom (d .memory)) (headed : 0 < length (d .memory .heads)) where
-    abbrev few : t .s2 < 65536
-    few = omega (arith, narrow, ok .s2)
-
     abbrev ss : List ℕ
     ss = add d t .memory .states
 
     new-head : (h : ℕ) → Dec (h ≡ slot (d .memory .heads) t) → getD (add d t .memory .heads) h 0 ≤ U + 1
-    unfolding add
+    unfolding addWith
     new-head h (yes e) = rw (e, getD-set-same (d .memory .heads) (slot (d .memory .heads) t) (U + 1) 0 (slot-in (d .memory .heads) t headed)) (omega arith)
     new-head h (no e) = let l = form .head h in rw (getD-set-other (d .memory .heads) (slot (d .memory .heads) t) h (U + 1) 0 e) (omega arith)
 
     new-state : StateForm S1 S2 ss (d .used .trs) U
-    unfolding expandedAt firstAt nextAt headOf
+    unfolding expandedWith firstWith nextWith headOf
     new-state = record {
-      triple = rw (add-holds d form t few room headed) ok;
-      expanded = rw (add-new d form t few room headed expandedPlace (omega arith)) (omega arith);
-      unexpanded = inr (add-new d form t few room headed firstPlace (omega arith));
-      first = rw (add-new d form t few room headed firstPlace (omega arith)) (omega arith);
-      next = rw (add-new d form t few room headed nextPlace (omega arith)) (form .head (slot (d .memory .heads) t));
+      triple = rw (add-holds d form t room headed) ok;
+      expanded = rw (add-new d form t room headed expandedPlace (omega arith)) (omega arith);
+      unexpanded = inr (add-new d form t room headed firstPlace (omega arith));
+      first = rw (add-new d form t room headed firstPlace (omega arith)) (omega arith);
+      next = rw (add-new d form t room headed nextPlace (omega arith)) (form .head (slot (d .memory .heads) t));
     }
 
     each-state : (n : ℕ) → n < U + 1 → Dec (n < U) → StateForm S1 S2 ss (d .used .trs) n
-    each-state n h (yes l) = moved (d .memory .states) ss (d .used .trs) (d .used .trs) n (omega arith) (λ k i. add-field d form t few room headed n k l i) (form .state n l)
+    each-state n h (yes l) = moved (d .memory .states) ss (d .used .trs) (d .used .trs) n (omega arith) (λ k i. add-field d form t room headed n k l i) (form .state n l)
     each-state n h (no l) = let e : n ≡ U = omega arith in rw e new-state
 
     pub add-form : Form S1 S2 (add d t) last
-    unfolding add stateRoom trRoom
+    unfolding addWith stateRoomWith trRoomWith
     add-form = record {
       states-fit = rw (room-same stateSize (d .memory .states) (add d t .memory .states) (length-put (d .memory .states) (stateSize * U) (stateRecord t (headOf (d .memory .heads) t)))) (omega (arith, room));
       trs-fit = form .trs-fit;
@@ -79,11 +75,11 @@ module _ {S1 S2 : ℕ} (narrow : S2 ≤ limit) (d : Store) {last : ℕ} (form : 
     ts = append d st target next .memory .trs
 
     old-tr : (i k : ℕ) → i < T → k < trSize → trField ts i k ≡ trField (d .memory .trs) i k
-    unfolding append trField
+    unfolding append fieldOf
     old-tr i k h l = put-before (d .memory .trs) (trSize * T) (trRecord st target next) (trSize * i + k) 0 (omega arith)
 
     pub append-new : (k : ℕ) → k < trSize → trField ts T k ≡ getD (trRecord st target next) k 0
-    unfolding append trField trRoom
+    unfolding append fieldOf trRoomWith
     append-new k h = let r = room-words trSize (d .memory .trs) (suc T) room in put-in (d .memory .trs) (trSize * T) (trRecord st target next) k 0 h (omega (arith, r .1))
 
     each-tr : (i : ℕ) → i < T + 1 → Dec (i < T) → TrForm ts U last i
@@ -92,7 +88,7 @@ module _ {S1 S2 : ℕ} (narrow : S2 ≤ limit) (d : Store) {last : ℕ} (form : 
     each-tr i h (no l) = let e : i ≡ T = omega arith in rw e (record { target = rw (append-new 3 (omega arith)) used; next = rw (append-new 4 (omega arith)) linked })
 
     pub append-form : Form S1 S2 (append d st target next) last
-    unfolding append stateRoom trRoom
+    unfolding append stateRoomWith trRoomWith
     append-form = record {
       states-fit = form .states-fit;
       trs-fit = rw (room-same trSize (d .memory .trs) (append d st target next .memory .trs) (length-put (d .memory .trs) (trSize * T) (trRecord st target next))) (omega (arith, room));
@@ -108,11 +104,11 @@ module _ {S1 S2 : ℕ} (narrow : S2 ≤ limit) (d : Store) {last : ℕ} (form : 
     ms = mark d n first .memory .states
 
     fit : stateSize * n + stateSize ≤ length (d .memory .states)
-    unfolding stateRoom
+    unfolding stateRoomWith
     fit = let r = room-words stateSize (d .memory .states) U (form .states-fit) in omega (arith, r .1)
 
     pub mark-other : (m k : ℕ) → m ≢ n → k < stateSize → stateField ms m k ≡ stateField (d .memory .states) m k
-    unfolding mark stateField
+    unfolding markWith fieldOf
     mark-other m k e h = go (decLt m n)
       where
         go : Dec (m < n) → getD (put (d .memory .states) (stateSize * n + expandedPlace) (1 ∷ first ∷ [])) (stateSize * m + k) 0 ≡ getD (d .memory .states) (stateSize * m + k) 0
@@ -120,19 +116,19 @@ module _ {S1 S2 : ℕ} (narrow : S2 ≤ limit) (d : Store) {last : ℕ} (form : 
         go (no l) = let g : n < m = omega (arith, e) in put-after (d .memory .states) (stateSize * n + expandedPlace) (1 ∷ first ∷ []) (stateSize * m + k) 0 (omega arith)
 
     pub mark-triple : tripleAt ms n ≡ tripleAt (d .memory .states) n
-    unfolding mark stateField
+    unfolding markWith fieldOf
     mark-triple = triple-same (d .memory .states) ms n n (λ k h. put-before (d .memory .states) (stateSize * n + expandedPlace) (1 ∷ first ∷ []) (stateSize * n + k) 0 (omega arith))
 
     pub mark-next : nextAt ms n ≡ nextAt (d .memory .states) n
-    unfolding mark nextAt stateField
+    unfolding markWith nextWith fieldOf
     mark-next = put-after (d .memory .states) (stateSize * n + expandedPlace) (1 ∷ first ∷ []) (stateSize * n + nextPlace) 0 (omega arith)
 
     pub mark-expanded : expandedAt ms n ≡ 1
-    unfolding mark expandedAt stateField
+    unfolding markWith expandedWith fieldOf
     mark-expanded = ap (λ i. getD ms i 0) (omega arith) ∙ put-in (d .memory .states) (stateSize * n + expandedPlace) (1 ∷ first ∷ []) 0 0 (omega arith) (omega (arith, fit))
 
     pub mark-first : firstAt ms n ≡ first
-    unfolding mark firstAt stateField
+    unfolding markWith firstWith fieldOf
     mark-first = ap (λ i. getD ms i 0) (omega arith) ∙ put-in (d .memory .states) (stateSize * n + expandedPlace) (1 ∷ first ∷ []) 1 0 (omega arith) (omega (arith, fit))
 
     marked-state : (m : ℕ) → m < U → Dec (m ≡ n) → StateForm S1 S2 ms (d .used .trs) m
@@ -148,7 +144,7 @@ module _ {S1 S2 : ℕ} (narrow : S2 ≤ limit) (d : Store) {last : ℕ} (form : 
         })
 
     pub mark-form : Form S1 S2 (mark d n first) last
-    unfolding mark stateRoom trRoom
+    unfolding markWith stateRoomWith trRoomWith
     mark-form = record {
       states-fit = rw (room-same stateSize (d .memory .states) (mark d n first .memory .states) (length-put (d .memory .states) (stateSize * n + expandedPlace) (1 ∷ first ∷ []))) (form .states-fit);
       trs-fit = form .trs-fit;

@@ -5,7 +5,7 @@ use Prim.Native.Nat.{ℕ, _≤_, _<_}
 use lib.ListN.{length}
 use borrow.Author.Tests.{le-leb, lt-leb}
 use Rattle.words.specs.Labels.{MAX}
-use Rattle.calls.specs.Store.{roomOf, stateRoom, trRoom}
+use Rattle.calls.specs.Store.{stateRoom, trRoom, roomWith, stateRoomWith, trRoomWith}
 use Rattle.calls.specs.Listing.{refusedLine, machineMost, machineLine, emptyMemory}
 use Rattle.calls.proofs.Cases.{Case, printing, Holds, AllHold, each-holds}
 use Rattle.calls.proofs.StarCases.{plain, example1, example2}
@@ -19,7 +19,7 @@ line-too-long m h = rw (lt-leb (length m) machineMost h)
 
 -- "room is 1024 records of each sort and 64 heads"
 pub rooms : (length (emptyMemory .heads) ≡ 64) × (stateRoom emptyMemory ≡ 1024) × (trRoom emptyMemory ≡ 1024)
-unfolding stateRoom trRoom roomOf
+unfolding stateRoomWith trRoomWith roomWith
 rooms = (refl, refl, refl)
 
 unfoldable pub oddLines : List Case

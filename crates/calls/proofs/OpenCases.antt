@@ -4,31 +4,30 @@ use mathlib.Core.Path.{_≡_, refl, sym, _∙_, ap}
 use mathlib.Core.Bool.{Bool, true, false, not, _&&_, _||_}
 use mathlib.Core.List.{[], _∷_, _++_}
 use mathlib.Core.Logic.{_≢_, _⊎_, inl, inr, ⊎-elim}
-use mathlib.Core.Option.{Option, none, some, Option·none-ne-some, Option·some-injective}
-use Prim.Native.Nat.{ℕ, zero, suc, _≤_, _<_}
+use mathlib.Core.Option.{Option, none, some}
+use Prim.Native.Nat.{ℕ, _≤_, _<_}
 use native.Mathlib.Omega.{arith}
 use lib.Dec.{eqb}
 use lib.ListN.{length, getD, length-map}
 use borrow.Author.Tests.{eqb-false, ne-eqb}
 use Rattle.lists.specs.Lists.{first, linked}
 use Rattle.words.specs.Labels.{epsLabel, Checked, good, refused, refuseIf}
-use Rattle.words.specs.Machines.{limit, startWord, lessOne, wellFormed}
+use Rattle.words.specs.Machines.{wellFormed}
 use Rattle.words.specs.Sides.{Side, sideBy, inOrder, sideOf, nonEmpty}
 use Rattle.words.specs.Sigmas.{Operand, isSet}
-use Rattle.words.specs.Steps.{Triple, startOf, startAt}
+use Rattle.words.specs.Steps.{Triple, startAt}
 use Rattle.words.specs.Settings.{Settings, settingsOk, Lent, operand1, operand2, compositionOf}
 use Rattle.words.proofs.CheckedLaws.{good≢refused, refused-is, stop-if}
-use Rattle.words.proofs.FormLaws.{form}
-use Rattle.calls.specs.Store.{Memory, Store, stateRoom, stateField, tripleWords, tripleAt, nextPlace, headOf, find, chainOf, add}
-use Rattle.calls.specs.Checks.{Session, sideNumber, sideFor}
-use Rattle.calls.specs.Calls.{Outcome, cleared, begun, openOf}
+use Rattle.calls.specs.Store.{Memory, Store, stateRoom, stateField, tripleWords, tripleAt, headOf, add, chainWith, findWith, stateRoomWith}
+use Rattle.calls.specs.Checks.{Session, sideNumber, sideFor, sideForWith}
+use Rattle.calls.specs.Calls.{Outcome, cleared, openOf, begunWith, openWith}
 use Rattle.calls.proofs.StoreForms.{some-head, of-some-head}
 use Rattle.calls.proofs.ChainLaws.{add-new, add-holds}
 use Rattle.calls.proofs.OpenKept.{cleared-form}
-use Rattle.calls.proofs.ExpandKept.{sided}
 use Rattle.calls.proofs.FindLaws.{Whole, whole-add}
 use Rattle.calls.proofs.ExpandCases.{stayed}
 use Rattle.calls.proofs.TwoStores.{new-words}
+use Rattle.calls.proofs.RecordLaws.{nextPlace}
 
 -- what an accepted opening leaves, with the store d
 abbrev pub openedAs : Settings → Side → Store → Outcome (Unit {0})
@@ -47,7 +46,7 @@ module _ (s : Settings) (l : Lent) (got : Session) (m : Memory) where
       → ((side : Side) (t : Triple) → sideFor s l ≡ good side → startAt (compositionOf s l side) ≡ some t → P (stayed got m (refused 13)))
       → ((side : Side) (t : Triple) → sideFor s l ≡ good side → startAt (compositionOf s l side) ≡ some t → Begins m → P (openedAs s side (add (cleared m) t)))
       → P (openOf s l got m)
-  unfolding openOf begun
+  unfolding openWith begunWith
   by-open P stop empty full new = go (sideFor s l) refl
     where
       by-room : (side : Side) (t : Triple) (a b : Bool) → sideFor s l ≡ good side → startAt (compositionOf s l side) ≡ some t → eqb (stateRoom m) 0 ≡ a → nonEmpty (m .heads) ≡ b → P (openOf s l got m)
@@ -67,16 +66,16 @@ module _ (s : Settings) (l : Lent) (got : Session) (m : Memory) where
 
   -- and the accepted cases by themselves
   pub open-empty : (side : Side) → sideFor s l ≡ good side → startAt (compositionOf s l side) ≡ none → openOf s l got m ≡ openedAs s side (cleared m)
-  unfolding openOf begun
+  unfolding openWith begunWith
   open-empty side e h = rw (e, h)
 
   pub open-begun : (side : Side) (t : Triple) → sideFor s l ≡ good side → startAt (compositionOf s l side) ≡ some t → Begins m → openOf s l got m ≡ openedAs s side (add (cleared m) t)
-  unfolding openOf begun
+  unfolding openWith begunWith
   open-begun side t e h b = rw (e, h, ne-eqb (stateRoom m) 0 (λ z. omega (arith, z, b .room)), of-some-head (m .heads) (b .headed))
 
 -- "Opening checks 1 to 7, then 13"
 pub side-refusals : (s : Settings) (l : Lent) (k : ℕ) → sideFor s l ≡ refused k → k ≤ 7
-unfolding sideFor sideOf
+unfolding sideForWith sideOf
 side-refusals s l k e =
     check (not (settingsOk s)) 1 _ (omega arith)
     (check (not (wellFormed (l .m1))) 2 _ (omega arith)
@@ -110,20 +109,9 @@ open-refusals s l got m k =
     (λ side t e h x. inr (refused-is (sym x))) (λ side t e h b x. absurd (good≢refused x))
 
 -- where state 0 begins: its record, the triple found
-module _ (s : Settings) (l : Lent) (side : Side) (t : Triple) (rule : sideFor s l ≡ good side) (start : startAt (compositionOf s l side) ≡ some t) (m : Memory) (begins : Begins m) where
-  narrow-start : (o : Option ℕ) (w : ℕ) → w ≤ limit → startOf o (lessOne w) ≡ some t → t .s2 < 65536
-  narrow-start none w h e = absurd (Option·none-ne-some _ e)
-  narrow-start (some q) zero h e = absurd (Option·none-ne-some _ e)
-  narrow-start (some q) (suc w) h e = let z = ap (λ (u : Triple). u .s2) (Option·some-injective (record { s1 = q; s2 = w; f = 0 }) t e) in omega (arith, z, h)
-
-  few : t .s2 < 65536
-  unfolding startAt
-  few =
-      let f = form (l .m2) (sided s l side rule .formed2) in
-      narrow-start (lessOne (startWord (l .m1))) (startWord (l .m2)) (omega (arith, f .start, f .states)) start
-
+module _ (t : Triple) (m : Memory) (begins : Begins m) where
   room : cleared m .used .states < stateRoom (cleared m .memory)
-  unfolding cleared stateRoom
+  unfolding cleared stateRoomWith
   room = begins .room
 
   headed : 0 < length (cleared m .memory .heads)
@@ -135,13 +123,13 @@ module _ (s : Settings) (l : Lent) (side : Side) (t : Triple) (rule : sideFor s 
 
   pub begun-triple : tripleAt (d .memory .states) 0 ≡ t
   unfolding cleared
-  begun-triple = add-holds (cleared m) (cleared-form 0 0 m) t few room headed
+  begun-triple = add-holds (cleared m) (cleared-form 0 0 m) t room headed
 
   -- its words but for the link
   pub begun-field : (k : ℕ) → k < nextPlace → stateField (d .memory .states) 0 k ≡ getD (tripleWords t ++ (0 ∷ 0 ∷ [])) k 0
   unfolding cleared
-  begun-field k h = add-new (cleared m) (cleared-form 0 0 m) t few room headed k (omega arith) ∙ new-words t (headOf (cleared m .memory .heads) t) k h
+  begun-field k h = add-new (cleared m) (cleared-form 0 0 m) t room headed k (omega arith) ∙ new-words t (headOf (cleared m .memory .heads) t) k h
 
   pub begun-whole : Whole d
-  unfolding find first chainOf linked cleared
-  begun-whole = whole-add (cleared m) (cleared-form 0 0 m) (λ n h. absurd (omega arith)) t few room headed refl
+  unfolding findWith first chainWith linked cleared
+  begun-whole = whole-add (cleared m) (cleared-form 0 0 m) (λ n h. absurd (omega arith)) t room headed refl

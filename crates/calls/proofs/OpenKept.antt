@@ -11,16 +11,16 @@ use lib.ListN.{length, List·getD-map, length-map}
 use borrow.Author.Tests.{eqb-false, not-false}
 use Rattle.lists.proofs.Members.{or-false}
 use Rattle.words.specs.Labels.{Checked, good, refused, andThen}
-use Rattle.words.specs.Machines.{limit, stateCount, startWord, lessOne}
+use Rattle.words.specs.Machines.{stateCount, startWord, lessOne}
 use Rattle.words.specs.Sides.{Side, nonEmpty}
 use Rattle.words.specs.Steps.{Triple, startOf, startAt}
 use Rattle.words.specs.Settings.{Settings, Lent, compositionOf}
 use Rattle.words.proofs.FormLaws.{form}
 use Rattle.words.proofs.CheckedLaws.{good≢refused, good-is, past-check, past-then}
 use Rattle.words.proofs.StepRange.{InRange}
-use Rattle.calls.specs.Store.{Memory, Store, stateRoom, add}
+use Rattle.calls.specs.Store.{Memory, Store, stateRoom, addWith, stateRoomWith}
 use Rattle.calls.specs.Checks.{Session, sideFor, entered}
-use Rattle.calls.specs.Calls.{Outcome, Done, settle, cleared, begun, opened, openOf}
+use Rattle.calls.specs.Calls.{Outcome, Done, settle, cleared, begun, opened, openOf, begunWith, openWith}
 use Rattle.calls.proofs.StoreForms.{Form, some-head}
 use Rattle.calls.proofs.FormKept.{add-form}
 use Rattle.calls.proofs.ExpandKept.{sided, is-entered}
@@ -49,16 +49,16 @@ start-range S1 S2 w1 w2 t (some u) (some v) h k p q e =
     subst (InRange S1 S2) (Option·some-injective (record { s1 = u; s2 = v; f = 0 }) t e)
     (record { s1 = start-below w1 S1 u h p; s2 = start-below w2 S2 v k q; f = omega arith })
 
-begun-kept : (S1 S2 : ℕ) → S2 ≤ limit → (m : Memory) (o : Option Triple) (d : Store) → ((t : Triple) → o ≡ some t → InRange S1 S2 t) → begun m o ≡ good d → Form S1 S2 d (d .used .trs)
-unfolding begun cleared add stateRoom
-begun-kept S1 S2 narrow m none d h e = subst (λ (q : Store). Form S1 S2 q (q .used .trs)) (good-is e) (cleared-form S1 S2 m)
-begun-kept S1 S2 narrow m (some t) d h e =
+begun-kept : (S1 S2 : ℕ) (m : Memory) (o : Option Triple) (d : Store) → ((t : Triple) → o ≡ some t → InRange S1 S2 t) → begun m o ≡ good d → Form S1 S2 d (d .used .trs)
+unfolding begunWith cleared addWith stateRoomWith
+begun-kept S1 S2 m none d h e = subst (λ (q : Store). Form S1 S2 q (q .used .trs)) (good-is e) (cleared-form S1 S2 m)
+begun-kept S1 S2 m (some t) d h e =
     let c = past-check (eqb (stateRoom m) 0 || not (nonEmpty (m .heads))) 13 _ d e in
     let lacking = or-false (eqb (stateRoom m) 0) (not (nonEmpty (m .heads))) (c .0) in
     let none′ : stateRoom m ≢ 0 = eqb-false _ _ (lacking .0) in
     let any : 0 < length (m .heads) = some-head (m .heads) (not-false (nonEmpty (m .heads)) (lacking .1)) in
     let any′ : 0 < length {A = ℕ} (map (λ (k : ℕ). 0) (m .heads)) = rw length-map any in
-    subst (λ (q : Store). Form S1 S2 q (q .used .trs)) (good-is (c .1)) (add-form narrow (cleared m) (cleared-form S1 S2 m) t (h t refl) (omega (arith, none′)) any′)
+    subst (λ (q : Store). Form S1 S2 q (q .used .trs)) (good-is (c .1)) (add-form (cleared m) (cleared-form S1 S2 m) t (h t refl) (omega (arith, none′)) any′)
 
 -- later calls take what an accepted opening leaves: the checks 1 to 8 pass, with the composition of its settings and of the side of the rule
 pub record Opens (s : Settings) (l : Lent) (o : Outcome (Unit {0})) : Type 0 where
@@ -73,7 +73,7 @@ settled s l got m (good r) u h e = h r refl
 settled s l got m (refused n) u h e = absurd (good≢refused (sym e))
 
 pub open-kept : (s : Settings) (l : Lent) (got : Session) (m : Memory) (u : Unit {0}) → openOf s l got m .answer ≡ good u → Opens s l (openOf s l got m)
-unfolding openOf startAt
+unfolding openWith startAt
 open-kept s l got m u = settled s l got m (andThen (sideFor s l) (λ side. andThen (begun m (startAt (compositionOf s l side))) (λ d. good (opened s side d)))) u done
   where
     done : (r : Done (Unit {0})) → andThen (sideFor s l) (λ side. andThen (begun m (startAt (compositionOf s l side))) (λ d. good (opened s side d))) ≡ good r
@@ -87,7 +87,7 @@ open-kept s l got m u = settled s l got m (andThen (sideFor s l) (λ side. andTh
         let d = y .0 in
         let S1 = stateCount (l .m1) in
         let S2 = stateCount (l .m2) in
-        let k : Form S1 S2 d (d .used .trs) = begun-kept S1 S2 (f2 .states) m (startAt (compositionOf s l (x .0))) d (λ t e. start-range S1 S2 (startWord (l .m1)) (startWord (l .m2)) t (lessOne (startWord (l .m1))) (lessOne (startWord (l .m2))) (f1 .start) (f2 .start) refl refl e) (y .1) in
+        let k : Form S1 S2 d (d .used .trs) = begun-kept S1 S2 m (startAt (compositionOf s l (x .0))) d (λ t e. start-range S1 S2 (startWord (l .m1)) (startWord (l .m2)) t (lessOne (startWord (l .m1))) (lessOne (startWord (l .m2))) (f1 .start) (f2 .start) refl refl e) (y .1) in
         let o = opened s (x .0) d in
         let in′ : entered l (o .session) (o .memory) ≡ good (compositionOf s l (x .0)) = is-entered l (o .session) (o .memory) (compositionOf s l (x .0)) (record { side = x .0; rule = x .1; same = refl; composition = refl; form = k }) in
         subst (λ (q : Done (Unit {0})). Opens s l (record { answer = good (q .value); session = q .session; memory = q .memory })) (good-is (y .2))

@@ -24,15 +24,15 @@ abbrev next : ℕ → ℕ → ℕ → ℕ
 next states n k = let w = after-calls both states 15 [] in stopFrom both k n (w .session) (w .memory)
 
 -- none is asked for; k are passed; none is left after the fourth; one that is not found; a state record is lacking at state 2
-pub stands : (next 20 0 0 ≡ 0) × (next 20 0 2 ≡ 2) × (next 20 0 9 ≡ 4) × (next 20 7 3 ≡ 7) × (next 19 0 9 ≡ 2)
+pub stands : (next 24 0 0 ≡ 0) × (next 24 0 2 ≡ 2) × (next 24 0 9 ≡ 4) × (next 24 7 3 ≡ 7) × (next 23 0 9 ≡ 2)
 unfolding Holds stopFrom
 stands = (refl, refl, refl, refl, refl)
 
 -- state 3 alone is final; those of the two states from 2 on; 2147483648 twice is too large
 pub weighed :
-    (let w = after-calls both 20 15 (run ∷ []) in finalWeightsOf both (w .session) (w .memory) ≡ good (none ∷ none ∷ none ∷ some 3 ∷ []))
-    × (let w = after-calls both 20 15 (run ∷ []) in weightsFrom both (w .session) (w .memory) 2 2 ≡ good (none ∷ some 3 ∷ []))
-    × (let l = lend (weighing 2147483648) (weighing 2147483648) in let w = after-calls l 5 5 [] in finalWeightsOf l (w .session) (w .memory) ≡ refused 12)
+    (let w = after-calls both 24 15 (run ∷ []) in finalWeightsOf both (w .session) (w .memory) ≡ good (none ∷ none ∷ none ∷ some 3 ∷ []))
+    × (let w = after-calls both 24 15 (run ∷ []) in weightsFrom both (w .session) (w .memory) 2 2 ≡ good (none ∷ some 3 ∷ []))
+    × (let l = lend (weighing 2147483648) (weighing 2147483648) in let w = after-calls l 6 5 [] in finalWeightsOf l (w .session) (w .memory) ≡ refused 12)
 unfolding Holds weightsFrom
 weighed = (refl, refl, refl)
 

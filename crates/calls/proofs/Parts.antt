@@ -10,9 +10,8 @@ use borrow.Author.Tests.{eq-eqb, ne-eqb}
 use Rattle.lists.specs.Lists.{interval, linked}
 use Rattle.lists.proofs.Members.{in-interval, of-interval}
 use Rattle.lists.proofs.Rising.{Rises, risen-same, risen-within, part-same}
-use Rattle.words.specs.Machines.{limit}
 use Rattle.words.specs.Steps.{Step}
-use Rattle.calls.specs.Store.{Used, Store, trSize, trRoom, firstAt, trField, trNextAt, mark, Part, partAt}
+use Rattle.calls.specs.Store.{Used, Store, trSize, trRoom, firstAt, trNextAt, mark, Part, partAt, fieldOf, markWith, partWith, trRoomWith}
 use Rattle.calls.specs.Calls.{newPart, wordsOfPart}
 use Rattle.calls.proofs.RecordLaws.{room-words}
 use Rattle.calls.proofs.StoreForms.{Form}
@@ -25,7 +24,7 @@ module _ {S1 S2 : ℕ} (d e : Store) (form : Form S1 S2 d (d .used .trs)) (more 
   rises i h = form .tr i h .next
 
   pub part-alike : ((i : ℕ) → i < trSize * d .used .trs → getD (e .memory .trs) i 0 ≡ getD (d .memory .trs) i 0) → firstAt (e .memory .states) n ≡ firstAt (d .memory .states) n → partAt e n ≡ partAt d n
-  unfolding partAt trNextAt trField
+  unfolding partWith trNextAt fieldOf
   part-alike same p =
       let next = trNextAt (d .memory .trs) in
       let other = trNextAt (e .memory .trs) in
@@ -37,11 +36,11 @@ module _ {S1 S2 : ℕ} (d e : Store) (form : Form S1 S2 d (d .used .trs)) (more 
 
   -- within the used records
   pub part-within : trSize * (partAt d n .first - 1) + trSize * partAt d n .count ≤ trSize * d .used .trs
-  unfolding partAt
+  unfolding partWith
   part-within = let r = risen-within (trNextAt (d .memory .trs)) (d .used .trs) (d .used .trs) (firstAt (d .memory .states) n) rises (form .state n used .first) in omega (arith, r)
 
   pub words-alike : d .used .trs ≤ trRoom (e .memory) → ((i : ℕ) → i < trSize * d .used .trs → getD (e .memory .trs) i 0 ≡ getD (d .memory .trs) i 0) → wordsOfPart (e .memory .trs) (partAt d n) ≡ wordsOfPart (d .memory .trs) (partAt d n)
-  unfolding trRoom
+  unfolding trRoomWith
   words-alike room same =
       let a = room-words trSize (e .memory .trs) (d .used .trs) room in
       let b = room-words trSize (d .memory .trs) (d .used .trs) (form .trs-fit) in
@@ -79,7 +78,7 @@ module _ (a b : Used) (more : a .trs ≤ b .trs) where
       go (no e) k = let f = some-first e in (omega (arith, f, k .0), omega (arith, f, k .1, more))
 
 -- the list of the state that was expanded: one record for each step
-module _ {S1 S2 : ℕ} (narrow : S2 ≤ limit) (before : Used) (e : Store) (form : Form S1 S2 e (e .used .trs)) (n : ℕ) (used : n < e .used .states) where
+module _ {S1 S2 : ℕ} (before : Used) (e : Store) (form : Form S1 S2 e (e .used .trs)) (n : ℕ) (used : n < e .used .states) where
   abbrev from : ℕ
   from = newPart before (e .used) .first
 
@@ -96,8 +95,8 @@ module _ {S1 S2 : ℕ} (narrow : S2 ≤ limit) (before : Used) (e : Store) (form
       ap (λ k. length (linked (trNextAt (e .memory .trs)) (e .used .trs) k)) f ∙ written-length e (before .trs) st others (e .used .trs) (omega arith) w
 
   pub part-new : (steps : List Step) → e .used .trs ≡ before .trs + length steps → Written e (before .trs) steps → from ≤ e .used .trs → partAt (mark e n from) n ≡ newPart before (e .used)
-  unfolding partAt mark
+  unfolding partWith markWith
   part-new steps h w low =
-      let f = mark-first narrow e form n from used low in
+      let f = mark-first e form n from used low in
       let c : length (linked (trNextAt (e .memory .trs)) (e .used .trs) from) ≡ e .used .trs - before .trs = counted steps h w ∙ omega (arith, h) in
       λ i. record { first = f i; count = (ap (λ k. length (linked (trNextAt (e .memory .trs)) (e .used .trs) k)) f ∙ c) i }

@@ -12,7 +12,7 @@ use Rattle.lists.proofs.Compare.{eqList, eqList-eq}
 use Rattle.words.specs.Labels.{MAX, Checked, good, refused}
 use Rattle.words.specs.Settings.{Lent}
 use Rattle.calls.specs.Checks.{entered}
-use Rattle.calls.specs.Calls.{openOf, expandOf, finalWeightOf, runOf, recordsOf}
+use Rattle.calls.specs.Calls.{openOf, expandOf, finalWeightOf, runOf, recordsOf, recordsPlaceWith, recordsPlace}
 use Rattle.calls.specs.Sequences.{World}
 use Rattle.calls.specs.Listing.{settingsOf}
 use Rattle.calls.proofs.Cases.{Holds}
@@ -69,10 +69,10 @@ openings =
     ∷ at (setting 0 0 MAX 0 5 0) falling falling [] [] 6
     ∷ at (setting 0 0 MAX 0 MAX 0) falling falling [] [] 7
     -- 13: a head, a state record; with one of each, accepted
-    ∷ at (setting 0 0 MAX 0 MAX 0) example1 falling [] (replicate 5 0) 13
-    ∷ at (setting 0 0 MAX 0 MAX 0) example1 falling (0 ∷ []) (replicate 4 0) 13
-    ∷ at (setting 0 0 MAX 0 MAX 0) example1 falling (0 ∷ []) (replicate 5 0) 0
-    ∷ at (setting 0 0 MAX 0 MAX 0) falling example2 (0 ∷ []) (replicate 5 0) 0
+    ∷ at (setting 0 0 MAX 0 MAX 0) example1 falling [] (replicate 6 0) 13
+    ∷ at (setting 0 0 MAX 0 MAX 0) example1 falling (0 ∷ []) (replicate 5 0) 13
+    ∷ at (setting 0 0 MAX 0 MAX 0) example1 falling (0 ∷ []) (replicate 6 0) 0
+    ∷ at (setting 0 0 MAX 0 MAX 0) falling example2 (0 ∷ []) (replicate 6 0) 0
     ∷ []
 
 openings-hold : every (λ o. eqb (opensWith o) (o .wants)) openings ≡ true
@@ -89,7 +89,7 @@ abbrev heads₀ : List ℕ
 heads₀ = 3 ∷ 2 ∷ []
 
 abbrev states₀ : List ℕ
-states₀ = 0 ∷ 0 ∷ 1 ∷ 1 ∷ 0 ∷ 65536 ∷ 0 ∷ 1 ∷ 2 ∷ 0 ∷ 65537 ∷ 0 ∷ 0 ∷ 0 ∷ 1 ∷ 9 ∷ 9 ∷ 9 ∷ 9 ∷ 9 ∷ 9 ∷ []
+states₀ = 0 ∷ 0 ∷ 0 ∷ 1 ∷ 1 ∷ 0 ∷ 1 ∷ 0 ∷ 0 ∷ 1 ∷ 2 ∷ 0 ∷ 1 ∷ 1 ∷ 0 ∷ 0 ∷ 0 ∷ 1 ∷ 9 ∷ 9 ∷ 9 ∷ 9 ∷ 9 ∷ 9 ∷ 9 ∷ []
 
 abbrev trs₀ : List ℕ
 trs₀ = 1 ∷ 0 ∷ 1 ∷ 1 ∷ 0 ∷ 0 ∷ 7 ∷ 4 ∷ 2 ∷ 0 ∷ 9 ∷ 9 ∷ 9 ∷ 9 ∷ 9 ∷ 9 ∷ []
@@ -128,17 +128,18 @@ broken =
     ∷ heads (3 ∷ 4 ∷ [])
     ∷ heads []
     -- "pairs in range; f at most 2"; "expanded (0 or 1)", with a first and without
-    ∷ state 0 196608
-    ∷ state 5 65539
-    ∷ state 11 3
-    ∷ state 7 2
-    ∷ state 12 2
-    -- "next below own number"
-    ∷ state 4 1
+    ∷ state 0 3
+    ∷ state 1 65536
+    ∷ state 7 3
     ∷ state 14 3
+    ∷ state 9 2
+    ∷ state 15 2
+    -- "next below own number"
+    ∷ state 5 1
+    ∷ state 17 3
     -- "unexpanded means first 0; firsts .. used"
-    ∷ state 13 1
-    ∷ state 3 3
+    ∷ state 16 1
+    ∷ state 4 3
     -- "targets used"
     ∷ tr 3 3
     -- "transition chains consecutive, the last used ending in 0"
@@ -159,21 +160,22 @@ sound =
     ∷ heads (0 ∷ 0 ∷ [])
     ∷ heads (2 ∷ 3 ∷ [])
     ∷ heads (1 ∷ [])
-    ∷ state 14 2
+    ∷ state 17 2
     -- a triple twice, another pair at state 0, any f up to 2
-    ∷ state 10 65536
-    ∷ state 0 131074
+    ∷ state 13 0
+    ∷ state 0 2
     ∷ state 1 2
+    ∷ state 2 2
     -- a list that begins with another's record or is empty, a chain that goes on
-    ∷ state 3 2
-    ∷ state 3 0
+    ∷ state 4 2
+    ∷ state 4 0
     ∷ tr 4 2
     -- labels and weights
     ∷ tr 0 MAX
     ∷ tr 2 MAX
     -- words that are not in use
-    ∷ state 15 MAX
-    ∷ state 20 MAX
+    ∷ state 18 MAX
+    ∷ state 24 MAX
     ∷ tr 10 MAX
     ∷ tr 15 MAX
     ∷ []
@@ -205,6 +207,13 @@ sound-hold = refl
 pub each-sound : (w : World) → In w sound → refusalOf (entered lent (w .session) (w .memory)) ≡ 0
 each-sound w i = eqb-true _ _ (every-in (λ w. eqb (refusalOf (entered lent (w .session) (w .memory))) 0) sound-hold i)
 
+-- where handed-back records lie: those of state 1 begin with word 5; a state that is not expanded, or not found, has none, at the start; the third of three records, in form with one state
+pub placed :
+    (let w = sides 1 in let place = recordsPlace lent (w .session) (w .memory) in (place 1 ≡ 5) × (place 2 ≡ 0) × (place 3 ≡ 0))
+    × (let w = world (session (plain 0 0) 1 1 3) (1 ∷ []) (0 ∷ 0 ∷ 0 ∷ 1 ∷ 3 ∷ 0 ∷ []) (replicate 15 0) in recordsPlace lent (w .session) (w .memory) 0 ≡ 10)
+unfolding Holds recordsPlaceWith
+placed = ((refl, refl, refl), refl)
+
 -- a later call with several faults: what it is lent, its world, the state; and what expand, final weight and run are refused by
 pub record Later : Type 0 where
   pub machine1 : List ℕ
@@ -235,7 +244,7 @@ heavy = 1 ∷ 0 ∷ 1 ∷ 0 ∷ 0 ∷ 0 ∷ 0 ∷ 1 ∷ 2147483648 ∷ []
 
 -- both machines so, with state 0 found
 abbrev heaviest : World
-heaviest = world (session (plain 0 0) 1 1 0) (1 ∷ []) (replicate 5 0) []
+heaviest = world (session (plain 0 0) 1 1 0) (1 ∷ []) (replicate 6 0) []
 
 unfoldable pub laterCalls : List Later
 laterCalls =

@@ -8,8 +8,8 @@ use Rattle.words.specs.Steps.{Composition}
 use Rattle.words.specs.Settings.{Lent}
 use Rattle.words.proofs.CheckedLaws.{good≢refused}
 use Rattle.calls.specs.Store.{Memory, stateRoom, expandedAt, Part}
-use Rattle.calls.specs.Checks.{Session, entered, enteredAt, Passes}
-use Rattle.calls.specs.Calls.{Outcome, Done, settle, expandBy, expandOf, onward, runEnded, runBy, runFrom, runAfter, runOf}
+use Rattle.calls.specs.Checks.{Session, entered, enteredAt, Passes, enteredAtWith}
+use Rattle.calls.specs.Calls.{Outcome, Done, settle, expandBy, expandOf, onward, runEnded, runBy, runFrom, runAfter, runOf, expandWith, runFromWith, runWith}
 use Rattle.calls.proofs.ExpandKept.{expand-kept}
 
 -- a run that does not check
@@ -21,12 +21,12 @@ runUnder c (suc k) n s m =
 -- an expansion of a found state, where the checks 1 to 8 pass
 pub expand-under : (l : Lent) (s : Session) (m : Memory) (n : ℕ) (c : Composition) → entered l s m ≡ good c → leb (s .used .states) n ≡ false
     → expandOf l s m n ≡ settle s m (expandBy c s m n (eqb (expandedAt (m .states) n) 1))
-unfolding expandOf enteredAt
+unfolding expandWith enteredAtWith
 expand-under l s m n c e h = rw (e, h)
 
 -- a run, where the checks 1 to 8 pass, is one that does not check
 pub run-once : (l : Lent) (k n : ℕ) (s : Session) (m : Memory) (c : Composition) → entered l s m ≡ good c → runFrom l k n s m ≡ runUnder c k n s m
-unfolding runFrom runUnder
+unfolding runFromWith runUnder
 run-once l zero n s m c e = refl
 run-once l (suc k) n s m c e = go (leb (s .used .states) n) refl (λ s′ m′ h. run-once l k (suc n) s′ m′ c h)
   where
@@ -53,7 +53,7 @@ stays s m (good d) j e = absurd (good≢refused e)
 
 -- the checks 1 to 8 pass again after a run, refused at a state or not
 pub run-kept : (l : Lent) (k n : ℕ) (s : Session) (m : Memory) (c : Composition) → entered l s m ≡ good c → let r = runFrom l k n s m in entered l (r .session) (r .memory) ≡ good c
-unfolding runFrom expandOf
+unfolding runFromWith expandWith
 run-kept l zero n s m c e = e
 run-kept l (suc k) n s m c e = go (leb (s .used .states) n) (λ s′ m′ h. run-kept l k (suc n) s′ m′ c h)
   where
@@ -72,7 +72,7 @@ run-kept l (suc k) n s m c e = go (leb (s .used .states) n) (λ s′ m′ h. run
 
 -- so that after an accepted run no call need check
 pub run-passes : (l : Lent) (s : Session) (m : Memory) (u : Unit {0}) → runOf l s m .answer ≡ good u → Passes l (runOf l s m .session) (runOf l s m .memory)
-unfolding runOf
+unfolding runWith
 run-passes l s m u h = go (entered l s m) refl h
   where
     go : (x : Checked Composition) → entered l s m ≡ x → runAfter x l s m .answer ≡ good u → Passes l (runAfter x l s m .session) (runAfter x l s m .memory)

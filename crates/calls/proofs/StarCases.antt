@@ -51,7 +51,7 @@ marked2 = 1 ∷ 2 ∷ 1 ∷ 1 ∷ 0 ∷ 0 ∷ 1 ∷ 0 ∷ 0 ∷ 4 ∷ 7 ∷ 0 �
 
 -- the memory of cases 5 to 8 at first: one head, room for one record of each sort, words of no meaning
 abbrev little : World
-little = world (session (plain 0 0) 9 9 9) (7 ∷ []) (7 ∷ 7 ∷ 7 ∷ 7 ∷ 7 ∷ []) (7 ∷ 7 ∷ 7 ∷ 7 ∷ 7 ∷ [])
+little = world (session (plain 0 0) 9 9 9) (7 ∷ []) (7 ∷ 7 ∷ 7 ∷ 7 ∷ 7 ∷ 7 ∷ []) (7 ∷ 7 ∷ 7 ∷ 7 ∷ 7 ∷ [])
 
 -- the state of `weighing` is expanded, and final: its product of weights is p
 abbrev weighs : ℕ → ℕ → ℕ → ℕ → Case
@@ -61,7 +61,7 @@ weighs kind w1 w2 p =
     calling (lend (weighing w1) (weighing w2)) little
     (opening (settingsOf (plain kind 0)) (lend (weighing w1) (weighing w2)) ∷ finalWeight 0 ∷ expand 0 ∷ records 0 ∷ [])
     (answered accepted new ∷ answered (weight (some p)) new ∷ answered (listPart 1 1) next ∷ handed (1 ∷ 1 ∷ p ∷ 0 ∷ 0 ∷ []) ∷ [])
-    (world next (1 ∷ []) (0 ∷ 0 ∷ 1 ∷ 1 ∷ 0 ∷ []) (1 ∷ 1 ∷ p ∷ 0 ∷ 0 ∷ []))
+    (world next (1 ∷ []) (0 ∷ 0 ∷ 0 ∷ 1 ∷ 1 ∷ 0 ∷ []) (1 ∷ 1 ∷ p ∷ 0 ∷ 0 ∷ []))
 
 -- 12 for its final weight, its expansion and a run, which keep session and memory
 abbrev tooLarge : ℕ → ℕ → ℕ → Case
@@ -70,7 +70,7 @@ tooLarge kind w1 w2 =
     calling (lend (weighing w1) (weighing w2)) little
     (opening (settingsOf (plain kind 0)) (lend (weighing w1) (weighing w2)) ∷ finalWeight 0 ∷ expand 0 ∷ run ∷ records 0 ∷ [])
     (answered accepted new ∷ answered (refusal 12) new ∷ answered (refusal 12) new ∷ answered (refusal 12) new ∷ handed [] ∷ [])
-    (world new (1 ∷ []) (0 ∷ 0 ∷ 0 ∷ 0 ∷ 0 ∷ []) (7 ∷ 7 ∷ 7 ∷ 7 ∷ 7 ∷ []))
+    (world new (1 ∷ []) (0 ∷ 0 ∷ 0 ∷ 0 ∷ 0 ∷ 0 ∷ []) (7 ∷ 7 ∷ 7 ∷ 7 ∷ 7 ∷ []))
 
 unfoldable pub starCases : List Case
 starCases =
@@ -118,10 +118,10 @@ starCases =
     ∷ tooLarge 1 65536 65536
     -- 9 "state room 3 in case 1, expanding 2 gives 13"
     ∷ (let new = session (plain 0 0) 1 in
-    calling (lend example1 example2) (world (session [] 0 0 0) (0 ∷ []) (replicate 15 0) (replicate 15 0))
+    calling (lend example1 example2) (world (session [] 0 0 0) (0 ∷ []) (replicate 18 0) (replicate 15 0))
     (opening (settingsOf (plain 0 0)) (lend example1 example2) ∷ expand 0 ∷ expand 1 ∷ expand 2 ∷ [])
     (answered accepted (new 1 0) ∷ answered (listPart 1 1) (new 2 1) ∷ answered (listPart 2 1) (new 3 2) ∷ answered (refusal 13) (new 3 2) ∷ [])
-    (world (new 3 2) (3 ∷ []) (0 ∷ 0 ∷ 1 ∷ 1 ∷ 0 ∷ 65536 ∷ 0 ∷ 1 ∷ 2 ∷ 1 ∷ 65537 ∷ 0 ∷ 0 ∷ 0 ∷ 2 ∷ []) (1 ∷ 0 ∷ 1 ∷ 1 ∷ 0 ∷ 0 ∷ 7 ∷ 4 ∷ 2 ∷ 0 ∷ replicate 5 0)))
+    (world (new 3 2) (3 ∷ []) (0 ∷ 0 ∷ 0 ∷ 1 ∷ 1 ∷ 0 ∷ 1 ∷ 0 ∷ 0 ∷ 1 ∷ 2 ∷ 1 ∷ 1 ∷ 1 ∷ 0 ∷ 0 ∷ 0 ∷ 2 ∷ []) (1 ∷ 0 ∷ 1 ∷ 1 ∷ 0 ∷ 0 ∷ 7 ∷ 4 ∷ 2 ∷ 0 ∷ replicate 5 0)))
     -- 10 "marks 1 and equal lists, input": the list of machine 1 is walked
     ∷ printing (plain 0 0) marked1 marked2
     (sideLine 2 ∷ stateLine 0 (triple 0 0 0) none ∷ trLine 1 7 0 0 ∷ trLine 1 8 0 0 ∷ trLine 2 7 0 0 ∷ trLine 2 8 0 0 ∷ endLine 1 4 ∷ [])

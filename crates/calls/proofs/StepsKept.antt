@@ -9,13 +9,12 @@ use lib.Dec.{leb}
 use lib.ListN.{length}
 use borrow.Author.Tests.{leb-false}
 use Rattle.words.specs.Labels.{Checked, good, refused}
-use Rattle.words.specs.Machines.{limit}
 use Rattle.words.specs.Sides.{nonEmpty}
 use Rattle.words.specs.Steps.{Triple, Step}
 use Rattle.words.proofs.CheckedLaws.{good≢refused, good-is, past-check, past-then}
 use Rattle.words.proofs.StepRange.{InRange}
-use Rattle.calls.specs.Store.{Store, stateRoom, trRoom, find, add, append}
-use Rattle.calls.specs.Calls.{Reached, reachedBy, reach, storeStep, nextFor, storeSteps}
+use Rattle.calls.specs.Store.{Store, stateRoom, trRoom, find, add, append, addWith, trRoomWith}
+use Rattle.calls.specs.Calls.{Reached, reachedBy, reach, storeStep, nextFor, storeSteps, reachWith, storeStepWith, storeStepsWith}
 use Rattle.calls.proofs.StoreForms.{Form}
 use Rattle.calls.proofs.ChainLaws.{find-sound}
 use Rattle.calls.proofs.FormKept.{add-form, append-form}
@@ -48,12 +47,12 @@ pub link-ok : {A : Type 0} (d : Store) (last : ℕ) (others : List A) → d .use
 link-ok d last [] h = inl refl
 link-ok d last (x ∷ xs) h = inr (refl, omega arith)
 
-module _ {S1 S2 : ℕ} (narrow : S2 ≤ limit) where
+module _ {S1 S2 : ℕ} where
   new-reached : (d : Store) (last : ℕ) (t : Triple) → Form S1 S2 d last → InRange S1 S2 t → 0 < d .used .states → d .used .states < stateRoom (d .memory)
       → ReachKept S1 S2 d last (record { store = add d t; state = d .used .states })
-  unfolding add trRoom
+  unfolding addWith trRoomWith
   new-reached d last t form ok any room =
-      record { form = add-form narrow d form t ok room (form .headed any); inside = omega arith; states = omega arith; trs = refl; room = refl }
+      record { form = add-form d form t ok room (form .headed any); inside = omega arith; states = omega arith; trs = refl; room = refl }
 
   reached-by : (d : Store) (last : ℕ) (t : Triple) (r : Reached) (o : Option ℕ) → Form S1 S2 d last → InRange S1 S2 t → 0 < d .used .states → find d t ≡ o → reachedBy d t o ≡ good r
       → ReachKept S1 S2 d last r
@@ -64,21 +63,21 @@ module _ {S1 S2 : ℕ} (narrow : S2 ≤ limit) where
       subst (ReachKept S1 S2 d last) (good-is (c .1)) (new-reached d last t form ok any (leb-false _ _ (c .0)))
 
   pub reach-kept : (d : Store) (last : ℕ) (t : Triple) (r : Reached) → Form S1 S2 d last → InRange S1 S2 t → 0 < d .used .states → reach d t ≡ good r → ReachKept S1 S2 d last r
-  unfolding reach
+  unfolding reachWith
   reach-kept d last t r form ok any g = reached-by d last t r (find d t) form ok any refl g
 
   appended : (d : Store) (last next : ℕ) (st : Step) (r : Reached) → LinkOk d last next → d .used .trs < trRoom (d .memory) → ReachKept S1 S2 d last r
       → StepKept S1 S2 d last (append (r .store) st (r .state) next)
   unfolding append
   appended d last next st r link room k = record {
-    form = append-form narrow (r .store) (k .form) st (r .state) next (k .inside) (rw (k .trs, k .room) room) (rw (k .trs) link);
+    form = append-form (r .store) (k .form) st (r .state) next (k .inside) (rw (k .trs, k .room) room) (rw (k .trs) link);
     states = k .states;
     trs = ap (λ n. n + 1) (k .trs);
   }
 
   pub step-kept : (d : Store) (last next : ℕ) (st : Step) (e : Store) → Form S1 S2 d last → InRange S1 S2 (st .to) → 0 < d .used .states → LinkOk d last next → storeStep d next st ≡ good e
       → StepKept S1 S2 d last e
-  unfolding storeStep
+  unfolding storeStepWith
   step-kept d last next st e form ok any link g =
       let c = past-check (leb (trRoom (d .memory)) (d .used .trs)) 13 _ e g in
       let r = past-then (reach d (st .to)) _ e (c .1) in
@@ -87,7 +86,7 @@ module _ {S1 S2 : ℕ} (narrow : S2 ≤ limit) where
   -- every target in range, and `last` the number of records when all steps are stored
   pub steps-kept : (d : Store) (last : ℕ) (steps : List (Checked Step)) (e : Store) → Form S1 S2 d last → ((st : Step) → In (good st) steps → InRange S1 S2 (st .to)) → 0 < d .used .states
       → d .used .trs + length steps ≡ last → storeSteps d steps ≡ good e → StepsKept S1 S2 d (length steps) e
-  unfolding storeSteps
+  unfolding storeStepsWith
   steps-kept d last [] e form ok any h g =
       let z = good-is g in
       let l : last ≡ d .used .trs = omega arith in

@@ -14,8 +14,8 @@ use Rattle.words.specs.Labels.{Checked, good, refused, refuseIf}
 use Rattle.words.specs.Sides.{nonEmpty}
 use Rattle.words.specs.Steps.{Triple, Step}
 use Rattle.words.proofs.CheckedLaws.{good-is, refused-is, good≢refused, past-check, past-then, stop-then}
-use Rattle.calls.specs.Store.{Store, stateSize, trSize, stateRoom, trRoom, find, add, append}
-use Rattle.calls.specs.Calls.{Reached, reachedBy, reach, storeStep, nextFor, storeSteps}
+use Rattle.calls.specs.Store.{Store, stateSize, trSize, stateRoom, trRoom, find, append, addWith, stateRoomWith, trRoomWith}
+use Rattle.calls.specs.Calls.{Reached, reachedBy, reach, storeStep, nextFor, storeSteps, reachWith, storeStepWith, storeStepsWith}
 use Rattle.calls.proofs.RecordLaws.{room-same}
 use Rattle.calls.proofs.StepsStay.{step-stays}
 
@@ -34,7 +34,7 @@ reach-lacks d t none k e =
     ⊎-elim (λ h. (h .1, leb-true _ _ (h .0))) (λ h. absurd (good≢refused h)) (stood (leb (stateRoom (d .memory)) (d .used .states)) 13 k _ e)
 
 step-lacks : (d : Store) (next : ℕ) (st : Step) (k : ℕ) → storeStep d next st ≡ refused k → (k ≡ 13) × Short d 1
-unfolding storeStep reach
+unfolding storeStepWith reachWith
 step-lacks d next st k e =
     ⊎-elim (λ h. let b : trRoom (d .memory) ≤ d .used .trs = leb-true _ _ (h .0) in (h .1, inl (omega (arith, b))))
     (λ h.
@@ -44,14 +44,14 @@ step-lacks d next st k e =
 
 -- a stored step takes one transition record and at most one state record
 reach-takes : (d : Store) (t : Triple) (o : Option ℕ) (r : Reached) → reachedBy d t o ≡ good r → (r .store .used .trs ≡ d .used .trs) × (r .store .used .states ≤ d .used .states + 1)
-unfolding add
+unfolding addWith
 reach-takes d t (some n) r e = subst (λ (q : Reached). (q .store .used .trs ≡ d .used .trs) × (q .store .used .states ≤ d .used .states + 1)) (good-is e) (refl, omega arith)
 reach-takes d t none r e =
     let c = past-check (leb (stateRoom (d .memory)) (d .used .states)) 13 _ r e in
     subst (λ (q : Reached). (q .store .used .trs ≡ d .used .trs) × (q .store .used .states ≤ d .used .states + 1)) (good-is (c .1)) (refl, omega arith)
 
 step-takes : (d : Store) (next : ℕ) (st : Step) (e : Store) → storeStep d next st ≡ good e → (e .used .trs ≡ d .used .trs + 1) × (e .used .states ≤ d .used .states + 1)
-unfolding storeStep reach append
+unfolding storeStepWith reachWith append
 step-takes d next st e g =
     let c = past-check (leb (trRoom (d .memory)) (d .used .trs)) 13 _ e g in
     let r = past-then (reach d (st .to)) _ e (c .1) in
@@ -60,7 +60,7 @@ step-takes d next st e g =
 
 -- what is short after a step was short before it, for one more
 short-before : (d e : Store) (next n : ℕ) (st : Step) → storeStep d next st ≡ good e → Short e n → Short d (n + 1)
-unfolding trRoom stateRoom
+unfolding trRoomWith stateRoomWith
 short-before d e next n st g h =
     let t = step-takes d next st e g in
     let s = step-stays d next st e g in
@@ -73,7 +73,7 @@ abbrev pub Lacking : Store → List (Checked Step) → Type 0
 Lacking d l = (steps : List Step) × (later : List (Checked Step)) × (l ≡ map good steps ++ later) × Short d (length steps)
 
 pub steps-lack : (d : Store) (l : List (Checked Step)) (k : ℕ) → storeSteps d l ≡ refused k → In (refused k) l ⊎ ((k ≡ 13) × Lacking d l)
-unfolding storeSteps
+unfolding storeStepsWith
 steps-lack d [] k e = absurd (good≢refused e)
 steps-lack d (refused n ∷ others) k e = inl (here (ap refused (refused-is (sym e))))
 steps-lack d (good st ∷ others) k e =

@@ -13,13 +13,12 @@ use lib.ListN.{length, getD}
 use borrow.Author.Tests.{leb-false}
 use Rattle.lists.specs.Lists.{At, linked}
 use Rattle.words.specs.Labels.{Checked, good, refused}
-use Rattle.words.specs.Machines.{limit}
 use Rattle.words.specs.Sides.{nonEmpty}
 use Rattle.words.specs.Steps.{Triple, Step}
 use Rattle.words.proofs.CheckedLaws.{good≢refused, good-is, past-check, past-then}
 use Rattle.words.proofs.StepRange.{InRange}
-use Rattle.calls.specs.Store.{Store, stateSize, trSize, stateRoom, trRoom, stateField, tripleAt, expandedPlace, expandedAt, trField, targetAt, trNextAt, find, add, append}
-use Rattle.calls.specs.Calls.{Reached, reachedBy, reach, storeStep, nextFor, storeSteps}
+use Rattle.calls.specs.Store.{Store, stateSize, trSize, stateRoom, trRoom, stateField, tripleAt, expandedPlace, expandedAt, trField, targetAt, trNextAt, find, add, append, addWith, expandedWith, fieldOf, trRoomWith}
+use Rattle.calls.specs.Calls.{Reached, reachedBy, storeStep, nextFor, storeSteps, reachWith, storeStepWith, storeStepsWith}
 use Rattle.calls.proofs.RecordLaws.{triple-same}
 use Rattle.calls.proofs.StepsKept.{LinkOk, link-ok}
 use Rattle.calls.proofs.StoreForms.{Form}
@@ -51,11 +50,11 @@ Written d i (st ∷ others) = IsTr d i st (linkAt i (nonEmpty others)) × Writte
 -- records and triples that stay
 module _ {d e : Store} (s : Stays d e) where
   pub stay-tr : (i k : ℕ) → i < d .used .trs → k < trSize → trField (e .memory .trs) i k ≡ trField (d .memory .trs) i k
-  unfolding trField
+  unfolding fieldOf
   stay-tr i k h l = s .tr-word (trSize * i + k) (inl (omega arith))
 
   pub stay-state : (n k : ℕ) → n < d .used .states → k < stateSize → stateField (e .memory .states) n k ≡ stateField (d .memory .states) n k
-  unfolding stateField
+  unfolding fieldOf
   stay-state n k h l = s .state-word (stateSize * n + k) (inl (omega arith))
 
   pub stay-triple : (n : ℕ) → n < d .used .states → tripleAt (e .memory .states) n ≡ tripleAt (d .memory .states) n
@@ -98,7 +97,7 @@ written-at d i (x ∷ xs) (suc k) st w e = let r = written-at d (suc i) xs k st 
 
 -- steps are stored only where none is a refusal
 pub stored-good : (d : Store) (l : List (Checked Step)) (e : Store) → storeSteps d l ≡ good e → (steps : List Step) × (l ≡ map good steps)
-unfolding storeSteps
+unfolding storeStepsWith
 stored-good d [] e g = ([], refl)
 stored-good d (refused n ∷ others) e g = absurd (good≢refused (sym g))
 stored-good d (good st ∷ others) e g =
@@ -147,23 +146,22 @@ any-good : (steps : List Step) → nonEmpty (map good steps) ≡ nonEmpty steps
 any-good [] = refl
 any-good (x ∷ xs) = refl
 
-module _ {S1 S2 : ℕ} (narrow : S2 ≤ limit) where
+module _ {S1 S2 : ℕ} where
   -- a new state
   pub led-new : (d : Store) (last : ℕ) (t : Triple) → Form S1 S2 d last → Whole d → InRange S1 S2 t → 0 < d .used .states → d .used .states < stateRoom (d .memory) → find d t ≡ none
       → Led S1 S2 d last t (add d t) (d .used .states)
-  unfolding add trRoom expandedAt
+  unfolding addWith trRoomWith expandedWith
   led-new d last t form whole ok any room e =
-      let few : t .s2 < 65536 = omega (arith, narrow, ok .s2) in
       let headed = form .headed any in
       record {
-        form = add-form narrow d form t ok room headed;
-        whole = whole-add d form whole t few room headed e;
+        form = add-form d form t ok room headed;
+        whole = whole-add d form whole t room headed e;
         inside = omega arith;
-        holds = add-holds d form t few room headed;
+        holds = add-holds d form t room headed;
         states = omega arith;
         trs = refl;
         room = refl;
-        fresh = λ m h l. let z : m ≡ d .used .states = omega arith in (sym z, ap (λ k. stateField (add d t .memory .states) k expandedPlace) z ∙ add-new d form t few room headed expandedPlace (omega arith));
+        fresh = λ m h l. let z : m ≡ d .used .states = omega arith in (sym z, ap (λ k. stateField (add d t .memory .states) k expandedPlace) z ∙ add-new d form t room headed expandedPlace (omega arith));
       }
 
   -- a state found
@@ -179,10 +177,10 @@ module _ {S1 S2 : ℕ} (narrow : S2 ≤ limit) where
       let room′ : f .used .trs < trRoom (f .memory) = omega (arith, k .trs, k .room, room) in
       let link′ : LinkOk f last next = rw (k .trs) link in
       let new : (j : ℕ) → j < trSize → trField (append f st n next .memory .trs) (d .used .trs) j ≡ getD (st .input ∷ st .output ∷ st .weight ∷ n ∷ next ∷ []) j 0
-      = λ j h. ap (λ i. trField (append f st n next .memory .trs) i j) (sym (k .trs)) ∙ append-new narrow f (k .form) st n next (k .inside) room′ link′ j h in
+      = λ j h. ap (λ i. trField (append f st n next .memory .trs) i j) (sym (k .trs)) ∙ append-new f (k .form) st n next (k .inside) room′ link′ j h in
       let to = new 3 (omega arith) in
       record {
-        form = append-form narrow f (k .form) st n next (k .inside) room′ link′;
+        form = append-form f (k .form) st n next (k .inside) room′ link′;
         whole = whole-append f (k .form) (k .whole) st n next;
         states = k .states;
         trs = ap (λ i. i + 1) (k .trs);
@@ -200,7 +198,7 @@ module _ {S1 S2 : ℕ} (narrow : S2 ≤ limit) where
 
   one-step : (d : Store) (last next : ℕ) (st : Step) (e : Store) → Form S1 S2 d last → Whole d → InRange S1 S2 (st .to) → 0 < d .used .states → LinkOk d last next → storeStep d next st ≡ good e
       → StepMade S1 S2 d last next st e
-  unfolding storeStep reach
+  unfolding storeStepWith reachWith
   one-step d last next st e form whole ok any link g =
       let c = past-check (leb (trRoom (d .memory)) (d .used .trs)) 13 _ e g in
       let r = past-then (reachedBy d (st .to) (find d (st .to))) _ e (c .1) in
@@ -220,7 +218,7 @@ module _ {S1 S2 : ℕ} (narrow : S2 ≤ limit) where
     join-target (no l) = let q = r .targets n (omega arith) used in (q .0, omega (arith, k .trs, q .1), q .2, q .3)
 
     join-unexpanded : Dec (n < b .used .states) → expandedAt (e .memory .states) n ≡ 0
-    unfolding expandedAt
+    unfolding expandedWith
     join-unexpanded (yes l) = stay-state stay n expandedPlace l (omega arith) ∙ k .fresh n new l .1
     join-unexpanded (no l) = r .unexpanded n (omega arith) used
 
@@ -239,7 +237,7 @@ module _ {S1 S2 : ℕ} (narrow : S2 ≤ limit) where
   -- every target in range, and `last` the number of records when all steps are stored
   pub steps-made : (d : Store) (last : ℕ) (steps : List Step) (e : Store) → Form S1 S2 d last → Whole d → ((st : Step) → In st steps → InRange S1 S2 (st .to)) → 0 < d .used .states
       → d .used .trs + length steps ≡ last → storeSteps d (map good steps) ≡ good e → StepsMade S1 S2 d steps e
-  unfolding storeSteps
+  unfolding storeStepsWith
   steps-made d last [] e form whole ok any h g =
       let l : last ≡ d .used .trs = omega arith in
       subst (StepsMade S1 S2 d []) (good-is g)

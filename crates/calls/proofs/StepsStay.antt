@@ -14,8 +14,9 @@ use Rattle.words.specs.Labels.{Checked, good, refused}
 use Rattle.words.specs.Sides.{nonEmpty}
 use Rattle.words.specs.Steps.{Triple, Step}
 use Rattle.words.proofs.CheckedLaws.{good≢refused, good-is, past-check, past-then}
-use Rattle.calls.specs.Store.{Store, stateSize, trSize, stateRoom, trRoom, expandedPlace, nextPlace, slot, headOf, find, stateRecord, add, trRecord, append, mark}
-use Rattle.calls.specs.Calls.{Reached, reachedBy, reach, storeStep, nextFor, storeSteps}
+use Rattle.calls.specs.Store.{Store, stateSize, trSize, stateRoom, trRoom, expandedPlace, slot, headOf, find, stateRecord, add, trRecord, append, mark, addWith, markWith}
+use Rattle.calls.specs.Calls.{Reached, reachedBy, reach, storeStep, nextFor, storeSteps, reachWith, storeStepWith, storeStepsWith}
+use Rattle.calls.proofs.RecordLaws.{nextPlace}
 
 -- a word of the records used before, or past the records used after, where a record has `size` words
 abbrev pub Outside : ℕ → ℕ → ℕ → ℕ → Type 0
@@ -57,7 +58,7 @@ written : (size : ℕ) (l r : List ℕ) (used i : ℕ) → length r ≡ size →
 written size l r used i e = ⊎-elim (λ h. put-before l (size * used) r i 0 h) (λ h. put-after l (size * used) r i 0 (omega (arith, h, e)))
 
 pub add-stays : (d : Store) (t : Triple) → Stays d (add d t)
-unfolding add
+unfolding addWith
 add-stays d t = record {
   states = omega arith;
   trs = omega arith;
@@ -87,7 +88,7 @@ reached-stays d t none r e =
     subst (λ (q : Reached). Stays d (q .store)) (good-is (c .1)) (add-stays d t)
 
 pub step-stays : (d : Store) (next : ℕ) (st : Step) (e : Store) → storeStep d next st ≡ good e → Stays d e
-unfolding storeStep reach
+unfolding storeStepWith reachWith
 step-stays d next st e g =
     let c = past-check (leb (trRoom (d .memory)) (d .used .trs)) 13 _ e g in
     let r = past-then (reach d (st .to)) _ e (c .1) in
@@ -96,7 +97,7 @@ step-stays d next st e g =
 
 -- all steps of an expansion
 pub steps-stay : (d : Store) (steps : List (Checked Step)) (e : Store) → storeSteps d steps ≡ good e → Stays d e
-unfolding storeSteps
+unfolding storeStepsWith
 steps-stay d [] e g = subst (Stays d) (good-is g) (stays d)
 steps-stay d (refused n ∷ others) e g = absurd (good≢refused (sym g))
 steps-stay d (good st ∷ others) e g =
@@ -105,5 +106,5 @@ steps-stay d (good st ∷ others) e g =
 
 -- the mark changes two words of its state's record
 pub mark-stays : (d : Store) (n first i : ℕ) → (i < stateSize * n + expandedPlace) ⊎ (stateSize * n + nextPlace ≤ i) → getD (mark d n first .memory .states) i 0 ≡ getD (d .memory .states) i 0
-unfolding mark
+unfolding markWith
 mark-stays d n first i = ⊎-elim (λ h. put-before (d .memory .states) (stateSize * n + expandedPlace) (1 ∷ first ∷ []) i 0 h) (λ h. put-after (d .memory .states) (stateSize * n + expandedPlace) (1 ∷ first ∷ []) i 0 (omega (arith, h)))

@@ -15,7 +15,7 @@ use Rattle.lists.proofs.Places.{every-get, every-by}
 use Rattle.words.specs.Sides.{nonEmpty}
 use Rattle.words.proofs.StepRange.{InRange}
 use Rattle.calls.specs.Store.{Store, stateRoom, trRoom, tripleAt, expandedAt, firstAt, nextAt, targetAt, trNextAt}
-use Rattle.calls.specs.Forms.{fits, headsOk, tripleOk, expandedOk, stateFormOk, trFormOk, formOk}
+use Rattle.calls.specs.Forms.{fits, headsOk, tripleOk, expandedOk, stateFormOk, trFormOk, formOk, expandedOkWith, fitsWith, formOkWith, stateFormOkWith, tripleOkWith}
 
 -- the record of state n, where `trs` transition records are used
 pub record StateForm (S1 S2 : ℕ) (states : List ℕ) (trs n : ℕ) : Type 0 where
@@ -64,7 +64,7 @@ module _ (S1 S2 : ℕ) (d : Store) where
   ts = d .memory .trs
 
   state-form : (n : ℕ) → stateFormOk S1 S2 d n ≡ true → StateForm S1 S2 ss V′ n
-  unfolding stateFormOk tripleOk expandedOk
+  unfolding stateFormOkWith tripleOkWith expandedOkWith
   state-form n e =
       let a = and-left (tripleOk S1 S2 ss n) _ e in
       let b = and-right (tripleOk S1 S2 ss n) _ e in
@@ -85,7 +85,7 @@ module _ (S1 S2 : ℕ) (d : Store) where
       }
 
   of-state-form : (n : ℕ) → StateForm S1 S2 ss V′ n → stateFormOk S1 S2 d n ≡ true
-  unfolding stateFormOk tripleOk expandedOk
+  unfolding stateFormOkWith tripleOkWith expandedOkWith
   of-state-form n h =
       let t : tripleOk S1 S2 ss n ≡ true = join (lt-ltb _ _ (h .triple .s1)) (join (lt-ltb _ _ (h .triple .s2)) (le-leb _ _ (h .triple .f))) in
       let o : eqb (expandedAt ss n) 1 || eqb (firstAt ss n) 0 ≡ true = ⊎-elim (λ e. or-left (eqb (expandedAt ss n) 1) _ (eq-eqb _ _ e)) (λ e. or-right (eqb (expandedAt ss n) 1) _ (eq-eqb _ _ e)) (h .unexpanded) in
@@ -123,7 +123,7 @@ module _ (S1 S2 : ℕ) (d : Store) where
 
   -- refusal 8's tests of memory say these facts
   pub form-of : fits d ≡ true → formOk S1 S2 d ≡ true → Form S1 S2 d V′
-  unfolding fits formOk
+  unfolding fitsWith formOkWith
   form-of a e =
       let h = and-left (headsOk d) _ e in
       let r = and-right (headsOk d) _ e in
@@ -149,7 +149,7 @@ module _ (S1 S2 : ℕ) (d : Store) where
 
   -- and where the facts hold, the tests do
   pub of-form : Form S1 S2 d V′ → (fits d ≡ true) × (formOk S1 S2 d ≡ true)
-  unfolding fits formOk
+  unfolding fitsWith formOkWith
   of-form h = (
     join (le-leb _ _ (h .states-fit)) (le-leb _ _ (h .trs-fit)),
     join (heads-ok h)

@@ -14,13 +14,12 @@ use borrow.Author.Tests.{leb-false, lt-leb}
 use Rattle.lists.specs.Lists.{put}
 use Rattle.lists.proofs.Put.{put-before, put-in}
 use Rattle.words.specs.Labels.{Checked, good, refused}
-use Rattle.words.specs.Machines.{limit}
 use Rattle.words.specs.Sides.{nonEmpty}
 use Rattle.words.specs.Steps.{Triple, Step}
 use Rattle.words.proofs.StepRange.{InRange}
-use Rattle.calls.specs.Store.{Store, stateSize, trSize, stateRoom, trRoom, stateField, tripleAt, expandedPlace, firstPlace, nextPlace, expandedAt, firstAt, headOf, find, tripleWords, stateRecord, add, trRecord, append, mark}
-use Rattle.calls.specs.Calls.{reach, storeStep, nextFor, storeSteps}
-use Rattle.calls.proofs.RecordLaws.{room-words, room-same, triple-same}
+use Rattle.calls.specs.Store.{Store, stateSize, trSize, stateRoom, trRoom, stateField, tripleAt, expandedPlace, headOf, find, tripleWords, stateRecord, add, trRecord, append, mark, addWith, expandedWith, fieldOf, firstWith, markWith, stateRoomWith, trRoomWith}
+use Rattle.calls.specs.Calls.{storeStep, nextFor, storeSteps, reachWith, storeStepWith, storeStepsWith}
+use Rattle.calls.proofs.RecordLaws.{firstPlace, nextPlace, room-words, room-same, triple-same}
 use Rattle.calls.proofs.StoreForms.{Form}
 use Rattle.calls.proofs.ChainLaws.{find-sound, add-field, add-new}
 use Rattle.calls.proofs.FormKept.{add-form, append-form, mark-other, mark-expanded, mark-first}
@@ -74,7 +73,7 @@ new-words t next k h = List·getD-append (tripleWords t ++ (0 ∷ 0 ∷ [])) (ne
 
 -- room depends on lengths, which stay
 pub roomier-stays : (d e d′ e′ : Store) → Stays d d′ → Stays e e′ → Roomier d e → Roomier d′ e′
-unfolding stateRoom trRoom
+unfolding stateRoomWith trRoomWith
 roomier-stays d e d′ e′ a b r = record {
   states = rw (room-same stateSize (d .memory .states) (d′ .memory .states) (a .states-length), room-same stateSize (e .memory .states) (e′ .memory .states) (b .states-length)) (r .states);
   trs = rw (room-same trSize (d .memory .trs) (d′ .memory .trs) (a .trs-length), room-same trSize (e .memory .trs) (e′ .memory .trs) (b .trs-length)) (r .trs);
@@ -92,16 +91,13 @@ pub next-alike : (d e : Store) (b : Bool) → e .used .trs ≡ d .used .trs → 
 next-alike d e true h = ap (λ n. n + 2) h
 next-alike d e false h = refl
 
-module _ {S1 S2 : ℕ} (narrow : S2 ≤ limit) (last : ℕ) where
+module _ {S1 S2 : ℕ} (last : ℕ) where
   module _ (d e : Store) (w : Twin S1 S2 last d e) where
     twin-find : (t : Triple) → find e t ≡ find d t
     twin-find t = find-alike d e (w .form1) (w .form2) (w .whole1) (w .whole2) (sym (w .alike .states)) (alike-triple d e (w .alike)) t
 
     -- a new state
     module _ (t : Triple) (ok : InRange S1 S2 t) (room : d .used .states < stateRoom (d .memory)) (f : find d t ≡ none) where
-      few : t .s2 < 65536
-      few = omega (arith, narrow, ok .s2)
-
       room2 : e .used .states < stateRoom (e .memory)
       room2 = omega (arith, w .alike .states, w .room .states, room)
 
@@ -113,23 +109,23 @@ module _ {S1 S2 : ℕ} (narrow : S2 ≤ limit) (last : ℕ) where
 
       add-alike : (n k : ℕ) → n < d .used .states + 1 → k < nextPlace → Dec (n < d .used .states) → stateField (add e t .memory .states) n k ≡ stateField (add d t .memory .states) n k
       add-alike n k h l (yes x) =
-          add-field e (w .form2) t few room2 headed2 n k (omega (arith, w .alike .states, x)) (omega arith)
-          ∙ (w .alike .state n k x l ∙ sym (add-field d (w .form1) t few room headed1 n k x (omega arith)))
+          add-field e (w .form2) t room2 headed2 n k (omega (arith, w .alike .states, x)) (omega arith)
+          ∙ (w .alike .state n k x l ∙ sym (add-field d (w .form1) t room headed1 n k x (omega arith)))
       add-alike n k h l (no x) =
           let p : n ≡ e .used .states = omega (arith, w .alike .states) in
           let q : n ≡ d .used .states = omega arith in
           ap (λ j. stateField (add e t .memory .states) j k) p
-          ∙ (add-new e (w .form2) t few room2 headed2 k (omega arith)
+          ∙ (add-new e (w .form2) t room2 headed2 k (omega arith)
           ∙ (new-words t (headOf (e .memory .heads) t) k l
-          ∙ sym (ap (λ j. stateField (add d t .memory .states) j k) q ∙ (add-new d (w .form1) t few room headed1 k (omega arith) ∙ new-words t (headOf (d .memory .heads) t) k l))))
+          ∙ sym (ap (λ j. stateField (add d t .memory .states) j k) q ∙ (add-new d (w .form1) t room headed1 k (omega arith) ∙ new-words t (headOf (d .memory .heads) t) k l))))
 
       twin-add : Twin S1 S2 last (add d t) (add e t)
-      unfolding add
+      unfolding addWith
       twin-add = record {
-        form1 = add-form narrow d (w .form1) t ok room headed1;
-        form2 = add-form narrow e (w .form2) t ok room2 headed2;
-        whole1 = whole-add d (w .form1) (w .whole1) t few room headed1 f;
-        whole2 = whole-add e (w .form2) (w .whole2) t few room2 headed2 (twin-find t ∙ f);
+        form1 = add-form d (w .form1) t ok room headed1;
+        form2 = add-form e (w .form2) t ok room2 headed2;
+        whole1 = whole-add d (w .form1) (w .whole1) t room headed1 f;
+        whole2 = whole-add e (w .form2) (w .whole2) t room2 headed2 (twin-find t ∙ f);
         alike = record { states = ap (λ n. n + 1) (w .alike .states); trs = w .alike .trs; state = λ n k h l. add-alike n k h l (decLt n (d .used .states)); word = w .alike .word };
         room = roomier-stays d e (add d t) (add e t) (add-stays d t) (add-stays e t) (w .room);
         any = omega arith;
@@ -137,14 +133,14 @@ module _ {S1 S2 : ℕ} (narrow : S2 ≤ limit) (last : ℕ) where
 
     -- a new transition
     twin-append : (st : Step) (target next : ℕ) → target < d .used .states → d .used .trs < trRoom (d .memory) → LinkOk d last next → Twin S1 S2 last (append d st target next) (append e st target next)
-    unfolding append trRoom
+    unfolding append trRoomWith
     twin-append st target next used room link =
         let room2 : e .used .trs < trRoom (e .memory) = omega (arith, w .alike .trs, w .room .trs, room) in
         let a = room-words trSize (d .memory .trs) (suc (d .used .trs)) room in
         let b = room-words trSize (e .memory .trs) (suc (e .used .trs)) room2 in
         record {
-          form1 = append-form narrow d (w .form1) st target next used room link;
-          form2 = append-form narrow e (w .form2) st target next (omega (arith, w .alike .states, used)) room2 (rw (w .alike .trs) link);
+          form1 = append-form d (w .form1) st target next used room link;
+          form2 = append-form e (w .form2) st target next (omega (arith, w .alike .states, used)) room2 (rw (w .alike .trs) link);
           whole1 = whole-append d (w .form1) (w .whole1) st target next;
           whole2 = whole-append e (w .form2) (w .whole2) st target next;
           alike = record {
@@ -160,11 +156,11 @@ module _ {S1 S2 : ℕ} (narrow : S2 ≤ limit) (last : ℕ) where
   -- a transition to a new state
   twin-new : (d e : Store) → Twin S1 S2 last d e → (next : ℕ) (st : Step) → InRange S1 S2 (st .to) → LinkOk d last next → d .used .trs < trRoom (d .memory) → d .used .states < stateRoom (d .memory) → find d (st .to) ≡ none
       → Twin S1 S2 last (append (add d (st .to)) st (d .used .states) next) (append (add e (st .to)) st (d .used .states) next)
-  unfolding add trRoom
+  unfolding addWith trRoomWith
   twin-new d e w next st ok link more room f = twin-append (add d (st .to)) (add e (st .to)) (twin-add d e w (st .to) ok room f) st (d .used .states) next (omega arith) more link
 
   one-step : (d e : Store) → Twin S1 S2 last d e → (next : ℕ) (st : Step) → InRange S1 S2 (st .to) → LinkOk d last next → Step2 S1 S2 last (d .used .trs) (storeStep d next st) (storeStep e next st)
-  unfolding storeStep reach append add
+  unfolding storeStepWith reachWith append addWith
   one-step d e w next st ok link = go (leb (trRoom (d .memory)) (d .used .trs)) refl
     where
       more : leb (trRoom (d .memory)) (d .used .trs) ≡ false → leb (trRoom (e .memory)) (e .used .trs) ≡ false
@@ -196,7 +192,7 @@ module _ {S1 S2 : ℕ} (narrow : S2 ≤ limit) (last : ℕ) where
 
   pub steps-alike : (steps : List (Checked Step)) (d e : Store) → Twin S1 S2 last d e → ((st : Step) → In (good st) steps → InRange S1 S2 (st .to)) → d .used .trs + length steps ≤ last
       → Steps2 S1 S2 last (storeSteps d steps) (storeSteps e steps)
-  unfolding storeSteps
+  unfolding storeStepsWith
   steps-alike [] d e w ok h = inr (inr (d, e, refl, refl, w))
   steps-alike (refused k ∷ others) d e w ok h = inr (inl (k, refl, refl))
   steps-alike (good st ∷ others) d e w ok h =
@@ -212,9 +208,9 @@ module _ {S1 S2 : ℕ} (narrow : S2 ≤ limit) (last : ℕ) where
       go (inr x) rec = rw (next2, x .2, x .3) (rec (x .0) (x .1) (x .4) (omega (arith, x .5, h)))
 
 -- a mark in both
-pub mark-alike : {S1 S2 : ℕ} (narrow : S2 ≤ limit) (d e : Store) {last more : ℕ} → Form S1 S2 d last → Form S1 S2 e more → (n first : ℕ) → n < d .used .states → first ≤ d .used .trs → Alike d e → Alike (mark d n first) (mark e n first)
-unfolding mark stateField expandedAt firstAt
-mark-alike narrow d e f1 f2 n first used low a = record { states = a .states; trs = a .trs; state = λ m k h l. go m k h l (ℕ-discrete m n); word = a .word }
+pub mark-alike : {S1 S2 : ℕ} (d e : Store) {last more : ℕ} → Form S1 S2 d last → Form S1 S2 e more → (n first : ℕ) → n < d .used .states → first ≤ d .used .trs → Alike d e → Alike (mark d n first) (mark e n first)
+unfolding markWith fieldOf expandedWith firstWith
+mark-alike d e f1 f2 n first used low a = record { states = a .states; trs = a .trs; state = λ m k h l. go m k h l (ℕ-discrete m n); word = a .word }
   where
     used2 : n < e .used .states
     used2 = omega (arith, a .states, used)
@@ -224,9 +220,9 @@ mark-alike narrow d e f1 f2 n first used low a = record { states = a .states; tr
 
     own : (k : ℕ) → k < nextPlace → Dec (k < expandedPlace) → Dec (k ≡ expandedPlace) → stateField (mark e n first .memory .states) n k ≡ stateField (mark d n first .memory .states) n k
     own k h (yes x) y = mark-stays e n first (stateSize * n + k) (inl (omega arith)) ∙ (a .state n k used h ∙ sym (mark-stays d n first (stateSize * n + k) (inl (omega arith))))
-    own k h (no x) (yes y) = rw y (mark-expanded narrow e f2 n first used2 low2 ∙ sym (mark-expanded narrow d f1 n first used low))
-    own k h (no x) (no y) = let z : k ≡ firstPlace = omega (arith, y) in rw z (mark-first narrow e f2 n first used2 low2 ∙ sym (mark-first narrow d f1 n first used low))
+    own k h (no x) (yes y) = rw y (mark-expanded e f2 n first used2 low2 ∙ sym (mark-expanded d f1 n first used low))
+    own k h (no x) (no y) = let z : k ≡ firstPlace = omega (arith, y) in rw z (mark-first e f2 n first used2 low2 ∙ sym (mark-first d f1 n first used low))
 
     go : (m k : ℕ) → m < d .used .states → k < nextPlace → Dec (m ≡ n) → stateField (mark e n first .memory .states) m k ≡ stateField (mark d n first .memory .states) m k
     go m k h l (yes z) = subst (λ j. stateField (mark e n first .memory .states) j k ≡ stateField (mark d n first .memory .states) j k) (sym z) (own k l (decLt k expandedPlace) (ℕ-discrete k expandedPlace))
-    go m k h l (no z) = mark-other narrow e f2 n first used2 low2 m k z (omega arith) ∙ (a .state m k h l ∙ sym (mark-other narrow d f1 n first used low m k z (omega arith)))
+    go m k h l (no z) = mark-other e f2 n first used2 low2 m k z (omega arith) ∙ (a .state m k h l ∙ sym (mark-other d f1 n first used low m k z (omega arith)))

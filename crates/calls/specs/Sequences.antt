@@ -4,9 +4,9 @@ use mathlib.Core.Option.{Option}
 use Prim.Native.Nat.{ℕ}
 use Rattle.words.specs.Labels.{Checked, good, refused}
 use Rattle.words.specs.Settings.{Settings, Lent}
-use Rattle.calls.specs.Store.{Memory, Part}
+use Rattle.calls.specs.Store.{Memory, Part, Layout, six}
 use Rattle.calls.specs.Checks.{Session}
-use Rattle.calls.specs.Calls.{Outcome, openOf, expandOf, finalWeightOf, runOf, recordsOf}
+use Rattle.calls.specs.Calls.{Outcome, openWith, expandWith, finalWeightWith, runWith, recordsWith}
 
 -- the session last returned, and memory as last left
 pub record World : Type 0 where
@@ -43,20 +43,31 @@ saidOf say (refused n) = refusal n
 abbrev pub turnOf : {A : Type 0} → (A → Said) → Outcome A → Turn
 turnOf say o = record { reply = answered (saidOf say (o .answer)) (o .session); world = record { session = o .session; memory = o .memory } }
 
--- one call; "the session it got stays the latest" where records are handed back
-unfoldable pub callOf : Lent → World → Call → Turn
-callOf l w (opening s k) = turnOf (λ u. accepted) (openOf s k (w .session) (w .memory))
-callOf l w (expand n) = turnOf part (expandOf l (w .session) (w .memory) n)
-callOf l w (finalWeight n) = turnOf weight (finalWeightOf l (w .session) (w .memory) n)
-callOf l w run = turnOf (λ u. accepted) (runOf l (w .session) (w .memory))
-callOf l w (records n) = record { reply = handed (recordsOf l (w .session) (w .memory) n); world = w }
+module _ (L : Layout) where
+  -- one call; "the session it got stays the latest" where records are handed back
+  unfoldable pub callWith : Lent → World → Call → Turn
+  callWith l w (opening s k) = turnOf (λ u. accepted) (openWith L s k (w .session) (w .memory))
+  callWith l w (expand n) = turnOf part (expandWith L l (w .session) (w .memory) n)
+  callWith l w (finalWeight n) = turnOf weight (finalWeightWith L l (w .session) (w .memory) n)
+  callWith l w run = turnOf (λ u. accepted) (runWith L l (w .session) (w .memory))
+  callWith l w (records n) = record { reply = handed (recordsWith L l (w .session) (w .memory) n); world = w }
 
--- all that a list of calls returns
-unfoldable pub replies : Lent → World → List Call → List Reply
-replies l w [] = []
-replies l w (c ∷ cs) = let t = callOf l w c in t .reply ∷ replies l (t .world) cs
+  -- all that a list of calls returns
+  unfoldable pub repliesWith : Lent → World → List Call → List Reply
+  repliesWith l w [] = []
+  repliesWith l w (c ∷ cs) = let t = callWith l w c in t .reply ∷ repliesWith l (t .world) cs
 
--- the world after a list of calls
-unfoldable pub after : Lent → World → List Call → World
-after l w [] = w
-after l w (c ∷ cs) = after l (callOf l w c .world) cs
+  -- the world after a list of calls
+  unfoldable pub afterWith : Lent → World → List Call → World
+  afterWith l w [] = w
+  afterWith l w (c ∷ cs) = afterWith l (callWith l w c .world) cs
+
+-- the same in the layout of every call
+abbrev pub callOf : Lent → World → Call → Turn
+callOf = callWith six
+
+abbrev pub replies : Lent → World → List Call → List Reply
+replies = repliesWith six
+
+abbrev pub after : Lent → World → List Call → World
+after = afterWith six

@@ -11,9 +11,9 @@ use Rattle.words.specs.Machines.{limit}
 use Rattle.words.specs.Settings.{Lent}
 use Rattle.words.specs.Steps.{Composition}
 use Rattle.words.proofs.CheckedLaws.{good≢refused, refused-is}
-use Rattle.calls.specs.Store.{Memory, stateSize, stateRoom, expandedAt, Part, partAt}
+use Rattle.calls.specs.Store.{Memory, stateSize, expandedAt, Part, partAt, stateRoomWith}
 use Rattle.calls.specs.Checks.{Session, storeOf, entered}
-use Rattle.calls.specs.Calls.{Outcome, settle, expansion, expandOf, onward, runEnded, runFrom}
+use Rattle.calls.specs.Calls.{Outcome, settle, expansion, expandOf, onward, runEnded, runFrom, runFromWith}
 use Rattle.calls.specs.Owned.{stopBy, stopFrom}
 use Rattle.calls.proofs.RunLaws.{expand-under}
 use Rattle.calls.proofs.ExpandKept.{entered-is, expand-kept}
@@ -47,24 +47,24 @@ module _ (l : Lent) where
 
   -- no more states are found than a word holds
   pub few-found : (s : Session) (m : Memory) (c : Composition) → entered l s m ≡ good c → s .used .states ≤ limit
-  unfolding stateRoom
+  unfolding stateRoomWith
   few-found s m c e = room-words stateSize (m .states) (s .used .states) (entered-is l s m c e .form .states-fit) .0
 
   -- none is left
   pub run-ends : (k n : ℕ) (s : Session) (m : Memory) (v : Outcome (Unit {0})) → 0 < k → s .used .states ≤ n → runFrom l k n s m ≡ v → runEnded s m ≡ v
-  unfolding runFrom
+  unfolding runFromWith
   run-ends zero n s m v h b e = absurd (omega arith)
   run-ends (suc k) n s m v h b e = rw (le-leb _ _ b) at e
 
   pub run-over : (k n : ℕ) (s : Session) (m : Memory) (v : Outcome (Unit {0})) → k ≡ 0 → runFrom l k n s m ≡ v → runEnded s m ≡ v
-  unfolding runFrom
+  unfolding runFromWith
   run-over zero n s m v h e = e
   run-over (suc k) n s m v h e = absurd (omega arith)
 
   -- one expansion, and the rest of the run after it
   run-turn : (k n : ℕ) (s : Session) (m : Memory) (o : Outcome Part) (v : Outcome (Unit {0})) → 0 < k → leb (s .used .states) n ≡ false → o ≡ expandOf l s m n → runFrom l k n s m ≡ v
       → onward (o .answer) (o .session) (o .memory) (runFrom l (k - 1) (n + 1)) ≡ v
-  unfolding runFrom
+  unfolding runFromWith
   run-turn zero n s m o v h b q e = absurd (omega arith)
   run-turn (suc k) n s m o v h b q e =
       let z : suc k - 1 ≡ k = omega arith in

@@ -5,12 +5,12 @@ use mathlib.Core.List.{[], _∷_}
 use lib.ListN.{replicate}
 use Rattle.lists.specs.Lists.{every, interval}
 use Rattle.words.specs.Labels.{MAX, good}
-use Rattle.words.specs.Machines.{stateCount, trCount, startWord, sideMark, acceptorMark, stateWord, trWord, firstOk, nextOk, firstOf, nextOf, listBy, listFrom, listOf, noFall, sorted, stateOk, trOk, acceptor, marksOk, sizeOk, wellFormed}
+use Rattle.words.specs.Machines.{stateCount, trCount, startWord, sideMark, acceptorMark, stateWord, trWord, firstOk, nextOk, firstOf, nextOf, listBy, listFrom, listOf, noFall, sorted, stateOk, trOk, acceptor, marksOk, sizeUpTo, wellFormedUpTo}
 use Rattle.words.specs.Sides.{sideOf}
 use Rattle.words.specs.Settings.{settingsOk}
-use Rattle.calls.specs.Store.{roomOf, stateRoom, trRoom, stateField, tripleAt, expandedAt, firstAt, nextAt, trField, targetAt, trNextAt}
-use Rattle.calls.specs.Forms.{fits, headsOk, tripleOk, expandedOk, stateFormOk, trFormOk, formOk}
-use Rattle.calls.specs.Checks.{sideFor, sessionOk, entered}
+use Rattle.calls.specs.Store.{tripleAt, targetAt, trNextAt, expandedWith, fieldOf, firstWith, nextWith, roomWith, stateRoomWith, trRoomWith}
+use Rattle.calls.specs.Forms.{headsOk, trFormOk, expandedOkWith, fitsWith, formOkWith, stateFormOkWith, tripleOkWith}
+use Rattle.calls.specs.Checks.{entered, enteredWith, sessionOkWith, sideForWith}
 use Rattle.calls.proofs.StarCases.{example1, example2}
 use Rattle.fst.specs.declared.MatchType.the-variants.{MatchOutput}
 use Rattle.match_type.specs.declared.Side.the-variants.{Only}
@@ -29,6 +29,6 @@ options = record {
   sigma2 = record { label = record { 0 = MAX }; mode = 0; listed = false };
 }
 
-met : entered (lentOf options example1 example2 [] []) (sessionUnder options (record { states = 1; trs = 0 })) (memoryOf (1 ∷ []) (replicate 10 0) (replicate 5 0)) ≡ good (composing options example1 example2 [] [])
-unfolding entered sessionOk sideFor settingsOk wellFormed sizeOk stateOk trOk marksOk acceptor sideOf sorted noFall listOf listFrom listBy firstOf nextOf firstOk nextOk stateWord trWord acceptorMark sideMark startWord trCount stateCount fits formOk headsOk stateFormOk tripleOk expandedOk trFormOk tripleAt expandedAt firstAt nextAt stateField trField targetAt trNextAt stateRoom trRoom roomOf every interval
+met : entered (lentOf options example1 example2 [] []) (sessionUnder options (record { states = 1; trs = 0 })) (memoryOf (1 ∷ []) (replicate 12 0) (replicate 5 0)) ≡ good (composing options example1 example2 [] [])
+unfolding enteredWith sessionOkWith sideForWith settingsOk wellFormedUpTo sizeUpTo stateOk trOk marksOk acceptor sideOf sorted noFall listOf listFrom listBy firstOf nextOf firstOk nextOk stateWord trWord acceptorMark sideMark startWord trCount stateCount fitsWith formOkWith headsOk stateFormOkWith tripleOkWith expandedOkWith trFormOk tripleAt expandedWith firstWith nextWith fieldOf targetAt trNextAt stateRoomWith trRoomWith roomWith every interval
 met = refl

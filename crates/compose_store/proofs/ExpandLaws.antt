@@ -1,22 +1,19 @@
 -- The expansion by what its steps leave: the store with the state marked, or a refusal and all as it was.
-use mathlib.Core.Path.{_≡_, refl, sym, _∙_, ap, subst}
+use mathlib.Core.Path.{_≡_, sym, _∙_, ap, subst}
 use mathlib.Core.Bool.{true}
-use mathlib.Core.List.{List, [], _∷_, List·Memᴰ as In, List·Memᴰ·head as here, List·Memᴰ·tail as there}
-use Prim.Native.Nat.{ℕ, _≤_, _<_}
-use native.Mathlib.Omega.{arith}
+use mathlib.Core.List.{List, [], _∷_}
+use Prim.Native.Nat.{ℕ, _<_}
 use Rattle.words.specs.Labels.{Checked, good, refused, andThen}
-use Rattle.words.specs.Machines.{limit, stateCount}
 use Rattle.words.specs.Settings.{Lent}
 use Rattle.words.specs.Steps.{Composition, Step, stepsAt}
 use Rattle.words.proofs.CheckedLaws.{good≢refused, refused-is}
-use Rattle.words.proofs.StepRange.{InRange}
 use Rattle.calls.specs.Store.{Memory, Store, Part, tripleAt, mark}
 use Rattle.calls.specs.Checks.{Session, storeOf, entered}
-use Rattle.calls.specs.Calls.{Outcome, settle, storeSteps, newPart, expansion}
+use Rattle.calls.specs.Calls.{Outcome, settle, storeSteps, newPart, expansion, expansionWith, storeStepsWith}
 use Rattle.calls.proofs.ExpandKept.{entered-is}
 use Rattle.compose_weigh.specs.Weigh.{weighOf}
-use Rattle.compose_weigh.proofs.EnteredLaws.{few-states, targets-in-range, weigh-entered}
-use Rattle.compose_store.specs.Meaning.{Accepted, Narrow}
+use Rattle.compose_weigh.proofs.EnteredLaws.{weigh-entered}
+use Rattle.compose_store.specs.Meaning.{Accepted}
 
 -- a clear weighing is accepted, and another refuses with its number
 pub clear-accepted : (x : Checked Store) → _≡_ {A = Checked (Unit {0})} (good tt) (andThen x (λ d. good tt)) → Accepted x
@@ -27,14 +24,6 @@ pub refused-same : (x : Checked Store) (k : ℕ) → _≡_ {A = Checked (Unit {0
 refused-same (good d) k e = absurd (good≢refused (sym e))
 refused-same (refused n) k e = ap refused (sym (refused-is e))
 
--- targets in range are narrow
-pub narrow-of : (S1 S2 : ℕ) (l : List (Checked Step)) → S1 ≤ limit → S2 ≤ limit → ((st : Step) → In (good st) l → InRange S1 S2 (st .to)) → Narrow l
-narrow-of S1 S2 [] h k ok = tt
-narrow-of S1 S2 (refused n ∷ l) h k ok = tt
-narrow-of S1 S2 (good s ∷ l) h k ok =
-    let r = ok s (here refl) in
-    ((omega (arith, r .s1, h), omega (arith, r .s2, k)), narrow-of S1 S2 l h k (λ st i. ok st (there i)))
-
 module _ (c : Composition) (s : Session) (m : Memory) (n : ℕ) where
   -- part and store of an accepted expansion
   abbrev leaves : Part → Store → Outcome Part
@@ -42,7 +31,7 @@ module _ (c : Composition) (s : Session) (m : Memory) (n : ℕ) where
 
   taken-on : (d : Store) → storeSteps (storeOf s m) (stepsAt c (tripleAt (m .states) n)) ≡ good d
       → settle s m (expansion c s m n) ≡ leaves (newPart (s .used) (d .used)) (mark d n (newPart (s .used) (d .used) .first))
-  unfolding expansion
+  unfolding expansionWith
   taken-on d g = rw g
 
   pub expanded-new : (d e : Store) (p : Part) → storeSteps (storeOf s m) (stepsAt c (tripleAt (m .states) n)) ≡ good d → p ≡ newPart (s .used) (d .used) → e ≡ mark d n (p .first)
@@ -51,20 +40,16 @@ module _ (c : Composition) (s : Session) (m : Memory) (n : ℕ) where
 
   pub expanded-refused : (k : ℕ) → storeSteps (storeOf s m) (stepsAt c (tripleAt (m .states) n)) ≡ refused k
       → settle s m (expansion c s m n) ≡ record { answer = refused k; session = s; memory = m }
-  unfolding expansion
+  unfolding expansionWith
   expanded-refused k g = rw g
 
   -- 10 alone
   pub start-refused : (k : ℕ) → refused k ∷ [] ≡ stepsAt c (tripleAt (m .states) n) → settle s m (expansion c s m n) ≡ record { answer = refused k; session = s; memory = m }
-  unfolding storeSteps
+  unfolding storeStepsWith
   start-refused k e = expanded-refused k (ap (storeSteps (storeOf s m)) (sym e))
 
--- where the checks 1 to 8 passed, the steps of a found state are weighed exactly, and a state record holds each target
+-- where the checks 1 to 8 passed, the steps of a found state are weighed exactly
 pub ready : (l : Lent) (s : Session) (m : Memory) (c : Composition) (n : ℕ) (steps : List (Checked Step)) → entered l s m ≡ good c → n < s .used .states → steps ≡ stepsAt c (tripleAt (m .states) n)
-    → (weighOf true (storeOf s m) steps ≡ andThen (storeSteps (storeOf s m) steps) (λ d. good tt)) × Narrow steps
+    → weighOf true (storeOf s m) steps ≡ andThen (storeSteps (storeOf s m) steps) (λ d. good tt)
 ready l s m c n steps e found k =
-    let h = entered-is l s m c e in
-    let few = few-states l s m c h in
-    let all = stepsAt c (tripleAt (m .states) n) in
-    subst (λ x. (weighOf true (storeOf s m) x ≡ andThen (storeSteps (storeOf s m) x) (λ d. good tt)) × Narrow x) (sym k)
-    (weigh-entered l s m c h n found, narrow-of (stateCount (l .m1)) (stateCount (l .m2)) all (few .0) (few .1) (targets-in-range l s m c h n found))
+    subst (λ x. weighOf true (storeOf s m) x ≡ andThen (storeSteps (storeOf s m) x) (λ d. good tt)) (sym k) (weigh-entered l s m c (entered-is l s m c e) n found)

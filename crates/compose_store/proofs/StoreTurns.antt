@@ -9,12 +9,12 @@ use Rattle.words.specs.Settings.{Settings, Lent}
 use Rattle.words.specs.Sides.{nonEmpty}
 use Rattle.words.specs.Steps.{Step}
 use Rattle.calls.specs.Store.{Store}
-use Rattle.calls.specs.Calls.{nextFor, storeStep, storeSteps}
+use Rattle.calls.specs.Calls.{nextFor, storeStep, storeSteps, storeStepsWith}
 use Rattle.compose_moves.specs.Walks.{Asked, gives, ends, refuses, asked}
 use Rattle.compose_moves.specs.Cursors.{nextMeans}
 use Rattle.compose_moves.specs.declared.NextStep.{NextStep}
 use Rattle.compose_moves.specs.declared.NextStep.the-variants.{Step as AStep, Done, Refused}
-use Rattle.compose_store.specs.Meaning.{Accepted, Narrow, goesOn}
+use Rattle.compose_store.specs.Meaning.{Accepted, goesOn}
 use Rattle.compose_store.proofs.StoreLaws.{accepted-then}
 
 -- the steps that an answer tells of; nothing after a refusal counts
@@ -34,15 +34,10 @@ left-any (good s ∷ l) = refl
 left-any (refused n ∷ l) = refl
 
 pub left-same : (d : Store) (l : List (Checked Step)) → storeSteps d (askedLeft (asked l)) ≡ storeSteps d l
-unfolding storeSteps
+unfolding storeStepsWith
 left-same d [] = refl
 left-same d (good s ∷ l) = refl
 left-same d (refused n ∷ l) = refl
-
-pub left-narrow : (l : List (Checked Step)) → Narrow l → Narrow (askedLeft (asked l))
-left-narrow [] h = h
-left-narrow (good s ∷ l) h = h
-left-narrow (refused n ∷ l) h = h
 
 pub left-length : (l : List (Checked Step)) → length (askedLeft (asked l)) ≤ length l
 left-length [] = omega arith
@@ -55,17 +50,17 @@ follows S L r l e = goes-on S L r ∙ ap (λ x. nonEmpty (askedLeft x)) e ∙ le
 
 -- an accepted list's first step is accepted
 pub first-accepted : (d : Store) (s : Step) (others : List (Checked Step)) → Accepted (storeSteps d (good s ∷ others)) → Accepted (storeStep d (nextFor d (nonEmpty others)) s)
-unfolding storeSteps
+unfolding storeStepsWith
 first-accepted d s others h = accepted-then (storeStep d (nextFor d (nonEmpty others)) s) (λ e. storeSteps e others) h
 
 -- an accepted list has no refusal
 pub no-refusal : (d : Store) (n : ℕ) (l : List (Checked Step)) → Accepted (storeSteps d (refused n ∷ l)) → ⊥
-unfolding storeSteps
+unfolding storeStepsWith
 no-refusal d n l h = h
 
 pub store-turn : (d e : Store) (s : Step) (others : List (Checked Step)) (x : Asked) → x ≡ asked others → good e ≡ storeStep d (nextFor d (nonEmpty others)) s
     → storeSteps e (askedLeft x) ≡ storeSteps d (good s ∷ others)
-unfolding storeSteps
+unfolding storeStepsWith
 store-turn d e s others x p q = ap (λ y. storeSteps e (askedLeft y)) p ∙ left-same e others ∙ ap (λ (y : Checked Store). andThen y (λ f. storeSteps f others)) q
 
 -- the first answer stands for all steps
@@ -75,9 +70,6 @@ left-all d l x e = ap (λ y. storeSteps d (askedLeft y)) e ∙ left-same d l
 pub left-less : (l : List (Checked Step)) (x : Asked) → x ≡ asked l → length (askedLeft x) ≤ length l
 left-less l x e = subst (λ y. length (askedLeft y) ≤ length l) (sym e) (left-length l)
 
-pub narrow-left : (l : List (Checked Step)) (x : Asked) → x ≡ asked l → Narrow l → Narrow (askedLeft x)
-narrow-left l x e h = subst (λ y. Narrow (askedLeft y)) (sym e) (left-narrow l h)
-
 pub none-stored : (d : Store) → storeSteps d [] ≡ good d
-unfolding storeSteps
+unfolding storeStepsWith
 none-stored d = refl

@@ -1,9 +1,8 @@
 -- What the code's types stand for in the definitions of `calls`, and what an expansion leaves.
 use mathlib.Core.Bool.{Bool, true, false}
-use mathlib.Core.List.{List, [], _∷_}
-use Prim.Native.Nat.{ℕ, _<_}
+use mathlib.Core.List.{List}
+use Prim.Native.Nat.{ℕ}
 use Rattle.words.specs.Labels.{Checked, good, refused}
-use Rattle.words.specs.Steps.{Step}
 use Rattle.calls.specs.Store.{Memory, Part}
 use Rattle.calls.specs.Checks.{Session, sideNumber}
 use Rattle.calls.specs.Calls.{Reached as Place, Outcome}
@@ -23,12 +22,6 @@ use Rattle.compose_store.specs.declared.Expansion.the-variants.{New, Ref
 abbrev pub Accepted : {A : Type 0} → Checked A → Type 0
 Accepted (good a) = Unit {0}
 Accepted (refused n) = ⊥
-
--- each target is a pair that a state record holds ("s1 × 65536 + s2")
-abbrev pub Narrow : List (Checked Step) → Type 0
-Narrow [] = Unit {0}
-Narrow (refused n ∷ steps) = Unit {0}
-Narrow (good s ∷ steps) = ((s .to .s1 < 65536) × (s .to .s2 < 65536)) × Narrow steps
 
 -- another step, or a refusal, comes
 abbrev pub goesOn : NextStep → Bool

@@ -16,7 +16,7 @@ ghost use Rattle.compose_fst_op.specs.Composing.{lentOf, composing};
 ghost use Rattle.compose_moves.specs.Moves.{composeTrMeans};
 ghost use Rattle.compose_weigh.specs.Weigh.{weighOf};
 ghost use Rattle.compose_weigh.specs.Meaning.{stepsFrom, storeIn};
-ghost use Rattle.compose_store.specs.Meaning.{Accepted, Narrow, goesOn, reachedMeans, sessionUnder, leftBy};
+ghost use Rattle.compose_store.specs.Meaning.{Accepted, goesOn, reachedMeans, sessionUnder, leftBy};
 use compose_fst_op::ComposeFstOpOptions;
 use compose_moves::ComposeTr;
 use compose_moves::MoveCursor;
@@ -52,10 +52,7 @@ pub enum Expansion {
 
 // The state found, else a new one.
 fn reach(heads: &mut [u32], states: &mut [u32], used: u32, tuple: ComposeStateTuple) -> Reached
-    requires { ⌜ (
-        ((trs : List ℕ) (k : ℕ) → Accepted (reachOf (stored (now heads) (now states) trs used k) (tupleMeans tuple)))
-        × (tuple .s1 .0 < 65536) × (tuple .s2 .0 < 65536)
-        ) ⌝ }
+    requires { ⌜ ((trs : List ℕ) (k : ℕ) → Accepted (reachOf (stored (now heads) (now states) trs used k) (tupleMeans tuple))) ⌝ }
     ensures { λ r. ⌜ (
         (trs : List ℕ) (k : ℕ) →
         let d = stored (now (heads .entry)) (now (states .entry)) trs used k in
@@ -94,7 +91,7 @@ fn store_step(
 ) -> Used
     requires { ⌜ (
         let d = storeIn (now heads) (now states) (now trs) used in
-        Accepted (storeStep d (nextFor d follows) (composeTrMeans tr)) × (tr .tuple .s1 .0 < 65536) × (tr .tuple .s2 .0 < 65536)
+        Accepted (storeStep d (nextFor d follows) (composeTrMeans tr))
         ) ⌝ }
     ensures { λ r. ⌜ (
         let d = storeIn (now (heads .entry)) (now (states .entry)) (now (trs .entry)) used in
@@ -152,7 +149,7 @@ fn store_steps(
     requires { ⌜ (
         let d = storeIn (now heads) (now states) (now trs) used in
         let steps = stepsFrom options (now m1) (now m2) (now a1) (now a2) start in
-        Accepted (storeSteps d steps) × Narrow steps
+        Accepted (storeSteps d steps)
         ) ⌝ }
     ensures { λ r. ⌜ (
         let d = storeIn (now (heads .entry)) (now (states .entry)) (now (trs .entry)) used in
@@ -206,7 +203,7 @@ fn expand_from(
     requires { ⌜ (
         let d = storeIn (now heads) (now states) (now trs) used in
         let steps = stepsFrom options (now m1) (now m2) (now a1) (now a2) start in
-        (weighOf true d steps ≡ andThen (storeSteps d steps) (λ e. good tt)) × Narrow steps
+        weighOf true d steps ≡ andThen (storeSteps d steps) (λ e. good tt)
         ) ⌝ }
     ensures { λ r. ⌜ (
         (c : Composition) →

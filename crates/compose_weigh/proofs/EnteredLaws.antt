@@ -2,13 +2,12 @@
 use mathlib.Core.Path.{_≡_, subst}
 use mathlib.Core.Bool.{true}
 use mathlib.Core.List.{List·Memᴰ as In}
-use Prim.Native.Nat.{ℕ, _≤_, _<_}
+use Prim.Native.Nat.{ℕ, _<_}
 use native.Mathlib.Omega.{arith}
 use Rattle.words.specs.Labels.{good, andThen}
-use Rattle.words.specs.Machines.{limit, stateCount}
+use Rattle.words.specs.Machines.{stateCount}
 use Rattle.words.specs.Steps.{Composition, Step, stepsAt}
 use Rattle.words.specs.Settings.{Lent}
-use Rattle.words.proofs.FormLaws.{form}
 use Rattle.words.proofs.StepRange.{InRange, steps-in-range}
 use Rattle.calls.specs.Store.{Memory, tripleAt}
 use Rattle.calls.specs.Checks.{Session, storeOf}
@@ -18,10 +17,6 @@ use Rattle.compose_weigh.specs.Weigh.{weighOf}
 use Rattle.compose_weigh.proofs.WeighLaws.{weigh-exact}
 
 module _ (l : Lent) (s : Session) (m : Memory) (c : Composition) (h : Entered l s m c) where
-  -- "S and T are at most 65535"
-  pub few-states : (stateCount (l .m1) ≤ limit) × (stateCount (l .m2) ≤ limit)
-  few-states = let z = sided (s .settings) l (h .side) (h .rule) in (form (l .m1) (z .formed1) .states, form (l .m2) (z .formed2) .states)
-
   pub targets-in-range : (n : ℕ) → n < s .used .states → (st : Step) → In (good st) (stepsAt c (tripleAt (m .states) n)) → InRange (stateCount (l .m1)) (stateCount (l .m2)) (st .to)
   targets-in-range n found st i =
       let z = sided (s .settings) l (h .side) (h .rule) in
@@ -30,4 +25,4 @@ module _ (l : Lent) (s : Session) (m : Memory) (c : Composition) (h : Entered l 
 
   pub weigh-entered : (n : ℕ) → n < s .used .states
       → weighOf true (storeOf s m) (stepsAt c (tripleAt (m .states) n)) ≡ andThen (storeSteps (storeOf s m) (stepsAt c (tripleAt (m .states) n))) (λ e. good tt)
-  weigh-entered n found = weigh-exact (few-states .1) (storeOf s m) (stepsAt c (tripleAt (m .states) n)) (h .form) (targets-in-range n found) (omega (arith, found))
+  weigh-entered n found = weigh-exact (storeOf s m) (stepsAt c (tripleAt (m .states) n)) (h .form) (targets-in-range n found) (omega (arith, found))

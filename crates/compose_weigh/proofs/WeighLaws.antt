@@ -4,7 +4,7 @@ use mathlib.Core.Path.{_≡_, refl, sym, _∙_, ap}
 use mathlib.Core.Bool.{Bool, true, false, not, _&&_, _||_, and-true, and-false, or-false, or-assoc}
 use mathlib.Core.List.{List, [], _∷_, List·Memᴰ as In, List·Memᴰ·head as here, List·Memᴰ·tail as there}
 use mathlib.Core.Option.{Option, none, some}
-use Prim.Native.Nat.{ℕ, zero, suc, _+_, _*_, _≤_, _<_}
+use Prim.Native.Nat.{ℕ, zero, suc, _+_, _*_, _<_}
 use native.Mathlib.Omega.{arith}
 use native.Mathlib.Numerals.{add-one}
 use lib.Dec.{leb}
@@ -12,12 +12,11 @@ use lib.ListN.{length}
 use borrow.Author.Tests.{leb-false}
 use Rattle.lists.proofs.Put.{length-put}
 use Rattle.words.specs.Labels.{Checked, good, refused, refuseIf, andThen}
-use Rattle.words.specs.Machines.{limit}
 use Rattle.words.specs.Sides.{nonEmpty}
 use Rattle.words.specs.Steps.{Triple, Step}
 use Rattle.words.proofs.StepRange.{InRange}
-use Rattle.calls.specs.Store.{Store, stateSize, trSize, stateRoom, trRoom, headOf, chainOf, sameTriple, find, stateRecord, add, trRecord, append}
-use Rattle.calls.specs.Calls.{Reached, reachedBy, reach, storeStep, nextFor, storeSteps}
+use Rattle.calls.specs.Store.{Store, stateSize, trSize, stateRoom, trRoom, headOf, sameTriple, find, stateRecord, add, trRecord, append, addWith, chainWith, findWith, stateRoomWith, trRoomWith}
+use Rattle.calls.specs.Calls.{Reached, reachedBy, reach, nextFor, storeSteps, reachWith, storeStepWith, storeStepsWith}
 use Rattle.calls.proofs.RecordLaws.{room-same}
 use Rattle.calls.proofs.StoreForms.{Form}
 use Rattle.calls.proofs.ChainLaws.{same-triple, find-sound, find-added, find-other}
@@ -76,16 +75,16 @@ lacks-next e f to n found other t = go (sameTriple to t) refl
     go true p = and-false (missing (find e t)) ∙ sym (ap missing (ap (find f) (sym (same-triple to t p)) ∙ found))
     go false p = and-true (missing (find e t)) ∙ ap missing (sym (other t p))
 
-module _ {S1 S2 : ℕ} (narrow : S2 ≤ limit) (d : Store) (all : List (Checked Step)) (last : ℕ) where
+module _ {S1 S2 : ℕ} (d : Store) (all : List (Checked Step)) (last : ℕ) where
   -- a transition record, and the state of its target
   append-grown : (e f : Store) (i n next : ℕ) (s : Step) (others : List (Checked Step)) → Grown S1 S2 d all last i e → Ahead i all (good s ∷ others)
       → Form S1 S2 f last → stateRoom (f .memory) ≡ stateRoom (e .memory) → trRoom (f .memory) ≡ trRoom (e .memory) → f .used .trs ≡ e .used .trs → n < f .used .states
       → e .used .trs < trRoom (e .memory) → LinkOk e last next
       → find f (s .to) ≡ some n → ((t : Triple) → sameTriple (s .to) t ≡ false → find f t ≡ find e t)
       → Grown S1 S2 d all last (suc i) (append f s n next)
-  unfolding append find chainOf trRoom stateRoom
+  unfolding append findWith chainWith trRoomWith stateRoomWith
   append-grown e f i n next s others g a form sr tr same inside room l found other = record {
-    form = append-form narrow f form s n next inside (rw (same, tr) room) (rw same l);
+    form = append-form f form s n next inside (rw (same, tr) room) (rw same l);
     state-room = g .state-room ∙ sym sr;
     tr-room = g .tr-room ∙ sym tr ∙ sym (room-same trSize (f .memory .trs) (append f s n next .memory .trs) (length-put (f .memory .trs) (trSize * f .used .trs) (trRecord s n next)));
     trs = omega (arith, g .trs, same);
@@ -102,14 +101,13 @@ module _ {S1 S2 : ℕ} (narrow : S2 ≤ limit) (d : Store) (all : List (Checked 
     found-grown n p = append-grown e e i n next s others g a (g .form) refl refl refl (find-sound e (g .form) (s .to) n p .0) room (link-ok e last others (omega arith)) p (λ t q. refl)
 
     new-grown : e .used .states < stateRoom (e .memory) → Grown S1 S2 d all last (suc i) (append (add e (s .to)) s (e .used .states) next)
-    unfolding add stateRoom trRoom
+    unfolding addWith stateRoomWith trRoomWith
     new-grown more =
-        let few : s .to .s2 < 65536 = omega (arith, narrow, ok .s2) in
         let headed = g .form .headed (g .any) in
-        append-grown e (add e (s .to)) i (e .used .states) next s others g a (add-form narrow e (g .form) (s .to) ok more headed)
+        append-grown e (add e (s .to)) i (e .used .states) next s others g a (add-form e (g .form) (s .to) ok more headed)
         (room-same stateSize (e .memory .states) (add e (s .to) .memory .states) (length-put (e .memory .states) (stateSize * e .used .states) (stateRecord (s .to) (headOf (e .memory .heads) (s .to)))))
         refl refl (omega arith) room (link-ok e last others (omega arith))
-        (find-added e (g .form) (s .to) few more headed) (find-other e (g .form) (s .to) few more headed)
+        (find-added e (g .form) (s .to) more headed) (find-other e (g .form) (s .to) more headed)
 
     abbrev Told : Store → Type 0
     Told f = weighFrom true d all (i + 1) (f .used .states) others ≡ andThen (storeSteps f others) (λ x. good tt)
@@ -123,7 +121,7 @@ module _ {S1 S2 : ℕ} (narrow : S2 ≤ limit) (d : Store) (all : List (Checked 
     -- a new state has a record, or 13
     by-room : (b : Bool) → leb (stateRoom (e .memory)) (e .used .states) ≡ b → ((f : Store) → Grown S1 S2 d all last (suc i) f → f .used .trs + length others ≡ last → Told f)
         → andThen (refuseIf b 13 (good (e .used .states + 1))) (λ v. weighFrom true d all (i + 1) v others) ≡ rest (andThen (refuseIf b 13 (good (record { store = add e (s .to); state = e .used .states }))) put)
-    unfolding add append
+    unfolding addWith append
     by-room true p rec = refl
     by-room false p rec = rec (append (add e (s .to)) s (e .used .states) next) (new-grown (leb-false _ _ p)) (omega (arith, h))
 
@@ -141,13 +139,13 @@ module _ {S1 S2 : ℕ} (narrow : S2 ≤ limit) (d : Store) (all : List (Checked 
       → ((f : Store) → Grown S1 S2 d all last (suc i) f → f .used .trs + length others ≡ last → weighFrom true d all (i + 1) (f .used .states) others ≡ andThen (storeSteps f others) (λ x. good tt))
       → refuseIf b 13 (andThen (countState (missing (find e (s .to))) (stateRoom (e .memory)) (e .used .states)) (λ v. weighFrom true d all (i + 1) v others))
       ≡ andThen (andThen (refuseIf b 13 (andThen (reach e (s .to)) (λ r. good (append (r .store) s (r .state) (nextFor e (nonEmpty others)))))) (λ f. storeSteps f others)) (λ x. good tt)
-  unfolding reach
+  unfolding reachWith
   by-tr i e s others g a ok h true p rec = refl
   by-tr i e s others g a ok h false p rec = by-find i e s others g a ok (leb-false _ _ p) h (find e (s .to)) refl rec
 
   told : (i : ℕ) (e : Store) (steps : List (Checked Step)) → Grown S1 S2 d all last i e → Ahead i all steps → ((s : Step) → In (good s) steps → InRange S1 S2 (s .to)) → e .used .trs + length steps ≡ last
       → weighFrom true d all i (e .used .states) steps ≡ andThen (storeSteps e steps) (λ x. good tt)
-  unfolding weighFrom storeSteps storeStep
+  unfolding weighFrom storeStepsWith storeStepWith
   told i e [] g a ok h = refl
   told i e (refused n ∷ others) g a ok h = refl
   told i e (good s ∷ others) g a ok h =
@@ -156,10 +154,10 @@ module _ {S1 S2 : ℕ} (narrow : S2 ≤ limit) (d : Store) (all : List (Checked 
       (λ f k l. rw (add-one i) (told (suc i) f others k (ahead-next i all s others a) (λ r j. ok r (there j)) l)))
 
 -- On every store in form, with a state, and for steps whose targets are in range: the weighing's answer is that of storing.
-pub weigh-exact : {S1 S2 : ℕ} → S2 ≤ limit → (d : Store) (steps : List (Checked Step)) → Form S1 S2 d (d .used .trs) → ((s : Step) → In (good s) steps → InRange S1 S2 (s .to)) → 0 < d .used .states
+pub weigh-exact : {S1 S2 : ℕ} (d : Store) (steps : List (Checked Step)) → Form S1 S2 d (d .used .trs) → ((s : Step) → In (good s) steps → InRange S1 S2 (s .to)) → 0 < d .used .states
     → weighOf true d steps ≡ andThen (storeSteps d steps) (λ e. good tt)
 unfolding weighOf isNew reachedWithin
-weigh-exact {S1} {S2} narrow d steps form ok any =
+weigh-exact {S1} {S2} d steps form ok any =
     let last = d .used .trs + length steps in
     let g : Grown S1 S2 d steps last 0 d = record {
       form = longer d last form (omega arith);
@@ -169,4 +167,4 @@ weigh-exact {S1} {S2} narrow d steps form ok any =
       any = any;
       lacks = λ t. and-true (missing (find d t));
     } in
-    told narrow d steps last 0 d steps g refl ok refl
+    told d steps last 0 d steps g refl ok refl

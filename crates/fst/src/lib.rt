@@ -43,7 +43,7 @@ pub struct Label(pub u32);
 pub struct StateId(pub u32);
 
 // The largest number of states, of transitions, and of records of each sort.
-pub const LIMIT: u32 = 65535;
+pub const LIMIT: u32 = 16777215;
 
 // The words of a machine's header, of a state's record, and of a transition's record.
 pub const HEADER_WORDS: usize = 6;

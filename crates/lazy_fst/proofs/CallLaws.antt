@@ -13,8 +13,8 @@ use Rattle.words.specs.Settings.{Lent, compositionOf}
 use Rattle.words.specs.Steps.{Composition, finalAt}
 use Rattle.words.proofs.CheckedLaws.{past-check, past-then}
 use Rattle.calls.specs.Store.{Memory, tripleAt, expandedAt, partAt}
-use Rattle.calls.specs.Checks.{Session, sideNumber, storeOf, entered, enteredAt, Passes}
-use Rattle.calls.specs.Calls.{settle, unchanged, wordsOfPart, placeOf, expandOf, finalWeightOf, recordsOf, recordsPlace}
+use Rattle.calls.specs.Checks.{Session, sideNumber, storeOf, entered, enteredAt, Passes, enteredAtWith}
+use Rattle.calls.specs.Calls.{settle, unchanged, wordsOfPart, placeOf, expandOf, finalWeightOf, recordsOf, recordsPlace, expandWith, finalWeightWith, recordsPlaceWith, recordsWith}
 use Rattle.calls.proofs.ExpandKept.{entered-is}
 use Rattle.match_type.specs.Chosen.{sideMeans}
 use Rattle.match_type.specs.declared.Side.{Side as CodeSide}
@@ -35,7 +35,7 @@ numbered both = refl
 module _ (l : Lent) where
   -- the checks 1 to 9 are the checks 1 to 8, and that the state is found
   pub at-entered : (s : Session) (m : Memory) (n : ℕ) (c : Composition) → enteredAt l s m n ≡ good c → (entered l s m ≡ good c) × (n < s .used .states)
-  unfolding enteredAt
+  unfolding enteredAtWith
   at-entered s m n c e =
       let x = past-then (entered l s m) _ c e in
       let k = past-check (leb (s .used .states) n) 9 _ c (x .2) in
@@ -82,53 +82,53 @@ module _ (l : Lent) where
 
   -- a state that is not found yet: 9
   pub late-expand : (s : Session) (m : Memory) (n : ℕ) → Passes l s m → s .used .states ≤ n → record { answer = refused 9; session = s; memory = m } ≡ expandOf l s m n
-  unfolding expandOf enteredAt
+  unfolding expandWith enteredAtWith
   late-expand s m n p h = rw (p .1, le-leb _ _ h)
 
   pub late-weight : (s : Session) (m : Memory) (n : ℕ) → Passes l s m → s .used .states ≤ n → record { answer = refused 9; session = s; memory = m } ≡ finalWeightOf l s m n
-  unfolding finalWeightOf enteredAt
+  unfolding finalWeightWith enteredAtWith
   late-weight s m n p h = rw (p .1, le-leb _ _ h)
 
   pub late-records : (s : Session) (m : Memory) (n : ℕ) → Passes l s m → s .used .states ≤ n → [] ≡ recordsOf l s m n
-  unfolding recordsOf enteredAt
+  unfolding recordsWith enteredAtWith
   late-records s m n p h = rw (p .1, le-leb _ _ h)
 
   pub late-place : (s : Session) (m : Memory) (n : ℕ) → Passes l s m → s .used .states ≤ n → 0 ≡ recordsPlace l s m n
-  unfolding recordsPlace enteredAt
+  unfolding recordsPlaceWith enteredAtWith
   late-place s m n p h = rw (p .1, le-leb _ _ h)
 
   -- a refusal of the checks 1 to 8 is each call's
   module _ (s : Session) (m : Memory) (k : ℕ) (e : entered l s m ≡ refused k) where
     pub stopped-expand : (n : ℕ) → record { answer = refused k; session = s; memory = m } ≡ expandOf l s m n
-    unfolding expandOf enteredAt
+    unfolding expandWith enteredAtWith
     stopped-expand n = rw e
 
     pub stopped-weight : (n : ℕ) → record { answer = refused k; session = s; memory = m } ≡ finalWeightOf l s m n
-    unfolding finalWeightOf enteredAt
+    unfolding finalWeightWith enteredAtWith
     stopped-weight n = rw e
 
     pub stopped-records : (n : ℕ) → [] ≡ recordsOf l s m n
-    unfolding recordsOf enteredAt
+    unfolding recordsWith enteredAtWith
     stopped-records n = rw e
 
     pub stopped-place : (n : ℕ) → 0 ≡ recordsPlace l s m n
-    unfolding recordsPlace enteredAt
+    unfolding recordsPlaceWith enteredAtWith
     stopped-place n = rw e
 
   -- a found state, where the checks 1 to 8 pass
   pub found-weight : (s : Session) (m : Memory) (n : ℕ) (c : Composition) → entered l s m ≡ good c → n < s .used .states
       → settle s m (andThen (finalAt c (tripleAt (m .states) n)) (λ w. good (unchanged s m w))) ≡ finalWeightOf l s m n
-  unfolding finalWeightOf enteredAt
+  unfolding finalWeightWith enteredAtWith
   found-weight s m n c e h = rw (e, lt-leb _ _ h)
 
   pub found-records : (s : Session) (m : Memory) (n : ℕ) → Passes l s m → n < s .used .states
       → cond (eqb (expandedAt (m .states) n) 1) (wordsOfPart (m .trs) (partAt (storeOf s m) n)) [] ≡ recordsOf l s m n
-  unfolding recordsOf enteredAt
+  unfolding recordsWith enteredAtWith
   found-records s m n p h = rw (p .1, lt-leb _ _ h)
 
   pub found-place : (s : Session) (m : Memory) (n : ℕ) → Passes l s m → n < s .used .states
       → cond (eqb (expandedAt (m .states) n) 1) (placeOf (m .trs) (partAt (storeOf s m) n)) 0 ≡ recordsPlace l s m n
-  unfolding recordsPlace enteredAt
+  unfolding recordsPlaceWith enteredAtWith
   found-place s m n p h = rw (p .1, lt-leb _ _ h)
 
 -- a part that begins at a word of a slice: the place of its first byte

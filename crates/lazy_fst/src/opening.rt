@@ -1,11 +1,10 @@
 // The opening after its checks: the heads are cleared, and the start of the composition is the first state.
 ghost use mathlib.Core.Path.{_≡_};
-ghost use mathlib.Core.Bool.{true, not, _||_};
+ghost use mathlib.Core.Bool.{not, _||_};
 ghost use mathlib.Core.List.{List};
 ghost use mathlib.Core.Option.{Option};
 ghost use Prim.Native.Nat.{ℕ};
 ghost use lib.Dec.{eqb};
-ghost use Rattle.words.specs.Machines.{wellFormed};
 ghost use Rattle.words.specs.Sides.{nonEmpty};
 ghost use Rattle.calls.specs.Store.{roomOf, stateSize};
 ghost use Rattle.match_type.specs.Chosen.{sideMeans};
@@ -56,7 +55,6 @@ pub fn begin(
     heads: &mut [u32],
     states: &mut [u32],
 ) -> Answer
-    requires { ⌜ (wellFormed (now m1) ≡ true) × (wellFormed (now m2) ≡ true) ⌝ }
     ensures { λ r. ⌜ (
         (allowed1 allowed2 : Option (List ℕ)) (trs : List ℕ) →
         let l = lentSlices (now (m1 .entry)) (now (m2 .entry)) allowed1 allowed2 in

@@ -12,7 +12,7 @@ use Rattle.words.specs.Settings.{Settings, Lent}
 use Rattle.words.specs.Steps.{Composition}
 use Rattle.calls.specs.Store.{Memory, Store, trSize, partAt, expandedAt}
 use Rattle.calls.specs.Checks.{Session, storeOf, enteredAt}
-use Rattle.calls.specs.Calls.{wordsOfPart, openOf, runOf, recordsBy, recordsOf}
+use Rattle.calls.specs.Calls.{wordsOfPart, openOf, runOf, recordsBy, recordsOf, recordsWith}
 use Rattle.calls.specs.Listing.{trLines}
 use Rattle.calls.proofs.FewRecords.{few-records}
 use Rattle.listing.specs.Stages.{linesAt, linesFrom, FewLines}
@@ -33,7 +33,7 @@ handed-length (good c) d n = go (eqb (expandedAt (d .memory .states) n) 1)
 
 -- a state's lines: its own, and one for each of its records
 lines-one : (l : Lent) (s : Session) (m : Memory) (n : ℕ) → length (linesAt l s m n) ≤ 1 + partAt (storeOf s m) n .count
-unfolding recordsOf
+unfolding recordsWith
 lines-one l s m n =
     let e = tr-lines-length (recordsOf l s m n) in
     let h = handed-length (enteredAt l s m n) (storeOf s m) n in

@@ -10,7 +10,7 @@ use borrow.Author.Tests.{eq-eqb, ne-eqb}
 use Rattle.words.specs.Labels.{good, refused}
 use Rattle.words.specs.Steps.{Triple}
 use Rattle.words.specs.Settings.{Settings, Lent}
-use Rattle.calls.specs.Store.{Memory, stateSize, trSize, roomOf, stateRoom, trRoom, tripleAt}
+use Rattle.calls.specs.Store.{Memory, stateSize, trSize, roomOf, stateRoom, trRoom, tripleAt, roomWith, stateRoomWith, trRoomWith}
 use Rattle.calls.specs.Checks.{Session, Passes}
 use Rattle.calls.specs.Calls.{Outcome, openOf, runOf, finalWeightOf, recordsOf}
 use Rattle.calls.specs.Listing.{Line, sideLine, stateLine, endLine, refusedLine, trLines, listed, printed, composedLines, settingsOf, noSession, emptyMemory, listingOn}
@@ -70,11 +70,11 @@ module _ (s : Settings) (l : Lent) (got : Session) (m : Memory) (o : Outcome (Un
 
 -- "room is 1024 records of each sort": room for every line
 pub room-words : (size : ℕ) (w : List ℕ) → 0 < size → length w ≡ size * 1024 → roomOf size w ≡ 1024
-unfolding roomOf
+unfolding roomWith
 room-words size w some e = rw (e, mul-div-cancel-left 1024 some)
 
 pub lines-room : (m : Memory) (n : ℕ) (out : List ℕ) → length (m .states) ≡ stateSize * 1024 → length (m .trs) ≡ trSize * 1024 → n ≤ stateRoom m + trRoom m → 131200 ≤ length out → 128 + 64 * n ≤ length out
-unfolding stateRoom trRoom
+unfolding stateRoomWith trRoomWith
 lines-room m n out p q h k =
     let a = room-words stateSize (m .states) (omega arith) p in
     let b = room-words trSize (m .trs) (omega arith) q in

@@ -5,7 +5,7 @@ use mathlib.Core.List.{List, [], _∷_, _++_, map, List·Memᴰ as In, List·Mem
 use mathlib.Core.Option.{some, Option·none-ne-some, Option·some-injective}
 use Prim.Native.Nat.{ℕ, zero, suc, _<_}
 use native.Mathlib.Omega.{arith}
-use lib.ListN.{length, getD}
+use lib.ListN.{length, getD, replicate}
 use Rattle.lists.specs.Lists.{At, every}
 use Rattle.lists.proofs.Members.{and-left, and-right}
 
@@ -59,3 +59,9 @@ pub every-by : {A : Type 0} (P : A → Bool) (l : List A) (d : A) → ((k : ℕ)
 unfolding every
 every-by P [] d h = refl
 every-by P (x ∷ xs) d h = and-eq-true-iff (P x) (every P xs) .1 (h 0 (omega arith), every-by P xs d (λ k i. h (suc k) (omega arith)))
+
+-- a list of zeros reads as 0 everywhere
+pub zeros : (k i : ℕ) → getD {A = ℕ} (replicate k 0) i 0 ≡ 0
+zeros zero i = refl
+zeros (suc k) zero = refl
+zeros (suc k) (suc i) = zeros k i

@@ -11,7 +11,7 @@ use Rattle.words.specs.Settings.{Lent}
 use Rattle.words.proofs.CheckedLaws.{good≢refused}
 use Rattle.calls.specs.Store.{Part}
 use Rattle.calls.specs.Calls.{Outcome}
-use Rattle.calls.specs.Sequences.{World, Call, opening, expand, finalWeight, records, run, callOf, after}
+use Rattle.calls.specs.Sequences.{World, Call, opening, expand, finalWeight, records, run, callOf, after, afterWith, callWith}
 use Rattle.calls.proofs.ExpandCases.{expand-late}
 use Rattle.readings.specs.Worlds.{worldOf, expandIn, runIn, Accepted, OpeningsRefused, UsedState, Expanded}
 use Rattle.readings.specs.Answers.{PassesBefore, ExpandedBy, by-expand, by-run, Answers}
@@ -55,7 +55,7 @@ module _ (l : Lent) (c : Composition) where
 
   -- a state that one call expands: by the first of a list
   one-expands : (w : World) → KeptWorld l c w → (x : Call) (cs : List Call) → OpeningsRefused l w (x ∷ cs) → (n : ℕ) → Expanded (callOf l w x .world) n → Expanded w n ⊎ ExpandedBy l w (x ∷ cs) n
-  unfolding callOf after
+  unfolding callWith afterWith
   one-expands w h (opening s k) cs o n x = inl (subst (λ (v : World). Expanded v n) (open-stays s k w (o .0)) x)
   one-expands w h (expand m) cs o n x =
       ⊎-elim inl
@@ -69,12 +69,12 @@ module _ (l : Lent) (c : Composition) where
 
   -- and by a later one
   later-expands : (w : World) (x : Call) (cs : List Call) (n : ℕ) → ExpandedBy l (callOf l w x .world) cs n → ExpandedBy l w (x ∷ cs) n
-  unfolding after
+  unfolding afterWith
   later-expands w x cs n (by-expand before later e a) = by-expand (x ∷ before) later (ap (λ (y : List Call). x ∷ y) e) a
   later-expands w x cs n (by-run before later e a) = by-run (x ∷ before) later (ap (λ (y : List Call). x ∷ y) e) a
 
   was-expanded : (cs : List Call) (w : World) → KeptWorld l c w → OpeningsRefused l w cs → (n : ℕ) → Expanded (after l w cs) n → Expanded w n ⊎ ExpandedBy l w cs n
-  unfolding after
+  unfolding afterWith
   was-expanded [] w h o n x = inl x
   was-expanded (y ∷ cs) w h o n x =
       let a = one-call l c w y cs h o in
@@ -82,7 +82,7 @@ module _ (l : Lent) (c : Composition) where
 
   -- what a call expanded stays expanded
   is-expanded : (w : World) (cs : List Call) → KeptWorld l c w → OpeningsRefused l w cs → (n : ℕ) → ExpandedBy l w cs n → Expanded (after l w cs) n
-  unfolding after callOf
+  unfolding afterWith callWith
   is-expanded w cs h o n (by-expand before later e a) =
       let p = calls-onto l c w before (expand n ∷ later) h (subst (OpeningsRefused l w) (sym e) o) in
       let v = after l w before in

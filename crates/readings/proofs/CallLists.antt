@@ -5,7 +5,7 @@ use mathlib.Core.Logic.{_↔_}
 use Rattle.words.specs.Steps.{Composition}
 use Rattle.words.specs.Settings.{Settings, Lent}
 use Rattle.calls.specs.Calls.{Outcome, openOf}
-use Rattle.calls.specs.Sequences.{World, Call, opening, expand, finalWeight, records, run, callOf, after}
+use Rattle.calls.specs.Sequences.{World, Call, opening, expand, finalWeight, records, run, callOf, after, afterWith, callWith}
 use Rattle.calls.proofs.OpenCases.{by-open}
 use Rattle.readings.specs.Worlds.{worldOf, Refused, OpeningsRefused}
 use Rattle.readings.specs.Again.{Again}
@@ -22,12 +22,12 @@ open-stays s k w =
 -- lists one after the other: the second begins in the world that the first leaves, and the openings of the whole are refused just where those of both are
 module _ (l : Lent) where
   pub after-append : (w : World) (before later : List Call) → after l (after l w before) later ≡ after l w (before ++ later)
-  unfolding after
+  unfolding afterWith
   after-append w [] later = refl
   after-append w (x ∷ before) later = after-append (callOf l w x .world) before later
 
   pub openings-append : (w : World) (before later : List Call) → OpeningsRefused l w (before ++ later) ↔ (OpeningsRefused l w before × OpeningsRefused l (after l w before) later)
-  unfolding after
+  unfolding afterWith
   openings-append w [] later = (λ r. (tt, r), λ r. r .1)
   openings-append w (opening s k ∷ before) later =
       let q = openings-append (callOf l w (opening s k) .world) before later in
@@ -40,7 +40,7 @@ module _ (l : Lent) where
 module _ (l : Lent) (c : Composition) where
   -- one call, and what is asked of the openings after it
   pub one-call : (w : World) (x : Call) (cs : List Call) → KeptWorld l c w → OpeningsRefused l w (x ∷ cs) → Onto l c w (callOf l w x .world) × OpeningsRefused l (callOf l w x .world) cs
-  unfolding callOf
+  unfolding callWith
   one-call w (opening s k) cs h r = (subst (Onto l c w) (sym (open-stays s k w (r .0))) (onto-none l c w h), r .1)
   one-call w (expand n) cs h r = (expand-onto l c w h n, r)
   one-call w (finalWeight n) cs h r = (subst (Onto l c w) (sym (final-stays l c w n)) (onto-none l c w h), r)
@@ -49,7 +49,7 @@ module _ (l : Lent) (c : Composition) where
 
   -- the calls before a point of the list
   pub calls-onto : (w : World) (before later : List Call) → KeptWorld l c w → OpeningsRefused l w (before ++ later) → Onto l c w (after l w before) × OpeningsRefused l (after l w before) later
-  unfolding after
+  unfolding afterWith
   calls-onto w [] later h r = (onto-none l c w h, r)
   calls-onto w (x ∷ before) later h r =
       let a = one-call w x (before ++ later) h r in

@@ -13,8 +13,8 @@ use Rattle.words.specs.Steps.{Composition, stepsAt, finalAt}
 use Rattle.words.specs.Settings.{Lent}
 use Rattle.words.proofs.CheckedLaws.{good≢refused, refused-is, good-is}
 use Rattle.calls.specs.Store.{Store, tripleAt, expandedAt, Part}
-use Rattle.calls.specs.Checks.{storeOf, entered, enteredAt}
-use Rattle.calls.specs.Calls.{Outcome, storeSteps, newPart, settle, unchanged, wordsOfPart, finalWeightOf, recordsBy, recordsOf}
+use Rattle.calls.specs.Checks.{storeOf, entered, enteredAt, enteredAtWith}
+use Rattle.calls.specs.Calls.{Outcome, storeSteps, newPart, settle, unchanged, wordsOfPart, recordsBy, finalWeightWith, recordsWith}
 use Rattle.calls.specs.Sequences.{World}
 use Rattle.calls.proofs.ExpandKept.{expand-kept, entered-is}
 use Rattle.calls.proofs.Parts.{words-alike}
@@ -89,16 +89,16 @@ module _ (l : Lent) (c : Composition) where
   -- final weight and handing back of a found state, where the checks 1 to 8 pass
   pub final-under : (w : World) → KeptWorld l c w → (n : ℕ) → n < w .session .used .states
       → finalIn l w n ≡ settle (w .session) (w .memory) (andThen (finalAt c (stateAt w n)) (λ x. good (unchanged (w .session) (w .memory) x)))
-  unfolding finalWeightOf enteredAt
+  unfolding finalWeightWith enteredAtWith
   final-under w k n h = rw (k .sound .enters, lt-leb _ _ h)
 
   pub records-under : (w : World) → KeptWorld l c w → (n : ℕ) → n < w .session .used .states → handedIn l w n ≡ recordsBy (good c) (storeOf (w .session) (w .memory)) n
-  unfolding recordsOf enteredAt
+  unfolding recordsWith enteredAtWith
   records-under w k n h = rw (k .sound .enters, lt-leb _ _ h)
 
   -- final weight answers for found states alone, and changes nothing
   final-found : (w : World) → KeptWorld l c w → (n : ℕ) (x : Option ℕ) → finalIn l w n .answer ≡ good x → n < w .session .used .states
-  unfolding finalWeightOf enteredAt
+  unfolding finalWeightWith enteredAtWith
   final-found w k n x e = go (leb (w .session .used .states) n) refl
     where
       go : (b : Bool) → leb (w .session .used .states) n ≡ b → n < w .session .used .states
@@ -106,7 +106,7 @@ module _ (l : Lent) (c : Composition) where
       go false p = leb-false _ _ p
 
   pub final-stays : (w : World) (n : ℕ) → worldOf (finalIn l w n) ≡ w
-  unfolding finalWeightOf
+  unfolding finalWeightWith
   final-stays w n = go (enteredAt l (w .session) (w .memory) n)
     where
       on : (o : Checked (Option ℕ)) → worldOf (settle (w .session) (w .memory) (andThen o (λ x. good (unchanged (w .session) (w .memory) x)))) ≡ w
@@ -127,7 +127,7 @@ module _ (l : Lent) (c : Composition) where
 
   -- what is not found is refused by 9
   pub final-late : (w : World) → KeptWorld l c w → (n : ℕ) → w .session .used .states ≤ n → finalIn l w n .answer ≡ refused 9
-  unfolding finalWeightOf enteredAt
+  unfolding finalWeightWith enteredAtWith
   final-late w k n h = rw (k .sound .enters, le-leb _ _ h)
 
   -- where it is found its final weight is answered
@@ -140,7 +140,7 @@ module _ (l : Lent) (c : Composition) where
 
   -- words are handed back for expanded states alone
   pub handed-or-none : (w : World) → KeptWorld l c w → (n : ℕ) → Expanded w n ⊎ (handedIn l w n ≡ [])
-  unfolding recordsOf enteredAt
+  unfolding recordsWith enteredAtWith
   handed-or-none w k n = go (leb (w .session .used .states) n) refl (eqb (expandedAt (w .memory .states) n) 1) refl
     where
       go : (b : Bool) → leb (w .session .used .states) n ≡ b → (t : Bool) → eqb (expandedAt (w .memory .states) n) 1 ≡ t → Expanded w n ⊎ (handedIn l w n ≡ [])

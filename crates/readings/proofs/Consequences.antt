@@ -14,7 +14,7 @@ use Rattle.words.proofs.CheckedLaws.{good≢refused}
 use Rattle.calls.specs.Store.{Memory, Part}
 use Rattle.calls.specs.Checks.{Session}
 use Rattle.calls.specs.Calls.{Outcome}
-use Rattle.calls.specs.Sequences.{World, Call, opening, expand, finalWeight, records, run, part, Reply, answered, saidOf, turnOf, callOf, replies, after}
+use Rattle.calls.specs.Sequences.{World, Call, opening, expand, finalWeight, records, run, part, Reply, answered, saidOf, turnOf, callOf, replies, after, afterWith, callWith, repliesWith}
 use Rattle.readings.specs.Worlds.{worldOf, expandIn, runIn, Accepted, OpeningsRefused, UsedState, Expanded, partIn}
 use Rattle.readings.specs.Answers.{PassesBefore, ExpandedBy, by-expand, by-run, RunIs}
 use Rattle.readings.specs.Again.{Again, replyAfter, GivesAgain}
@@ -42,7 +42,7 @@ openings-on l w cs x r h = openings-append l w cs (x ∷ []) .1 (r, no-more l (a
 
 -- the world after one more call
 after-one : (l : Lent) (w : World) (cs : List Call) (x : Call) → after l w (cs ++ (x ∷ [])) ≡ callOf l (after l w cs) x .world
-unfolding after
+unfolding afterWith
 after-one l w cs x = sym (after-append l w cs (x ∷ []))
 
 -- replies that say parts, and expansions, that are equal
@@ -95,7 +95,7 @@ pub record CallLeaves (l : Lent) (w : World) : Type 0 where
 module _ (s : Settings) (l : Lent) (m : Memory) (c : Composition) (w : World) (D : (cs : List Call) → OpeningsRefused l w cs → Demand3 s l m c w cs) where
   -- no state is expanded by the opening
   pub unexpanded : (n : ℕ) → Expanded w n → ⊥
-  unfolding after
+  unfolding afterWith
   unexpanded n x = go (D [] tt .expanded [] [] refl n .0 x)
     where
       none : (before later : List Call) (y : Call) → before ++ (y ∷ later) ≡ [] → ⊥
@@ -125,7 +125,7 @@ module _ (s : Settings) (l : Lent) (m : Memory) (c : Composition) (w : World) (D
 
     -- the list that the expansion answered is the one that is stored
     part-kept : (n : ℕ) (p : Part) → expandIn l v n .answer ≡ good p → Expanded (worldOf (expandIn l v n)) n → partIn (worldOf (expandIn l v n)) n ≡ p
-    unfolding callOf
+    unfolding callWith
     part-kept n p e x =
         let twice = openings-on l w (cs ++ (expand n ∷ [])) (expand n) (openings-on l w cs (expand n) r tt) tt in
         let both : OpeningsRefused l w (cs ++ (expand n ∷ expand n ∷ [])) = subst (OpeningsRefused l w) (append-assoc cs (expand n ∷ []) (expand n ∷ [])) twice in
@@ -141,7 +141,7 @@ module _ (s : Settings) (l : Lent) (m : Memory) (c : Composition) (w : World) (D
         part-said second
 
     pub leaves : CallLeaves l v
-    unfolding callOf
+    unfolding callWith
     leaves = record {
       expands = λ n p e. let x = after-it (expand n) tt n (by-expand cs [] refl (p, e)) in (x, part-kept n p e x);
       only = λ n j x. by-last n j (by-calls (expand n) tt j x);
@@ -180,7 +180,7 @@ module _ (s : Settings) (l : Lent) (m : Memory) (c : Composition) (w : World) (D
 -- 3b at one point of a list: where none of the replies before it was a no-room refusal, a call is answered the same in the larger memory, or refused by 13 in the smaller
 pub same-reply : (l : Lent) (w v : World) (cs : List Call) (x : Call) → SameUntil (replies l w (cs ++ (x ∷ []))) (replies l v (cs ++ (x ∷ [])))
     → ((r : Reply) → In r (replies l w cs) → NoRoom r → ⊥) → NoRoom (replyAfter l w cs x) ⊎ (replyAfter l w cs x ≡ replyAfter l v cs x)
-unfolding replies after
+unfolding repliesWith afterWith
 same-reply l w v [] x same none = ⊎-elim inl (λ e. inr (e .0)) same
 same-reply l w v (y ∷ cs) x same none =
     ⊎-elim (λ e. absurd (none (callOf l w y .reply) (here refl) e)) (λ e. same-reply l (callOf l w y .world) (callOf l v y .world) cs x (e .1) (λ r i. none r (there i))) same

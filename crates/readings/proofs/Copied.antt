@@ -11,7 +11,7 @@ use Rattle.words.specs.Settings.{Settings, Lent, compositionOf}
 use Rattle.calls.specs.Store.{Part}
 use Rattle.calls.specs.Checks.{storeOf, sideFor}
 use Rattle.calls.specs.Calls.{Outcome, openOf}
-use Rattle.calls.specs.Sequences.{World, Call, opening, expand, finalWeight, records, run, callOf, replies, after}
+use Rattle.calls.specs.Sequences.{World, Call, opening, expand, finalWeight, records, run, callOf, replies, after, afterWith, callWith}
 use Rattle.calls.specs.Owned.{lengthened}
 use Rattle.calls.proofs.ExpandKept.{entered-is}
 use Rattle.calls.proofs.Lengthened.{copyLeft, copy-roomier, copy-alike, copy-expand, copy-open}
@@ -41,13 +41,13 @@ module _ (l : Lent) (c : Composition) (P : World → Type 0)
 
   -- expansions, accepted or not
   expands-keep : (ns : List ℕ) (w : World) → KeptWorld l c w → P w → P (after l w (map expand ns))
-  unfolding after callOf
+  unfolding afterWith callWith
   expands-keep [] w k x = x
   expands-keep (n ∷ ns) w k x = expands-keep ns (worldOf (expandIn l w n)) (expand-onto l c w k n .kept) (expand-keeps w k n x)
 
   -- a run is a list of expansions; no other call of a list changes anything
   call-keeps : (w : World) → KeptWorld l c w → (y : Call) (cs : List Call) → OpeningsRefused l w (y ∷ cs) → P w → P (callOf l w y .world)
-  unfolding callOf
+  unfolding callWith
   call-keeps w k (opening s h) cs r x = subst P (sym (open-stays s h w (r .0))) x
   call-keeps w k (expand n) cs r x = expand-keeps w k n x
   call-keeps w k (finalWeight n) cs r x = subst P (sym (final-stays l c w n)) x
@@ -55,7 +55,7 @@ module _ (l : Lent) (c : Composition) (P : World → Type 0)
   call-keeps w k run cs r x = let i = run-onto l c w k .is in subst P (sym (i .leaves)) (expands-keep (interval 0 (i .stop)) w k x)
 
   calls-keep : (cs : List Call) (w : World) → KeptWorld l c w → OpeningsRefused l w cs → P w → P (after l w cs)
-  unfolding after
+  unfolding afterWith
   calls-keep [] w k r x = x
   calls-keep (y ∷ cs) w k r x = let a = one-call l c w y cs k r in calls-keep cs (callOf l w y .world) (a .0 .kept) (a .1) (call-keeps w k y cs r x)
 
@@ -68,7 +68,7 @@ module _ (s : Settings) (l : Lent) (w : World) (r : InScope s l w) (xs ys : List
 
   -- the opening is accepted in the copy of the memory that it got, and leaves the copy of what it left; so does each accepted expansion after it
   pub copied : InScope s l (grownBy xs ys w)
-  unfolding after callOf
+  unfolding afterWith callWith
   copied =
       subst (λ (v : World). InScope s l (grownBy xs ys v)) (r .leads)
       (calls-keep l c (λ v. InScope s l (grownBy xs ys v))

@@ -8,15 +8,14 @@ use native.Mathlib.Decide.{decLt}
 use lib.ListN.{length}
 use Rattle.lists.specs.Lists.{interval}
 use Rattle.words.specs.Labels.{Checked, good, refused}
-use Rattle.words.specs.Machines.{limit, stateCount}
+use Rattle.words.specs.Machines.{stateCount}
 use Rattle.words.specs.Steps.{Composition, Step, stepsAt}
 use Rattle.words.specs.Settings.{Lent}
-use Rattle.words.proofs.FormLaws.{form}
 use Rattle.words.proofs.StepRange.{InRange}
 use Rattle.words.proofs.CheckedLaws.{good≢refused, refused-is}
 use Rattle.calls.specs.Store.{Store, stateRoom, trRoom, expandedAt, Part}
 use Rattle.calls.specs.Checks.{storeOf}
-use Rattle.calls.specs.Calls.{Outcome, storeSteps, newPart}
+use Rattle.calls.specs.Calls.{Outcome, storeSteps, newPart, storeStepsWith}
 use Rattle.calls.specs.Sequences.{World}
 use Rattle.calls.proofs.ExpandKept.{Sided, sided, Entered, entered-is, steps-range}
 use Rattle.calls.proofs.StepsKept.{longer}
@@ -61,9 +60,6 @@ module _ (l : Lent) (c : Composition) (w : World) (kept : KeptWorld l c w) (n : 
   rule : Sided (w .session .settings) l (checks .side)
   rule = sided (w .session .settings) l (checks .side) (checks .rule)
 
-  narrow : stateCount (l .m2) ≤ limit
-  narrow = form (l .m2) (rule .formed2) .states
-
   ready : Ready (stateCount (l .m1)) (stateCount (l .m2)) last (map (stateAt w) (interval 0 (w .session .used .states))) d
   ready = record { form = longer d last (checks .form) (omega arith); whole = kept .whole; any = omega (arith, used); knows = known-first d (checks .form) (kept .whole) }
 
@@ -76,11 +72,11 @@ module _ (l : Lent) (c : Composition) (w : World) (kept : KeptWorld l c w) (n : 
 
     room-stores : RoomFor w steps → (f : Store) × (storeSteps d moves ≡ storeSteps f others)
     room-stores r =
-        let q = stored-first narrow last steps others _ d ready in-range ends (r .trs) (r .states) in
+        let q = stored-first last steps others _ d ready in-range ends (r .trs) (r .states) in
         (q .0, ap (storeSteps d) e ∙ q .1)
 
     lack-refuses : Lacks w steps → storeSteps d moves ≡ refused 13
-    lack-refuses r = ap (storeSteps d) e ∙ stored-none narrow last steps others _ d ready in-range ends r
+    lack-refuses r = ap (storeSteps d) e ∙ stored-none last steps others _ d ready in-range ends r
 
   bare : expandedAt (w .memory .states) n ≢ 1
   bare x = not-yet (used, x)
@@ -93,11 +89,11 @@ module _ (l : Lent) (c : Composition) (w : World) (kept : KeptWorld l c w) (n : 
 
   -- where the conditions hold
   all-good : (steps : List Step) → moves ≡ map good steps → RoomFor w steps → Accepted (expandIn l w n)
-  unfolding storeSteps
+  unfolding storeStepsWith
   all-good steps e r = let q = room-stores steps [] (e ∙ sym (append-nil (map good steps))) r in accepted-by (q .0) (q .1)
 
   one-refused : (k : ℕ) (steps : List Step) (others : List (Checked Step)) → moves ≡ map good steps ++ (refused k ∷ others) → RoomFor w steps → expandIn l w n .answer ≡ refused k
-  unfolding storeSteps
+  unfolding storeStepsWith
   one-refused k steps others e r = let q = room-stores steps (refused k ∷ others) e r in refused-by k (q .1)
 
   -- 10 to 12 are not 13

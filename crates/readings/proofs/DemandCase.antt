@@ -43,11 +43,11 @@ got = session (1 ∷ 2 ∷ 3 ∷ 4 ∷ 5 ∷ 6 ∷ []) 7 8 9
 
 -- room for the four states and three transitions that are found; three heads
 abbrev pub large : Memory
-large = record { heads = 9 ∷ 9 ∷ 9 ∷ []; states = replicate 24 8; trs = replicate 17 6 }
+large = record { heads = 9 ∷ 9 ∷ 9 ∷ []; states = replicate 28 8; trs = replicate 17 6 }
 
 -- room for three states; two heads
 abbrev pub small : Memory
-small = record { heads = 7 ∷ 7 ∷ []; states = replicate 19 5; trs = replicate 15 4 }
+small = record { heads = 7 ∷ 7 ∷ []; states = replicate 23 5; trs = replicate 15 4 }
 
 abbrev pub from : Memory → World
 from m = worldOf (openOf set both got m)
@@ -128,7 +128,7 @@ claimed-small = claims small opens-small refused-small
 abbrev left : World
 left =
     world (with 4 3) (1 ∷ 4 ∷ 3 ∷ [])
-    (0 ∷ 0 ∷ 1 ∷ 1 ∷ 0 ∷ 65536 ∷ 0 ∷ 1 ∷ 2 ∷ 0 ∷ 65537 ∷ 0 ∷ 1 ∷ 3 ∷ 0 ∷ 131074 ∷ 0 ∷ 1 ∷ 0 ∷ 2 ∷ replicate 4 8)
+    (0 ∷ 0 ∷ 0 ∷ 1 ∷ 1 ∷ 0 ∷ 1 ∷ 0 ∷ 0 ∷ 1 ∷ 2 ∷ 0 ∷ 1 ∷ 1 ∷ 0 ∷ 1 ∷ 3 ∷ 0 ∷ 2 ∷ 2 ∷ 0 ∷ 1 ∷ 0 ∷ 2 ∷ replicate 4 8)
     (1 ∷ 0 ∷ 1 ∷ 1 ∷ 0 ∷ 0 ∷ 7 ∷ 4 ∷ 2 ∷ 0 ∷ 2 ∷ 8 ∷ 3 ∷ 3 ∷ 0 ∷ replicate 2 6)
 
 pub left-there : after both (from large) calls ≡ left
@@ -194,7 +194,7 @@ eight-there t i = claimed-small .eight (answered (refusal 8) t) (subst (λ x. In
 
 -- a memory without heads is shorter: its opening is refused
 abbrev headless : Memory
-headless = record { heads = []; states = replicate 24 8; trs = replicate 17 6 }
+headless = record { heads = []; states = replicate 28 8; trs = replicate 17 6 }
 
 pub no-heads : openOf set both got headless .answer ≡ refused 13
 unfolding Holds

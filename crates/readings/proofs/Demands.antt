@@ -4,7 +4,7 @@ use mathlib.Core.List.{List, [], _∷_, _++_, append-nil}
 use Rattle.words.specs.Steps.{Composition}
 use Rattle.words.specs.Settings.{Lent, compositionOf}
 use Rattle.calls.specs.Calls.{openOf}
-use Rattle.calls.specs.Sequences.{World, Call, callOf, after}
+use Rattle.calls.specs.Sequences.{World, Call, callOf, after, afterWith}
 use Rattle.calls.proofs.OpenKept.{open-kept}
 use Rattle.readings.specs.Worlds.{worldOf, OpeningsRefused}
 use Rattle.readings.specs.Again.{replyAfter, GivesAgain}
@@ -21,7 +21,7 @@ use Rattle.readings.proofs.StorePaths.{store-paths}
 -- two answers to one call of a list
 given : (l : Lent) (c : Composition) (w : World) (cs : List Call) → KeptWorld l c w → OpeningsRefused l w cs → (before middle later : List Call) (x : Call)
     → before ++ (x ∷ (middle ++ (x ∷ later))) ≡ cs → GivesAgain (replyAfter l w before x) (replyAfter l w (before ++ (x ∷ middle)) x)
-unfolding after
+unfolding afterWith
 given l c w cs k r before middle later x e =
     let a = calls-onto l c w before (x ∷ (middle ++ (x ∷ later))) k (subst (OpeningsRefused l w) (sym e) r) in
     let v = after l w before in

@@ -13,7 +13,7 @@ use Rattle.papers.specs.Weight.{Semiring, Cost, finite, infinite, Kind, cost, c
 use Rattle.papers.specs.Filter.{MoveKind, Filter}
 use Rattle.papers.specs.Composition.{rest, along, Edges}
 use Rattle.papers.specs.Paths.{word, path1, path2, Matching, Ends, Accepting, AcceptingPath, AcceptingRun, movesWeight}
-use Rattle.words.specs.Machines.{stateCount, trCount, startWord, sideMark, acceptorMark, stateWord, trWord, firstOk, nextOk, firstOf, nextOf, listBy, listFrom, listOf, machineOf, noFall, sorted, stateOk, trOk, acceptor, marksOk, sizeOk, wellFormed}
+use Rattle.words.specs.Machines.{stateCount, trCount, startWord, sideMark, acceptorMark, stateWord, trWord, firstOk, nextOk, firstOf, nextOf, listBy, listFrom, listOf, machineOf, noFall, sorted, stateOk, trOk, acceptor, marksOk, wellFormed, sizeUpTo, wellFormedUpTo}
 use Rattle.words.specs.Filters.{sequence, alternate, matching}
 use Rattle.words.specs.AsPapers.{exact}
 use Rattle.papers.specs.Pick.{sequencePick, alternatePick, matchingPick}
@@ -32,7 +32,7 @@ abbrev pub words2 : List ℕ
 words2 = 3 ∷ 3 ∷ 1 ∷ 0 ∷ 0 ∷ 0 ∷ 1 ∷ 0 ∷ 0 ∷ 2 ∷ 0 ∷ 0 ∷ 0 ∷ 1 ∷ 3 ∷ 0 ∷ 7 ∷ 4 ∷ 1 ∷ 3 ∷ 5 ∷ 8 ∷ 1 ∷ 2 ∷ 0 ∷ 5 ∷ 9 ∷ 6 ∷ 2 ∷ 0 ∷ []
 
 pub well-formed : (wellFormed words1 ≡ true) × (wellFormed words2 ≡ true)
-unfolding wellFormed sizeOk stateOk trOk marksOk acceptor sorted noFall every interval sideMark acceptorMark stateCount trCount startWord stateWord trWord firstOk nextOk firstOf nextOf listBy listFrom listOf
+unfolding wellFormedUpTo sizeUpTo stateOk trOk marksOk acceptor sorted noFall every interval sideMark acceptorMark stateCount trCount startWord stateWord trWord firstOk nextOk firstOf nextOf listBy listFrom listOf
 well-formed = (refl, refl)
 
 abbrev M1 : Machine

@@ -12,7 +12,7 @@ use Rattle.lists.proofs.Put.{length-put}
 use Rattle.words.specs.Labels.{good}
 use Rattle.words.specs.Steps.{Composition, Step, stepsAt}
 use Rattle.words.specs.Settings.{Lent}
-use Rattle.calls.specs.Store.{Memory, Store, stateSize, trSize, tripleAt, expandedPlace, expandedAt, firstAt, trField, targetAt, mark, Part}
+use Rattle.calls.specs.Store.{Memory, Store, stateSize, trSize, tripleAt, expandedPlace, expandedAt, trField, targetAt, Part, expandedWith, fieldOf, firstWith, markWith}
 use Rattle.calls.specs.Checks.{Session, storeOf, entered}
 use Rattle.calls.specs.Calls.{storeSteps, newPart}
 use Rattle.calls.specs.Sequences.{World}
@@ -27,7 +27,7 @@ use Rattle.readings.proofs.Grows.{KeptWorld, Grows}
 -- a record of an earlier world in a later one, and a list
 module _ (l : Lent) (c : Composition) (w v : World) (sound : Sound l c w) (g : Grows w v) where
   old-field : (r k : ℕ) → 0 < r → r ≤ w .session .used .trs → k < trSize → trField (v .memory .trs) (r - 1) k ≡ trField (w .memory .trs) (r - 1) k
-  unfolding trField
+  unfolding fieldOf
   old-field r k h i j = g .word (trSize * (r - 1) + k) (omega arith)
 
   old-target : (r : ℕ) → 0 < r → r ≤ w .session .used .trs → targetOf v r ≡ targetOf w r
@@ -86,7 +86,7 @@ module _ (l : Lent) (c : Composition) (s : Session) (m : Memory) (kept : KeptWor
   others k x z = bare (subst (λ j. expandedAt (m .states) j ≡ 1) z (x .1))
 
   grows : Grows w v
-  unfolding mark expandedAt firstAt
+  unfolding markWith expandedWith firstWith
   grows = record {
     states = made .states;
     trs = stays .trs;
@@ -100,12 +100,12 @@ module _ (l : Lent) (c : Composition) (s : Session) (m : Memory) (kept : KeptWor
 
   -- the state is expanded, and its list is the part of the new records
   expanded-it : Expanded v n
-  unfolding mark
+  unfolding markWith
   expanded-it = (omega (arith, found, made .states), mades .expanded)
 
   -- no other state became expanded
   expanded-cases : (k : ℕ) → Expanded v k → (k ≡ n) ⊎ Expanded w k
-  unfolding mark expandedAt
+  unfolding markWith expandedWith
   expanded-cases k x = go (ℕ-discrete k n) (decLt k (s .used .states))
     where
       go : Dec (k ≡ n) → Dec (k < s .used .states) → (k ≡ n) ⊎ Expanded w k
@@ -152,7 +152,7 @@ module _ (l : Lent) (c : Composition) (s : Session) (m : Memory) (kept : KeptWor
 
   -- a used state is an old one, or a target of a new record
   found-to : (k : ℕ) → k < e .used .states → Found c v k
-  unfolding mark
+  unfolding markWith
   found-to k h = go (decLt k (s .used .states))
     where
       go : Dec (k < s .used .states) → Found c v k
@@ -163,13 +163,13 @@ module _ (l : Lent) (c : Composition) (s : Session) (m : Memory) (kept : KeptWor
           as-target k n (suc (q .0)) (carried n (kept .sound .found n .0 found)) expanded-it (in-it (suc (q .0)) (omega (arith, q .1)) (omega (arith, q .2))) (ap (targetAt (e .memory .trs)) i ∙ q .3)
 
   found-back : Entered l (v .session) (v .memory) c → (k : ℕ) → Found c v k → k < e .used .states
-  unfolding mark
+  unfolding markWith
   found-back q k (at-start _ t h z) = let a = kept .sound .found 0 .1 (at-start 0 t h refl) in omega (arith, a, z, made .states)
   found-back q k (as-target _ j r f x i h) = let b = used-record j r x i in let a = q .form .tr (r - 1) (omega (arith, b .0, b .1)) .target in omega (arith, a, h)
 
   -- a new record that leads to a state: a smaller number is an old state's, which has an old record, or a new one's
   order : (r k : ℕ) → 0 < r → r ≤ e .used .trs → 0 < k → k < targetOf v r → (q : ℕ) × (0 < q) × (q < r) × (targetOf v q ≡ k)
-  unfolding mark
+  unfolding markWith
   order r k h i j below = go (decLt (s .used .trs) r) (decLt k (s .used .states))
     where
       old : s .used .trs < r → Found c w k → (q : ℕ) × (0 < q) × (q < r) × (targetOf v q ≡ k)
@@ -189,7 +189,7 @@ module _ (l : Lent) (c : Composition) (s : Session) (m : Memory) (kept : KeptWor
 
   -- the state's list: record by record, the kept moves
   list-it : IsList c v n
-  unfolding mark
+  unfolding markWith
   list-it = record {
     steps = steps;
     moves = ap (stepsAt c) (grows .state n found) ∙ moves;
@@ -216,7 +216,7 @@ module _ (l : Lent) (c : Composition) (s : Session) (m : Memory) (kept : KeptWor
 
   -- where the checks 1 to 8 pass after it, all is kept
   pub expansion-keeps : entered l (v .session) (v .memory) ≡ good c → KeptWorld l c v
-  unfolding mark
+  unfolding markWith
   expansion-keeps q =
       record {
         whole = mades .whole;

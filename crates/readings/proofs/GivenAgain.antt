@@ -13,8 +13,8 @@ use Rattle.words.specs.Labels.{Checked, good, refused}
 use Rattle.words.specs.Steps.{Composition}
 use Rattle.words.specs.Settings.{Settings, Lent}
 use Rattle.calls.specs.Store.{Part}
-use Rattle.calls.specs.Calls.{Outcome, onward, runBy, runFrom, runOf}
-use Rattle.calls.specs.Sequences.{World, Call, opening, expand, finalWeight, records, run, accepted, part, weight, Reply, answered, handed, saidOf, turnOf, callOf, after}
+use Rattle.calls.specs.Calls.{Outcome, onward, runBy, runFrom, runFromWith, runWith}
+use Rattle.calls.specs.Sequences.{World, Call, opening, expand, finalWeight, records, run, accepted, part, weight, Reply, answered, handed, saidOf, turnOf, callOf, after, afterWith, callWith}
 use Rattle.calls.proofs.ExpandCases.{stayed, by-expand}
 use Rattle.readings.specs.Worlds.{worldOf, openIn, expandIn, finalIn, runIn, handedIn, Refused, OpeningsRefused, UsedState, Expanded}
 use Rattle.readings.specs.Again.{Again, GivesAgain}
@@ -34,7 +34,7 @@ module _ (l : Lent) (c : Composition) where
         by-expand l (w .session) (w .memory) c (k .sound .enters) n (λ o. worldOf o ≡ w) (λ h. refl) (λ h x. refl) (λ h b j e. refl) (λ h b d g. absurd (b (all n h .1)))
 
     run-idle-from : (j n : ℕ) → runFrom l j n (w .session) (w .memory) ≡ stayed (w .session) (w .memory) (good tt)
-    unfolding runFrom
+    unfolding runFromWith
     run-idle-from zero n = refl
     run-idle-from (suc j) n = go (leb (w .session .used .states) n) refl (run-idle-from j (suc n))
       where
@@ -45,11 +45,11 @@ module _ (l : Lent) (c : Composition) where
             ap (λ (o : Outcome Part). onward (o .answer) (o .session) (o .memory) (runFrom l j (suc n))) (expand-again l c w k n (all n (leb-false _ _ e))) ∙ rec
 
     pub run-idle : runIn l w ≡ stayed (w .session) (w .memory) (good tt)
-    unfolding runOf
+    unfolding runWith
     run-idle = rw (k .sound .enters) (run-idle-from _ 0)
 
     call-idle : (x : Call) (cs : List Call) → OpeningsRefused l w (x ∷ cs) → callOf l w x .world ≡ w
-    unfolding callOf
+    unfolding callWith
     call-idle (opening s h) cs r = open-stays s h w (r .0)
     call-idle (expand n) cs r = expand-idle n
     call-idle (finalWeight n) cs r = final-stays l c w n
@@ -58,7 +58,7 @@ module _ (l : Lent) (c : Composition) where
 
   -- so the world stays, whatever is called
   calls-idle : (cs later : List Call) (w : World) → KeptWorld l c w → AllExpanded w → OpeningsRefused l w (cs ++ later) → after l w cs ≡ w
-  unfolding after
+  unfolding afterWith
   calls-idle [] later w k all r = refl
   calls-idle (x ∷ cs) later w k all r =
       let e = call-idle w k all x (cs ++ later) r in
@@ -72,7 +72,7 @@ module _ (l : Lent) (c : Composition) where
   module _ (w : World) (k : KeptWorld l c w) (middle later : List Call) where
     -- u is the world after the first call, v the one in which the second is made
     on : (x : Call) → OpeningsRefused l w (x ∷ (middle ++ later)) → let u = callOf l w x .world in let v = after l u middle in KeptWorld l c u × Onto l c u v × Again l w v × Again l u v
-    unfolding after
+    unfolding afterWith
     on x r =
         let a = one-call l c w x (middle ++ later) k r in
         let b = calls-onto l c (callOf l w x .world) middle later (a .0 .kept) (a .1) in
@@ -126,7 +126,7 @@ module _ (l : Lent) (c : Composition) where
             (u .session, ap (λ v. turnOf (λ u. accepted) (runIn l v) .reply) same ∙ ap (λ (o : Outcome (Unit {0})). turnOf (λ u. accepted) o .reply) (run-idle u (x .onto .kept) all))
 
     pub gives-again : (x : Call) → OpeningsRefused l w (x ∷ (middle ++ later)) → GivesAgain (callOf l w x .reply) (callOf l (after l (callOf l w x .world) middle) x .reply)
-    unfolding callOf
+    unfolding callWith
     gives-again (opening s h) r = opening-again s h _ (r .0)
     gives-again (expand n) r = expand-twice n _ (on (expand n) r .3)
     gives-again (finalWeight n) r = final-twice n _ (on (finalWeight n) r .2)

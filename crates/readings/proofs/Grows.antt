@@ -5,7 +5,7 @@ use native.Mathlib.Omega.{arith}
 use lib.ListN.{length, getD}
 use Rattle.words.specs.Steps.{Composition}
 use Rattle.words.specs.Settings.{Lent}
-use Rattle.calls.specs.Store.{stateSize, trSize, stateRoom, trRoom}
+use Rattle.calls.specs.Store.{stateSize, trSize, stateRoom, trRoom, stateRoomWith, trRoomWith}
 use Rattle.calls.specs.Checks.{storeOf}
 use Rattle.calls.specs.Sequences.{World}
 use Rattle.calls.proofs.RecordLaws.{room-same}
@@ -52,9 +52,9 @@ grows-on w v u p q = record {
 }
 
 pub room-grows : (w v : World) → Grows w v → stateRoom (v .memory) ≡ stateRoom (w .memory)
-unfolding stateRoom
+unfolding stateRoomWith
 room-grows w v g = room-same stateSize (w .memory .states) (v .memory .states) (g .states-length)
 
 pub tr-room-grows : (w v : World) → Grows w v → trRoom (v .memory) ≡ trRoom (w .memory)
-unfolding trRoom
+unfolding trRoomWith
 tr-room-grows w v g = room-same trSize (w .memory .trs) (v .memory .trs) (g .trs-length)

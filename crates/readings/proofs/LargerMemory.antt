@@ -13,11 +13,11 @@ use Rattle.words.specs.Sides.{Side}
 use Rattle.words.specs.Steps.{Composition, Triple, startAt}
 use Rattle.words.specs.Settings.{Settings, Lent, compositionOf}
 use Rattle.words.proofs.CheckedLaws.{good≢refused}
-use Rattle.calls.specs.Store.{Memory, stateSize, trSize, stateRoom, trRoom, stateField, nextPlace, add, Part}
+use Rattle.calls.specs.Store.{Memory, stateSize, trSize, stateRoom, stateField, add, Part, addWith, stateRoomWith, trRoomWith}
 use Rattle.calls.specs.Checks.{Session, storeOf, sideFor}
-use Rattle.calls.specs.Calls.{Outcome, cleared, openOf, expandOf, finalWeightOf, onward, runEnded, runBy, runFrom, runOf}
-use Rattle.calls.specs.Sequences.{World, Call, opening, expand, finalWeight, records, run, Said, part, weight, accepted, answered, handed, saidOf, turnOf, callOf, replies}
-use Rattle.calls.proofs.RecordLaws.{room-more}
+use Rattle.calls.specs.Calls.{Outcome, cleared, openOf, expandOf, finalWeightOf, onward, runEnded, runBy, runFrom, runOf, runFromWith, runWith}
+use Rattle.calls.specs.Sequences.{World, Call, opening, expand, finalWeight, records, run, Said, part, weight, accepted, answered, handed, saidOf, turnOf, callOf, replies, callWith, repliesWith}
+use Rattle.calls.proofs.RecordLaws.{nextPlace, room-more}
 use Rattle.calls.proofs.StepsStay.{add-stays}
 use Rattle.calls.proofs.ExpandKept.{entered-is}
 use Rattle.calls.proofs.OpenCases.{openedAs, Begins, by-open, open-empty, open-begun, begun-field}
@@ -67,7 +67,7 @@ module _ (l : Lent) (c : Composition) where
             rec (worldOf o) (worldOf p) (x .1) (omega (arith, y, a)) (omega (arith, z, b))
 
   run-steps : (k j n : ℕ) (w v : World) → RunsTwo k j n w v
-  unfolding runFrom
+  unfolding runFromWith
   run-steps zero zero n w v h a b = both-end w v h
   run-steps zero (suc j) n w v h a b = rw (le-leb (v .session .used .states) n (omega (arith, fit1 w v h, h .alike .states, a))) (both-end w v h)
   run-steps (suc k) zero n w v h a b = rw (le-leb (w .session .used .states) n (omega (arith, fit2 w v h, h .alike .states, b))) (both-end w v h)
@@ -83,7 +83,7 @@ module _ (l : Lent) (c : Composition) where
           on false = onward-two w v h k j n a b rec (expand-two l c w v h n)
 
   pub run-two : (w v : World) → Same l c w v → Agrees l c (runOf l (w .session) (w .memory)) (runOf l (v .session) (v .memory))
-  unfolding runOf
+  unfolding runWith
   run-two w v h = rw (h .kept1 .sound .enters, h .kept2 .sound .enters) (run-steps (stateRoom (w .memory)) (stateRoom (v .memory)) 0 w v h (omega arith) (omega arith))
 
   -- the reply and the worlds of one call
@@ -94,7 +94,7 @@ module _ (l : Lent) (c : Composition) where
   replied say o p = ⊎-elim (λ x. inl (o .session, ap (λ a. answered (saidOf say a) (o .session)) x)) (λ x. inr (ap₂ (λ a s. answered (saidOf say a) s) (sym (x .0)) (sym (x .1 .session)), x .1))
 
   one-reply : (w v : World) (x : Call) (cs : List Call) → Same l c w v → OpeningsRefused l w (x ∷ cs) → Call2 w v x
-  unfolding callOf
+  unfolding callWith
   one-reply w v (opening s k) cs h r = replied (λ u. accepted) (openOf s k (w .session) (w .memory)) (openOf s k (v .session) (v .memory)) (open-two l c w v h s k (r .0))
   one-reply w v (expand n) cs h r = replied part (expandOf l (w .session) (w .memory) n) (expandOf l (v .session) (v .memory) n) (expand-two l c w v h n)
   one-reply w v (finalWeight n) cs h r = replied weight (finalWeightOf l (w .session) (w .memory) n) (finalWeightOf l (v .session) (v .memory) n) (final-two l c w v h n)
@@ -103,7 +103,7 @@ module _ (l : Lent) (c : Composition) where
 
   -- all replies, up to the first 13
   pub replies-two : (cs : List Call) (w v : World) → Same l c w v → OpeningsRefused l w cs → SameUntil (replies l w cs) (replies l v cs)
-  unfolding replies
+  unfolding repliesWith
   replies-two [] w v h r = tt
   replies-two (x ∷ cs) w v h r =
       ⊎-elim inl (λ y. inr (y .0, replies-two cs (callOf l w x .world) (callOf l v x .world) (y .1) (one-call l c w x cs (h .kept1) r .1))) (one-reply w v x cs h r)
@@ -118,7 +118,7 @@ pub record Opens2 (o p : Outcome (Unit {0})) : Type 0 where
 module _ (s : Settings) (l : Lent) (got got2 : Session) (m big : Memory) (more : NoShorter m big) where
   -- no state is found
   both-empty : (side : Side) → Opens2 (openedAs s side (cleared m)) (openedAs s side (cleared big))
-  unfolding cleared stateRoom trRoom
+  unfolding cleared stateRoomWith trRoomWith
   both-empty side = record {
     answer = refl;
     session = refl;
@@ -127,12 +127,12 @@ module _ (s : Settings) (l : Lent) (got got2 : Session) (m big : Memory) (more :
   }
 
   begins2 : Begins m → Begins big
-  unfolding stateRoom
+  unfolding stateRoomWith
   begins2 b = let r = room-more stateSize (m .states) (big .states) (more .states) in record { room = omega (arith, b .room, r); headed = omega (arith, b .headed, more .heads) }
 
   -- state 0 is the start in both
   both-begun : (side : Side) (t : Triple) → sideFor s l ≡ good side → startAt (compositionOf s l side) ≡ some t → Begins m → Opens2 (openedAs s side (add (cleared m) t)) (openedAs s side (add (cleared big) t))
-  unfolding cleared add
+  unfolding cleared addWith
   both-begun side t e h b = record {
     answer = refl;
     session = refl;
@@ -144,7 +144,7 @@ module _ (s : Settings) (l : Lent) (got got2 : Session) (m big : Memory) (more :
       same n k i j =
           let z : n ≡ 0 = omega (arith, i) in
           subst (λ x. stateField (add (cleared big) t .memory .states) x k ≡ stateField (add (cleared m) t .memory .states) x k) (sym z)
-          (begun-field s l side t e h big (begins2 b) k j ∙ sym (begun-field s l side t e h m b k j))
+          (begun-field t big (begins2 b) k j ∙ sym (begun-field t m b k j))
 
   open-both : openOf s l got m .answer ≡ good tt → Opens2 (openOf s l got m) (openOf s l got2 big)
   open-both =

@@ -11,9 +11,9 @@ use Rattle.words.specs.Steps.{Composition}
 use Rattle.words.specs.Settings.{Lent}
 use Rattle.words.proofs.CheckedLaws.{refused-is}
 use Rattle.calls.specs.Store.{Part}
-use Rattle.calls.specs.Checks.{Session, enteredAt}
-use Rattle.calls.specs.Calls.{Outcome, openOf, finalWeightOf}
-use Rattle.calls.specs.Sequences.{World, Call, opening, expand, finalWeight, records, run, Said, refusal, accepted, part, weight, Reply, answered, handed, saidOf, turnOf, callOf, replies}
+use Rattle.calls.specs.Checks.{Session, enteredAtWith}
+use Rattle.calls.specs.Calls.{Outcome, openOf, finalWeightWith}
+use Rattle.calls.specs.Sequences.{World, Call, opening, expand, finalWeight, records, run, Said, refusal, accepted, part, weight, Reply, answered, handed, saidOf, turnOf, callOf, replies, callWith, repliesWith}
 use Rattle.calls.proofs.ExpandCases.{expand-late}
 use Rattle.calls.proofs.OpenCases.{open-refusals}
 use Rattle.readings.specs.Worlds.{worldOf, expandIn, finalIn, runIn, OpeningsRefused}
@@ -49,7 +49,7 @@ module _ (l : Lent) (c : Composition) where
           omega (arith, z)
 
   final-eight : (w : World) → KeptWorld l c w → (n : ℕ) → finalIn l w n .answer ≢ refused 8
-  unfolding finalWeightOf enteredAt
+  unfolding finalWeightWith enteredAtWith
   final-eight w h n e = go (decLt n (w .session .used .states))
     where
       go : Dec (n < w .session .used .states) → ⊥
@@ -64,7 +64,7 @@ module _ (l : Lent) (c : Composition) where
       omega (arith, z .0)
 
   call-eight : (w : World) → KeptWorld l c w → (x : Call) (t : Session) → callOf l w x .reply ≢ answered (refusal 8) t
-  unfolding callOf
+  unfolding callWith
   call-eight w h (opening s k) =
       turn-eight (λ u. accepted) (λ a t. refl) (openOf s k (w .session) (w .memory)) (λ e. ⊎-elim (λ z. omega (arith, z)) (λ z. omega (arith, z)) (open-refusals s k (w .session) (w .memory) 8 e))
   call-eight w h (expand n) = turn-eight part (λ a t. refl) (expandIn l w n) (expand-eight w h n)
@@ -73,7 +73,7 @@ module _ (l : Lent) (c : Composition) where
   call-eight w h run = turn-eight (λ u. accepted) (λ a t. refl) (runIn l w) (run-eight w h)
 
   pub never-eight : (w : World) (cs : List Call) → KeptWorld l c w → OpeningsRefused l w cs → (r : Reply) → In r (replies l w cs) → (t : Session) → r ≢ answered (refusal 8) t
-  unfolding replies
+  unfolding repliesWith
   never-eight w [] h o r i t z = List·Memᴰ·not-nil i
   never-eight w (x ∷ cs) h o r i t z =
       let a = one-call l c w x cs h o in

@@ -11,7 +11,7 @@ use Rattle.words.specs.Sides.{Side}
 use Rattle.words.specs.Steps.{Composition, Triple, startAt}
 use Rattle.words.specs.Settings.{Settings, Lent, compositionOf}
 use Rattle.words.proofs.CheckedLaws.{good≢refused, good-is, refused-is}
-use Rattle.calls.specs.Store.{Memory, stateRoom, expandedPlace, expandedAt, add}
+use Rattle.calls.specs.Store.{Memory, stateRoom, expandedPlace, expandedAt, add, addWith, expandedWith}
 use Rattle.calls.specs.Checks.{Session, sideFor, entered}
 use Rattle.calls.specs.Calls.{Outcome, cleared, openOf}
 use Rattle.calls.specs.Sequences.{World}
@@ -52,17 +52,17 @@ module _ (s : Settings) (l : Lent) (side : Side) (rule : sideFor s l ≡ good si
     w = worldOf (openedAs s side (add (cleared m) t))
 
     bare : (n : ℕ) → Expanded w n → ⊥
-    unfolding cleared add expandedAt
+    unfolding cleared addWith expandedWith
     bare n x =
         let z : n ≡ 0 = omega (arith, x .0) in
-        let a = begun-field s l side t rule h m begins expandedPlace (omega arith) in
+        let a = begun-field t m begins expandedPlace (omega arith) in
         let b = subst (λ k. expandedAt (w .memory .states) k ≡ 1) z (x .1) in
         omega (arith, a, b)
 
     start-kept : entered l (w .session) (w .memory) ≡ good c → KeptWorld l c w
-    unfolding cleared add
+    unfolding cleared addWith
     start-kept e =
-        let whole = begun-whole s l side t rule h m begins in
+        let whole = begun-whole t m begins in
         record {
           whole = whole;
           sound = record {
@@ -71,7 +71,7 @@ module _ (s : Settings) (l : Lent) (side : Side) (rule : sideFor s l ≡ good si
             listed = λ r. (λ i. absurd (omega (arith, i .0, i .1)), λ a. absurd (bare (a .0) (a .1)));
             alone = λ r j k x y a b. absurd (bare j x);
             distinct = whole-distinct (add (cleared m) t) whole;
-            start = λ u z. begun-triple s l side t rule h m begins ∙ Option·some-injective t u (sym h ∙ z);
+            start = λ u z. begun-triple t m begins ∙ Option·some-injective t u (sym h ∙ z);
             order = λ r n a b. absurd (omega arith);
             lists = λ n x. absurd (bare n x);
           };

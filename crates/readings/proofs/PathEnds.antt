@@ -17,15 +17,15 @@ use Rattle.words.specs.Settings.{Lent}
 use Rattle.words.specs.AsPapers.{exact, composedOf}
 use Rattle.words.specs.Links.{NoEnd}
 use Rattle.words.proofs.PapersFinal.{final-as-papers}
-use Rattle.calls.specs.Checks.{entered, enteredAt}
-use Rattle.calls.specs.Calls.{settle, unchanged, finalWeightOf}
+use Rattle.calls.specs.Checks.{entered, enteredAtWith}
+use Rattle.calls.specs.Calls.{settle, unchanged, finalWeightOf, finalWeightWith}
 use Rattle.calls.specs.Sequences.{World}
 use Rattle.readings.specs.Worlds.{stateAt}
 
 -- past the checks 1 to 9, the answer is the final weight of the triple
 pub final-answer : (l : Lent) (c : Composition) (w : World) → entered l (w .session) (w .memory) ≡ good c → (n : ℕ) → n < w .session .used .states
     → finalWeightOf l (w .session) (w .memory) n .answer ≡ finalAt c (stateAt w n)
-unfolding finalWeightOf enteredAt
+unfolding finalWeightWith enteredAtWith
 final-answer l c w e n u = rw (e, lt-leb (w .session .used .states) n u) (go (finalAt c (stateAt w n)))
   where
     go : (r : Checked (Option ℕ)) → settle (w .session) (w .memory) (andThen r (λ x. good (unchanged (w .session) (w .memory) x))) .answer ≡ r

@@ -17,7 +17,7 @@ use Rattle.words.specs.Settings.{Settings, Lent, compositionOf}
 use Rattle.words.proofs.CheckedLaws.{good-is}
 use Rattle.calls.specs.Checks.{sideFor}
 use Rattle.calls.specs.Calls.{openOf}
-use Rattle.calls.specs.Sequences.{World, opening, run, callOf, after}
+use Rattle.calls.specs.Sequences.{World, opening, run, after, afterWith, callWith}
 use Rattle.calls.specs.Listing.{settingsOf}
 use Rattle.calls.proofs.Cases.{Holds}
 use Rattle.calls.proofs.StarCases.{plain, lend, session, triple, world}
@@ -48,7 +48,7 @@ pub record Shown (s : Settings) (l : Lent) (side : Side) (before left : World) (
 pub paths-of : {s : Settings} {l : Lent} {side : Side} {before left : World} {accepting : List (List ℕ)} {pairs : List (List ℕ × List ℕ)} {inputs outputs : List (List ℕ)}
     {weights : List (semiring (compositionOf s l side .kind) .Element)} → Shown s l side before left accepting pairs inputs outputs weights
     → Paths l (compositionOf s l side) (pickOf (s .filter)) left
-unfolding after callOf
+unfolding afterWith callWith
 paths-of {s} {l} {side} {before} {left} x =
     let d = demand-3 s l (before .session) (before .memory) (x .opens) in
     let p = d .2 (run ∷ []) tt .paths (subst (Finished s l) (sym (x .left-by)) (x .finished)) in
@@ -57,13 +57,13 @@ paths-of {s} {l} {side} {before} {left} x =
 
 -- a session and slices of words without meaning
 abbrev any : World
-any = world (session (plain 1 2) 7 8 9) (9 ∷ 9 ∷ []) (replicate 27 8) (replicate 37 8)
+any = world (session (plain 1 2) 7 8 9) (9 ∷ 9 ∷ []) (replicate 32 8) (replicate 37 8)
 
 -- 1: costs, filter sequence. Both machines are sorted in fact: machine 1's side is taken. States (0, 0, 0), (1, 0, 0), (0, 1, 1), (2, 2, 0), (1, 1, 0).
 abbrev left1 : World
 left1 =
     world (session (plain 0 0) 1 5 7) (5 ∷ 2 ∷ [])
-    (0 ∷ 0 ∷ 1 ∷ 1 ∷ 0 ∷ 65536 ∷ 0 ∷ 1 ∷ 4 ∷ 0 ∷ 1 ∷ 1 ∷ 1 ∷ 6 ∷ 1 ∷ 131074 ∷ 0 ∷ 1 ∷ 0 ∷ 3 ∷ 65537 ∷ 0 ∷ 1 ∷ 7 ∷ 4 ∷ 8 ∷ 8 ∷ [])
+    (0 ∷ 0 ∷ 0 ∷ 1 ∷ 1 ∷ 0 ∷ 1 ∷ 0 ∷ 0 ∷ 1 ∷ 4 ∷ 0 ∷ 0 ∷ 1 ∷ 1 ∷ 1 ∷ 6 ∷ 1 ∷ 2 ∷ 2 ∷ 0 ∷ 1 ∷ 0 ∷ 3 ∷ 1 ∷ 1 ∷ 0 ∷ 1 ∷ 7 ∷ 4 ∷ 8 ∷ 8 ∷ [])
     (1 ∷ 0 ∷ 1 ∷ 1 ∷ 2
     ∷ 0 ∷ 7 ∷ 4 ∷ 2 ∷ 3
     ∷ 3 ∷ 9 ∷ 16 ∷ 3 ∷ 0
@@ -97,7 +97,7 @@ costs-by-sequence = record {
 abbrev left2 : World
 left2 =
     world (session (plain 1 1) 1 5 7) (5 ∷ 3 ∷ [])
-    (0 ∷ 0 ∷ 1 ∷ 1 ∷ 0 ∷ 65536 ∷ 1 ∷ 1 ∷ 4 ∷ 1 ∷ 1 ∷ 0 ∷ 1 ∷ 5 ∷ 0 ∷ 131074 ∷ 0 ∷ 1 ∷ 0 ∷ 2 ∷ 65537 ∷ 0 ∷ 1 ∷ 7 ∷ 4 ∷ 8 ∷ 8 ∷ [])
+    (0 ∷ 0 ∷ 0 ∷ 1 ∷ 1 ∷ 0 ∷ 1 ∷ 0 ∷ 1 ∷ 1 ∷ 4 ∷ 1 ∷ 0 ∷ 1 ∷ 0 ∷ 1 ∷ 5 ∷ 0 ∷ 2 ∷ 2 ∷ 0 ∷ 1 ∷ 0 ∷ 2 ∷ 1 ∷ 1 ∷ 0 ∷ 1 ∷ 7 ∷ 4 ∷ 8 ∷ 8 ∷ [])
     (1 ∷ 0 ∷ 1 ∷ 1 ∷ 2
     ∷ 0 ∷ 7 ∷ 4 ∷ 2 ∷ 3
     ∷ 3 ∷ 9 ∷ 60 ∷ 3 ∷ 0
@@ -138,7 +138,7 @@ words2marked = 3 ∷ 3 ∷ 1 ∷ 1 ∷ 0 ∷ 0 ∷ 1 ∷ 0 ∷ 0 ∷ 2 ∷ 0 ∷
 abbrev left3 : World
 left3 =
     world (session (plain 0 2) 2 5 7) (5 ∷ 2 ∷ [])
-    (0 ∷ 0 ∷ 1 ∷ 1 ∷ 0 ∷ 1 ∷ 2 ∷ 1 ∷ 5 ∷ 0 ∷ 65536 ∷ 1 ∷ 1 ∷ 6 ∷ 1 ∷ 65537 ∷ 0 ∷ 1 ∷ 7 ∷ 3 ∷ 131074 ∷ 0 ∷ 1 ∷ 0 ∷ 4 ∷ 8 ∷ 8 ∷ [])
+    (0 ∷ 0 ∷ 0 ∷ 1 ∷ 1 ∷ 0 ∷ 0 ∷ 1 ∷ 2 ∷ 1 ∷ 5 ∷ 0 ∷ 1 ∷ 0 ∷ 1 ∷ 1 ∷ 6 ∷ 1 ∷ 1 ∷ 1 ∷ 0 ∷ 1 ∷ 7 ∷ 3 ∷ 2 ∷ 2 ∷ 0 ∷ 1 ∷ 0 ∷ 4 ∷ 8 ∷ 8 ∷ [])
     (0 ∷ 7 ∷ 4 ∷ 1 ∷ 2
     ∷ 1 ∷ 0 ∷ 1 ∷ 2 ∷ 3
     ∷ 1 ∷ 7 ∷ 5 ∷ 3 ∷ 4

@@ -14,8 +14,8 @@ use Rattle.words.specs.Steps.{Composition}
 use Rattle.words.specs.Settings.{Lent}
 use Rattle.words.proofs.CheckedLaws.{good≢refused, refused-is}
 use Rattle.calls.specs.Store.{stateRoom, Part}
-use Rattle.calls.specs.Calls.{Outcome, onward, runBy, runFrom, runOf}
-use Rattle.calls.specs.Sequences.{World, callOf, after}
+use Rattle.calls.specs.Calls.{Outcome, onward, runBy, runFrom, runFromWith, runWith}
+use Rattle.calls.specs.Sequences.{World, afterWith, callWith}
 use Rattle.calls.specs.Owned.{stopBy, stopFrom}
 use Rattle.calls.proofs.ExpandKept.{entered-is}
 use Rattle.calls.proofs.ExpandCases.{stayed, expand-late}
@@ -27,11 +27,11 @@ use Rattle.readings.proofs.CallsKept.{Onto, onto-none, onto-on, expand-
 
 -- the expansions from n on before n are none; those before a later state are that of n, then those from the next state on
 up-none : (l : Lent) (w : World) (n : ℕ) → upTo l w n n ≡ w
-unfolding after interval
+unfolding afterWith interval
 up-none l w n = let z : n - n ≡ 0 = omega arith in rw z
 
 up-on : (l : Lent) (w : World) (n j : ℕ) → n < j → upTo l w n j ≡ upTo l (worldOf (expandIn l w n)) (suc n) j
-unfolding after callOf interval
+unfolding afterWith callWith interval
 up-on l w n j h = let z : j - n ≡ suc (j - suc n) = omega arith in rw z
 
 module _ (l : Lent) (c : Composition) where
@@ -46,7 +46,7 @@ module _ (l : Lent) (c : Composition) where
         → (UsedState w n → (j : ℕ) → o .answer ≡ refused j → P (λ k. stayed (w .session) (w .memory) (refused j)) (λ k. n))
         → (UsedState w n → (p : Part) → o .answer ≡ good p → P (pieceIn l (worldOf o) (suc n)) (nextIn l (worldOf o) (suc n)))
         → P (λ k. pieceIn l w n (suc k)) (λ k. nextIn l w n (suc k))
-    unfolding runFrom stopFrom
+    unfolding runFromWith stopFrom
     by-turn P late stopped on = go (leb (w .session .used .states) n) refl
       where
         by-answer : (a : Checked Part) → UsedState w n → o .answer ≡ a → P (λ k. onward a (o .session) (o .memory) (runFrom l k (suc n))) (λ k. stopBy o a n (stopFrom l k (suc n)))
@@ -118,7 +118,7 @@ module _ (l : Lent) (c : Composition) where
 
   -- by induction on how many states it may pass
   run-from : (k n : ℕ) (w : World) → KeptWorld l c w → Run n k w (pieceIn l w n k) (nextIn l w n k)
-  unfolding runFrom stopFrom
+  unfolding runFromWith stopFrom
   run-from zero n w h = run-none n 0 w h (good tt) (λ a. inl (omega arith)) (λ k e. absurd (good≢refused e))
   run-from (suc k) n w h =
       by-turn w h n (λ f g. Run n (suc k) w (f k) (g k))
@@ -131,7 +131,7 @@ module _ (l : Lent) (c : Composition) where
 
   -- where state n is not found, nothing is done
   piece-late : (k n : ℕ) (w : World) → KeptWorld l c w → w .session .used .states ≤ n → (stayed (w .session) (w .memory) (good tt) ≡ pieceIn l w n k) × (n ≡ nextIn l w n k)
-  unfolding runFrom stopFrom
+  unfolding runFromWith stopFrom
   piece-late zero n w h i = (refl, refl)
   piece-late (suc k) n w h i =
       by-turn w h n (λ f g. (stayed (w .session) (w .memory) (good tt) ≡ f k) × (n ≡ g k)) (λ z. (refl, refl)) (λ z j e. absurd (omega arith)) (λ z p e. absurd (omega arith))
@@ -141,7 +141,7 @@ module _ (l : Lent) (c : Composition) where
       → let v = worldOf (pieceIn l w n j) in
       let i = nextIn l w n j in
       (pieceIn l w n (j + k) ≡ pieceIn l v i k) × (nextIn l w n (j + k) ≡ nextIn l v i k)
-  unfolding runFrom stopFrom
+  unfolding runFromWith stopFrom
   piece-joins zero n w h k = let z : 0 + k ≡ k = omega arith in rw z (λ a. (refl, refl))
   piece-joins (suc j) n w h k =
       let z : suc j + k ≡ suc (j + k) = omega arith in
@@ -154,12 +154,12 @@ module _ (l : Lent) (c : Composition) where
 
   -- a run is a piece, since the checks pass
   run-piece : (w : World) → KeptWorld l c w → runIn l w ≡ pieceIn l w 0 (stateRoom (w .memory))
-  unfolding runOf
+  unfolding runWith
   run-piece w h = rw (h .sound .enters)
 
   -- no more states are found than there is room for, so that a piece of so many passes no more where it may
   piece-more : (j k n : ℕ) (w : World) → KeptWorld l c w → stateRoom (w .memory) ≤ j + n → pieceIn l w n (j + k) ≡ pieceIn l w n j
-  unfolding runFrom
+  unfolding runFromWith
   piece-more zero k n w h room =
       let z : 0 + k ≡ k = omega arith in
       let fits = entered-is l (w .session) (w .memory) c (h .sound .enters) .form .states-fit in

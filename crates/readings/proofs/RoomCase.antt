@@ -34,11 +34,11 @@ before = expand 0 ∷ expand 1 ∷ []
 
 abbrev pub leftLarge : World
 leftLarge =
-    world (with 3 2) (1 ∷ 2 ∷ 3 ∷ []) (0 ∷ 0 ∷ 1 ∷ 1 ∷ 0 ∷ 65536 ∷ 0 ∷ 1 ∷ 2 ∷ 0 ∷ 65537 ∷ 0 ∷ 0 ∷ 0 ∷ 0 ∷ replicate 9 8) (1 ∷ 0 ∷ 1 ∷ 1 ∷ 0 ∷ 0 ∷ 7 ∷ 4 ∷ 2 ∷ 0 ∷ replicate 7 6)
+    world (with 3 2) (1 ∷ 2 ∷ 3 ∷ []) (0 ∷ 0 ∷ 0 ∷ 1 ∷ 1 ∷ 0 ∷ 1 ∷ 0 ∷ 0 ∷ 1 ∷ 2 ∷ 0 ∷ 1 ∷ 1 ∷ 0 ∷ 0 ∷ 0 ∷ 0 ∷ replicate 10 8) (1 ∷ 0 ∷ 1 ∷ 1 ∷ 0 ∷ 0 ∷ 7 ∷ 4 ∷ 2 ∷ 0 ∷ replicate 7 6)
 
 abbrev pub leftSmall : World
 leftSmall =
-    world (with 3 2) (3 ∷ 2 ∷ []) (0 ∷ 0 ∷ 1 ∷ 1 ∷ 0 ∷ 65536 ∷ 0 ∷ 1 ∷ 2 ∷ 0 ∷ 65537 ∷ 0 ∷ 0 ∷ 0 ∷ 1 ∷ replicate 4 5) (1 ∷ 0 ∷ 1 ∷ 1 ∷ 0 ∷ 0 ∷ 7 ∷ 4 ∷ 2 ∷ 0 ∷ replicate 5 4)
+    world (with 3 2) (3 ∷ 2 ∷ []) (0 ∷ 0 ∷ 0 ∷ 1 ∷ 1 ∷ 0 ∷ 1 ∷ 0 ∷ 0 ∷ 1 ∷ 2 ∷ 0 ∷ 1 ∷ 1 ∷ 0 ∷ 0 ∷ 0 ∷ 1 ∷ replicate 5 5) (1 ∷ 0 ∷ 1 ∷ 1 ∷ 0 ∷ 0 ∷ 7 ∷ 4 ∷ 2 ∷ 0 ∷ replicate 5 4)
 
 left-large : after both (from large) before ≡ leftLarge
 unfolding Holds
@@ -123,10 +123,10 @@ abbrev heavy : Lent
 heavy = lend (weighing 2147483648) (weighing 2147483647)
 
 abbrev little : Memory
-little = record { heads = 7 ∷ []; states = replicate 5 7; trs = replicate 5 7 }
+little = record { heads = 7 ∷ []; states = replicate 6 7; trs = replicate 5 7 }
 
 abbrev leftHeavy : World
-leftHeavy = world (session (plain 0 0) 1 1 0) (1 ∷ []) (replicate 5 0) (replicate 5 7)
+leftHeavy = world (session (plain 0 0) 1 1 0) (1 ∷ []) (replicate 6 0) (replicate 5 7)
 
 rule-heavy : sideFor set heavy ≡ good (only outputs)
 unfolding Holds

@@ -13,12 +13,11 @@ use borrow.Author.Tests.{lt-leb, le-leb}
 use Rattle.lists.specs.Lists.{interval, putIf}
 use Rattle.lists.proofs.Members.{or-cases, or-left, or-right}
 use Rattle.words.specs.Labels.{Checked, good, refused, andThen}
-use Rattle.words.specs.Machines.{limit}
 use Rattle.words.specs.Sides.{nonEmpty}
 use Rattle.words.specs.Steps.{Triple, Step}
 use Rattle.words.proofs.StepRange.{InRange}
-use Rattle.calls.specs.Store.{Store, stateSize, trSize, stateRoom, trRoom, tripleAt, chainOf, sameTriple, find, add, append}
-use Rattle.calls.specs.Calls.{reach, storeStep, nextFor, storeSteps}
+use Rattle.calls.specs.Store.{Store, stateSize, trSize, stateRoom, trRoom, tripleAt, sameTriple, find, add, append, addWith, chainWith, findWith, stateRoomWith, trRoomWith}
+use Rattle.calls.specs.Calls.{storeStep, nextFor, storeSteps, reachWith, storeStepWith, storeStepsWith}
 use Rattle.calls.proofs.RecordLaws.{room-same}
 use Rattle.calls.proofs.StoreForms.{Form}
 use Rattle.calls.proofs.ChainLaws.{same-triple, same-self, find-sound, find-added, find-other}
@@ -105,25 +104,25 @@ pub record Goes (S1 S2 last : ℕ) (known : List Triple) (d : Store) (new : ℕ)
   pub state-room : stateRoom (store .memory) ≡ stateRoom (d .memory)
 
 stays-rooms : (d e : Store) → Stays d e → (trRoom (e .memory) ≡ trRoom (d .memory)) × (stateRoom (e .memory) ≡ stateRoom (d .memory))
-unfolding trRoom stateRoom
+unfolding trRoomWith stateRoomWith
 stays-rooms d e s = (room-same trSize (d .memory .trs) (e .memory .trs) (s .trs-length), room-same stateSize (d .memory .states) (e .memory .states) (s .states-length))
 
-module _ {S1 S2 : ℕ} (narrow : S2 ≤ limit) (last : ℕ) where
+module _ {S1 S2 : ℕ} (last : ℕ) where
   module _ (known : List Triple) (d : Store) (w : Ready S1 S2 last known d) (next : ℕ) (st : Step) (ok : InRange S1 S2 (st .to)) (link : LinkOk d last next) where
     abbrev t : Triple
     t = st .to
 
     -- no transition record
     no-tr : trRoom (d .memory) ≤ d .used .trs → storeStep d next st ≡ refused 13
-    unfolding storeStep
+    unfolding storeStepWith
     no-tr h = rw (le-leb _ _ h)
 
     module _ (more : d .used .trs < trRoom (d .memory)) where
       -- a state found before
       old-at : (n : ℕ) → find d t ≡ some n → among known t ≡ true → Goes S1 S2 last (t ∷ known) d 0 (storeStep d next st)
-      unfolding storeStep reach append find chainOf among
+      unfolding storeStepWith reachWith append findWith chainWith among
       old-at n f e =
-          let k = step-made narrow d last next st d n link more (led-old narrow d last t n (w .form) (w .whole) f) in
+          let k = step-made d last next st d n link more (led-old d last t n (w .form) (w .whole) f) in
           let is : storeStep d next st ≡ good (append d st n next) = rw (lt-leb _ _ more, f) in
           let rooms = stays-rooms d (append d st n next) (step-stays d next st _ is) in
           record {
@@ -149,39 +148,38 @@ module _ {S1 S2 : ℕ} (narrow : S2 ≤ limit) (last : ℕ) where
 
         -- no state record
         no-state : stateRoom (d .memory) ≤ d .used .states → storeStep d next st ≡ refused 13
-        unfolding storeStep reach
+        unfolding storeStepWith reachWith
         no-state h = rw (lt-leb _ _ more, missing, le-leb _ _ h)
 
         -- a new state
         goes-new : d .used .states < stateRoom (d .memory) → Goes S1 S2 last (t ∷ known) d 1 (storeStep d next st)
-        unfolding storeStep reach append find chainOf among add
+        unfolding storeStepWith reachWith append findWith chainWith among addWith
         goes-new room =
-            let few : t .s2 < 65536 = omega (arith, narrow, ok .s2) in
             let headed = w .form .headed (w .any) in
-            let k = step-made narrow d last next st (add d t) (d .used .states) link more (led-new narrow d last t (w .form) (w .whole) ok (w .any) room missing) in
+            let k = step-made d last next st (add d t) (d .used .states) link more (led-new d last t (w .form) (w .whole) ok (w .any) room missing) in
             let is : storeStep d next st ≡ good (append (add d t) st (d .used .states) next) = rw (lt-leb _ _ more, missing, lt-leb _ _ room) in
             let rooms = stays-rooms d (append (add d t) st (d .used .states) next) (step-stays d next st _ is) in
             record {
               store = append (add d t) st (d .used .states) next;
               is = is;
-              ready = record { form = k .form; whole = k .whole; any = omega arith; knows = λ u. go few headed u (sameTriple t u) refl };
+              ready = record { form = k .form; whole = k .whole; any = omega arith; knows = λ u. go headed u (sameTriple t u) refl };
               trs = refl;
               states = refl;
               tr-room = rooms .0;
               state-room = rooms .1;
             }
           where
-            go : t .s2 < 65536 → 0 < length (d .memory .heads) → (u : Triple) (b : Bool) → sameTriple t u ≡ b → (sameTriple t u || among known u) ≡ isFound (find (add d t) u)
-            go few headed u true z =
-                ap (λ x. x || among known u) z ∙ sym (ap (λ v. isFound (find (add d t) v)) (sym (same-triple t u z)) ∙ ap isFound (find-added d (w .form) t few room headed))
-            go few headed u false z = ap (λ x. x || among known u) z ∙ (w .knows u ∙ sym (ap isFound (find-other d (w .form) t few room headed u z)))
+            go : 0 < length (d .memory .heads) → (u : Triple) (b : Bool) → sameTriple t u ≡ b → (sameTriple t u || among known u) ≡ isFound (find (add d t) u)
+            go headed u true z =
+                ap (λ x. x || among known u) z ∙ sym (ap (λ v. isFound (find (add d t) v)) (sym (same-triple t u z)) ∙ ap isFound (find-added d (w .form) t room headed))
+            go headed u false z = ap (λ x. x || among known u) z ∙ (w .knows u ∙ sym (ap isFound (find-other d (w .form) t room headed u z)))
 
   -- kept moves for which there is room are stored, and the rest comes after them
   pub stored-first : (steps : List Step) (rest : List (Checked Step)) (known : List Triple) (d : Store) → Ready S1 S2 last known d
       → ((st : Step) → In st steps → InRange S1 S2 (st .to)) → d .used .trs + length (map good steps ++ rest) ≤ last
       → d .used .trs + length steps ≤ trRoom (d .memory) → d .used .states + length (newOnes known (targets steps)) ≤ stateRoom (d .memory)
       → (e : Store) × (storeSteps d (map good steps ++ rest) ≡ storeSteps e rest)
-  unfolding storeSteps newOnes
+  unfolding storeStepsWith newOnes
   stored-first [] rest known d w ok h a b = (d, refl)
   stored-first (st ∷ steps) rest known d w ok h a b =
       go (among known (st .to)) refl b (λ e v x y z. stored-first steps rest (st .to ∷ known) e v (λ s i. ok s (there i)) x y z)
@@ -213,7 +211,7 @@ module _ {S1 S2 : ℕ} (narrow : S2 ≤ limit) (last : ℕ) where
       → ((st : Step) → In st steps → InRange S1 S2 (st .to)) → d .used .trs + length (map good steps ++ rest) ≤ last
       → (trRoom (d .memory) < d .used .trs + length steps) ⊎ (stateRoom (d .memory) < d .used .states + length (newOnes known (targets steps)))
       → storeSteps d (map good steps ++ rest) ≡ refused 13
-  unfolding storeSteps newOnes
+  unfolding storeStepsWith newOnes
   stored-none [] rest known d w ok h lack = absurd (⊎-elim (λ x. omega (arith, x, w .form .trs-fit)) (λ x. omega (arith, x, w .form .states-fit)) lack)
   stored-none (st ∷ steps) rest known d w ok h lack =
       by-tr (decLt (d .used .trs) (trRoom (d .memory))) (λ e v x y. stored-none steps rest (st .to ∷ known) e v (λ s i. ok s (there i)) x y)

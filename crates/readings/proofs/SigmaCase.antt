@@ -51,15 +51,15 @@ abbrev got : Session
 got = session (plain 1 2) 7 8 9
 
 abbrev memory : Memory
-memory = record { heads = 9 ∷ 9 ∷ []; states = replicate 11 8; trs = replicate 12 8 }
+memory = record { heads = 9 ∷ 9 ∷ []; states = replicate 13 8; trs = replicate 12 8 }
 
 abbrev opened : World
-opened = world (session asked 0 1 0) (1 ∷ 0 ∷ []) (0 ∷ 0 ∷ 0 ∷ 0 ∷ 0 ∷ 8 ∷ 8 ∷ 8 ∷ 8 ∷ 8 ∷ 8 ∷ []) (replicate 12 8)
+opened = world (session asked 0 1 0) (1 ∷ 0 ∷ []) (0 ∷ 0 ∷ 0 ∷ 0 ∷ 0 ∷ 0 ∷ 8 ∷ 8 ∷ 8 ∷ 8 ∷ 8 ∷ 8 ∷ 8 ∷ []) (replicate 12 8)
 
 abbrev left : World
 left =
     world (session asked 0 2 2) (2 ∷ 0 ∷ [])
-    (0 ∷ 0 ∷ 1 ∷ 1 ∷ 0 ∷ 65537 ∷ 0 ∷ 1 ∷ 0 ∷ 1 ∷ 8 ∷ [])
+    (0 ∷ 0 ∷ 0 ∷ 1 ∷ 1 ∷ 0 ∷ 1 ∷ 1 ∷ 0 ∷ 1 ∷ 0 ∷ 1 ∷ 8 ∷ [])
     (5 ∷ 6 ∷ 5 ∷ 1 ∷ 2 ∷ 5 ∷ 4 ∷ 4 ∷ 1 ∷ 0 ∷ 8 ∷ 8 ∷ [])
 
 opens : openOf set lent got memory .answer ≡ good tt

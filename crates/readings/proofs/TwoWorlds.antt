@@ -4,28 +4,28 @@ use mathlib.Core.Bool.{cond}
 use mathlib.Core.List.{List, []}
 use mathlib.Core.Logic.{_⊎_, inl, inr, ⊎-elim, _≢_}
 use mathlib.Core.Option.{Option}
-use Prim.Native.Nat.{ℕ, _+_, _≤_, _<_}
+use Prim.Native.Nat.{ℕ, _+_, _<_}
 use native.Mathlib.Omega.{arith}
 use native.Mathlib.Decide.{ℕ-discrete, decLt}
 use lib.Dec.{eqb}
 use lib.ListN.{length}
 use borrow.Author.Tests.{le-leb}
 use Rattle.words.specs.Labels.{Checked, good, refused, andThen}
-use Rattle.words.specs.Machines.{limit, stateCount}
+use Rattle.words.specs.Machines.{stateCount}
 use Rattle.words.specs.Steps.{Composition, stepsAt, finalAt}
 use Rattle.words.specs.Settings.{Settings, Lent}
-use Rattle.words.proofs.FormLaws.{form}
-use Rattle.calls.specs.Store.{Store, expandedPlace, firstPlace, expandedAt, firstAt, mark, Part}
-use Rattle.calls.specs.Checks.{Session, storeOf, enteredAt}
-use Rattle.calls.specs.Calls.{Outcome, storeSteps, newPart, settle, unchanged, wordsOfPart, openOf, expandOf, finalWeightOf, recordsOf}
+use Rattle.calls.specs.Store.{Store, expandedPlace, expandedAt, mark, Part, expandedWith, firstWith, markWith}
+use Rattle.calls.specs.Checks.{Session, storeOf, enteredAtWith}
+use Rattle.calls.specs.Calls.{Outcome, storeSteps, newPart, settle, unchanged, wordsOfPart, openOf, expandOf, finalWeightOf, recordsOf, finalWeightWith, openWith, recordsWith}
 use Rattle.calls.specs.Sequences.{World}
 use Rattle.calls.proofs.StepsKept.{longer}
 use Rattle.calls.proofs.StepsStay.{Stays, steps-stay}
-use Rattle.calls.proofs.ExpandKept.{Entered, entered-is, sided, steps-range}
+use Rattle.calls.proofs.ExpandKept.{Entered, entered-is, steps-range}
 use Rattle.calls.proofs.Parts.{part-alike, words-alike, new-low}
 use Rattle.calls.proofs.ExpandCases.{stayed, stored, expand-late, expand-stopped, expand-stored}
 use Rattle.calls.proofs.OpenCases.{by-open}
 use Rattle.calls.proofs.TwoStores.{Alike, Roomier, Twin, alike-triple, Steps2, steps-alike, mark-alike}
+use Rattle.calls.proofs.RecordLaws.{firstPlace}
 use Rattle.readings.specs.Worlds.{worldOf, Refused, Expanded, partIn, stateAt, wordsIn}
 use Rattle.readings.specs.Again.{Again}
 use Rattle.readings.proofs.Grows.{KeptWorld, Grows, room-grows, tr-room-grows}
@@ -63,11 +63,11 @@ module _ (l : Lent) (c : Composition) (w v : World) (h : Same l c w v) where
   form2 = entered-is l (v .session) (v .memory) c (h .kept2 .sound .enters)
 
   same-part : (n : ℕ) → n < w .session .used .states → partIn v n ≡ partIn w n
-  unfolding firstAt
+  unfolding firstWith
   same-part n i = part-alike d e (form1 .form) (omega (arith, h .alike .trs)) n i (h .alike .word) (h .alike .state n firstPlace i (omega arith))
 
   same-expanded : (n : ℕ) → n < w .session .used .states → expandedAt (v .memory .states) n ≡ expandedAt (w .memory .states) n
-  unfolding expandedAt
+  unfolding expandedWith
   same-expanded n i = h .alike .state n expandedPlace i (omega arith)
 
   expanded-two : (n : ℕ) → Expanded w n → Expanded v n
@@ -85,15 +85,12 @@ module _ (l : Lent) (c : Composition) (w v : World) (h : Same l c w v) where
     bare2 : expandedAt (v .memory .states) n ≢ 1
     bare2 x = bare (sym (same-expanded n found) ∙ x)
 
-    narrow : stateCount (l .m2) ≤ limit
-    narrow = form (l .m2) (sided (w .session .settings) l (form1 .side) (form1 .rule) .formed2) .states
-
     abbrev last : ℕ
     last = w .session .used .trs + length (stepsAt c (stateAt w n))
 
     both-steps : Steps2 (stateCount (l .m1)) (stateCount (l .m2)) last (storeSteps d (stepsAt c (stateAt w n))) (storeSteps e (stepsAt c (stateAt w n)))
     both-steps =
-        steps-alike narrow last (stepsAt c (stateAt w n)) d e
+        steps-alike last (stepsAt c (stateAt w n)) d e
         (record {
           form1 = longer d last (form1 .form) (omega arith);
           form2 = longer e last (form2 .form) (omega (arith, h .alike .trs));
@@ -111,7 +108,7 @@ module _ (l : Lent) (c : Composition) (w v : World) (h : Same l c w v) where
     -- both expansions stored their steps
     grown : (d′ e′ : Store) → Twin (stateCount (l .m1)) (stateCount (l .m2)) last d′ e′ → Stays d d′ → expandOf l (w .session) (w .memory) n ≡ stored (w .session) n d′ → expandOf l (v .session) (v .memory) n ≡ stored (v .session) n e′
         → (newPart (v .session .used) (e′ .used) ≡ newPart (w .session .used) (d′ .used)) × Same l c (worldOf (stored (w .session) n d′)) (worldOf (stored (v .session) n e′))
-    unfolding mark
+    unfolding markWith
     grown d′ e′ t more p q =
         let used′ : e′ .used ≡ d′ .used = λ i. record { states = t .alike .states i; trs = t .alike .trs i } in
         let parts : newPart (v .session .used) (e′ .used) ≡ newPart (w .session .used) (d′ .used) = ap₂ newPart (ap (λ (s : Session). s .used) (h .session)) used′ in
@@ -125,7 +122,7 @@ module _ (l : Lent) (c : Composition) (w v : World) (h : Same l c w v) where
             kept1 = subst (λ (o : Outcome Part). KeptWorld l c (worldOf o)) p (a .kept);
             kept2 = subst (λ (o : Outcome Part). KeptWorld l c (worldOf o)) q (b .kept);
             alike = subst (λ (r : Part). Alike (mark d′ n (newPart (w .session .used) (d′ .used) .first)) (mark e′ n (r .first))) (sym parts)
-                (mark-alike narrow d′ e′ (t .form1) (t .form2) n (newPart (w .session .used) (d′ .used) .first) (omega (arith, found, more .states)) (new-low (w .session .used) (d′ .used) (more .trs)) (t .alike));
+                (mark-alike d′ e′ (t .form1) (t .form2) n (newPart (w .session .used) (d′ .used) .first) (omega (arith, found, more .states)) (new-low (w .session .used) (d′ .used) (more .trs)) (t .alike));
             room = roomier-grows w v W X (subst (λ (o : Outcome Part). Grows w (worldOf o)) p (a .grows)) (subst (λ (o : Outcome Part). Grows v (worldOf o)) q (b .grows)) (h .room);
           },
         )
@@ -169,7 +166,7 @@ module _ (l : Lent) (c : Composition) (w v : World) (h : Same l c w v) where
 
   -- final weight
   same-final : (n : ℕ) → finalWeightOf l (v .session) (v .memory) n .answer ≡ finalWeightOf l (w .session) (w .memory) n .answer
-  unfolding finalWeightOf enteredAt
+  unfolding finalWeightWith enteredAtWith
   same-final n = go (decLt n (w .session .used .states))
     where
       on : (o : Checked (Option ℕ)) → settle (v .session) (v .memory) (andThen o (λ x. good (unchanged (v .session) (v .memory) x))) .answer ≡ settle (w .session) (w .memory) (andThen o (λ x. good (unchanged (w .session) (w .memory) x))) .answer
@@ -189,7 +186,7 @@ module _ (l : Lent) (c : Composition) (w v : World) (h : Same l c w v) where
 
   -- handing back
   pub records-two : (n : ℕ) → recordsOf l (v .session) (v .memory) n ≡ recordsOf l (w .session) (w .memory) n
-  unfolding recordsOf enteredAt
+  unfolding recordsWith enteredAtWith
   records-two n = go (decLt n (w .session .used .states))
     where
       go : Dec (n < w .session .used .states) → recordsOf l (v .session) (v .memory) n ≡ recordsOf l (w .session) (w .memory) n
@@ -201,7 +198,7 @@ module _ (l : Lent) (c : Composition) (w v : World) (h : Same l c w v) where
 
   -- an opening that is refused in the first: by 1 to 7, which look at no memory, or by 13
   pub open-two : (s : Settings) (k : Lent) → Refused (openOf s k (w .session) (w .memory) .answer) → Agrees l c (openOf s k (w .session) (w .memory)) (openOf s k (v .session) (v .memory))
-  unfolding openOf
+  unfolding openWith
   open-two s k =
       by-open s k (w .session) (w .memory) (λ (o : Outcome (Unit {0})). Refused (o .answer) → Agrees l c o (openOf s k (v .session) (v .memory)))
       (λ n x r. inr (rw x (refl, h))) (λ side x y r. absurd r) (λ side t x y r. inl refl) (λ side t x y b r. absurd r)

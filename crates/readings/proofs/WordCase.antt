@@ -51,12 +51,12 @@ abbrev got : Session
 got = session (plain 0 2) 7 8 9
 
 abbrev memory : Memory
-memory = record { heads = 9 ∷ 9 ∷ []; states = replicate 12 8; trs = replicate 23 8 }
+memory = record { heads = 9 ∷ 9 ∷ []; states = replicate 14 8; trs = replicate 23 8 }
 
 abbrev left : World
 left =
     world (session (plain 1 0) 1 2 4) (2 ∷ 0 ∷ [])
-    (0 ∷ 0 ∷ 1 ∷ 1 ∷ 0 ∷ 65537 ∷ 0 ∷ 1 ∷ 0 ∷ 1 ∷ 8 ∷ 8 ∷ [])
+    (0 ∷ 0 ∷ 0 ∷ 1 ∷ 1 ∷ 0 ∷ 1 ∷ 1 ∷ 0 ∷ 1 ∷ 0 ∷ 1 ∷ 8 ∷ 8 ∷ [])
     (1 ∷ 9 ∷ 10 ∷ 1 ∷ 2 ∷ 1 ∷ 9 ∷ 15 ∷ 1 ∷ 3 ∷ 1 ∷ 9 ∷ 4 ∷ 1 ∷ 4 ∷ 1 ∷ 9 ∷ 28 ∷ 1 ∷ 0 ∷ 8 ∷ 8 ∷ 8 ∷ [])
 
 opens : openOf set lent got memory .answer ≡ good tt

@@ -12,10 +12,10 @@ use Rattle.words.specs.Labels.{Checked, good, refused}
 use Rattle.words.specs.Machines.{limit}
 use Rattle.words.specs.Settings.{Lent}
 use Rattle.words.specs.Steps.{Composition}
-use Rattle.calls.specs.Store.{Memory, Store, Part, trSize, roomOf, trRoom, firstAt, expandedAt, partAt}
+use Rattle.calls.specs.Store.{Memory, Store, Part, trSize, roomOf, firstAt, expandedAt, partAt, partWith, roomWith, trRoomWith}
 use Rattle.calls.specs.Checks.{Session, storeOf, enteredAt}
-use Rattle.calls.specs.Calls.{openOf, expandOf, finalWeightOf, runOf, wordsOfPart, recordsBy, recordsOf}
-use Rattle.calls.specs.Sequences.{World, Call, opening, expand, finalWeight, records, run, Said, accepted, part, weight, answered, handed, saidOf, callOf, replies, after}
+use Rattle.calls.specs.Calls.{openOf, expandOf, finalWeightOf, runOf, wordsOfPart, recordsBy, recordsOf, recordsWith}
+use Rattle.calls.specs.Sequences.{World, Call, opening, expand, finalWeight, records, run, Said, accepted, part, weight, answered, handed, saidOf, callOf, replies, after, afterWith, callWith, repliesWith}
 use Rattle.calls.proofs.RecordLaws.{room-words}
 use Rattle.calls.proofs.ExpandKept.{entered-is}
 use Rattle.calls.proofs.Parts.{part-within}
@@ -27,11 +27,11 @@ use Rattle.rinkolza.proofs.Numbers.{Numbered, open-numbered, expand-num
 
 -- no words, no part
 none-handed : (trs states : List ℕ) (n : ℕ) → wordsOfPart trs (handedPart states n []) ≡ []
-unfolding roomOf
+unfolding roomWith
 none-handed trs states n = refl
 
 pub room-of : (trs : List ℕ) (a k : ℕ) → a + trSize * k ≤ length trs → k ≤ limit → roomOf trSize (take (trSize * k) (drop a trs)) ≡ k
-unfolding roomOf
+unfolding roomWith
 room-of trs a k h f = omega (arith, length-take (trSize * k) (drop a trs), length-drop a trs, h, f)
 
 -- the words of a part that lies within the slice name it
@@ -45,7 +45,7 @@ part-handed trs states n p e within few = go (p .count) refl (room-of trs (trSiz
 
 -- handing back in words: the part that the answer names holds the words that are handed back
 pub handed-part : (l : Lent) (s : Session) (m : Memory) (n : ℕ) → wordsOfPart (m .trs) (handedPart (m .states) n (recordsOf l s m n)) ≡ recordsOf l s m n
-unfolding recordsOf trRoom partAt
+unfolding recordsWith trRoomWith partWith
 handed-part l s m n = go (enteredAt l s m n) refl
   where
     d : Store
@@ -88,7 +88,7 @@ pub record Same (l : Lent) (w : World) (c : Call) (x : Left) : Type 0 where
   pub memory : x .memory ≡ callOf l w c .world .memory
 
 pub exported-same : (l : Lent) (s : Session) (m : Memory) (a b : ℕ) (c : Call) → Same l (record { session = s; memory = m }) c (exported l (sessionWords s) (a ∷ b ∷ []) m c)
-unfolding callOf openWords expandWords finalWeightWords runWords recordsWords
+unfolding callWith openWords expandWords finalWeightWords runWords recordsWords
 exported-same l s m a b (opening t k) = record { reply = ap (λ (x : Said). answered x (openOf t k s m .session)) (said-alone (openOf t k s m .answer) (open-numbered t k s m)); session = refl; memory = refl }
 exported-same l s m a b (expand n) = record { reply = ap (λ (x : Said). answered x (expandOf l s m n .session)) (said-part (a ∷ b ∷ []) (expandOf l s m n .answer) (expand-numbered l s m n)); session = refl; memory = refl }
 exported-same l s m a b (finalWeight n) = record { reply = ap (λ (x : Said). answered x (finalWeightOf l s m n .session)) (said-weight (a ∷ b ∷ []) (finalWeightOf l s m n .answer) (final-numbered l s m n)); session = refl; memory = refl }
@@ -97,7 +97,7 @@ exported-same l s m a b run = record { reply = ap (λ (x : Said). answered x (ru
 
 -- A list of exported calls: what the caller reads off is what the list of calls replies. So demand 3, a claim about those replies, carries over.
 pub heard-all : (l : Lent) (s : Session) (m : Memory) (ds : List CallMade) → heardAll ds (lefts l (sessionWords s) m ds) ≡ replies l (record { session = s; memory = m }) (map (λ d. d .call) ds)
-unfolding lefts heardAll replies
+unfolding lefts heardAll repliesWith
 heard-all l s m [] = refl
 heard-all l s m (d ∷ ds) =
     let x = exported l (sessionWords s) (d .first ∷ d .second ∷ []) m (d .call) in
@@ -108,7 +108,7 @@ heard-all l s m (d ∷ ds) =
 -- and the words held after it are those of the world after it
 pub held-after : (l : Lent) (s : Session) (m : Memory) (ds : List CallMade)
     → let w = after l (record { session = s; memory = m }) (map (λ d. d .call) ds) in heldAfter l (sessionWords s) m ds ≡ record { session = sessionWords (w .session); memory = w .memory }
-unfolding heldAfter after
+unfolding heldAfter afterWith
 held-after l s m [] = refl
 held-after l s m (d ∷ ds) =
     let w = callOf l (record { session = s; memory = m }) (d .call) .world in

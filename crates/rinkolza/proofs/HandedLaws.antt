@@ -12,10 +12,10 @@ use borrow.Author.Tests.{eq-eqb, ne-eqb}
 use Rattle.words.specs.Labels.{Checked, good, refused}
 use Rattle.words.specs.Settings.{Lent}
 use Rattle.words.specs.Steps.{Composition}
-use Rattle.calls.specs.Store.{Memory, Part, trSize, roomOf, trRoom, expandedAt, firstAt, partAt}
+use Rattle.calls.specs.Store.{Memory, Part, trSize, roomOf, expandedAt, firstAt, partAt, partWith, roomWith, trRoomWith}
 use Rattle.calls.specs.Checks.{Session, storeOf, enteredAt}
-use Rattle.calls.specs.Calls.{Outcome, wordsOfPart, expandOf, recordsOf}
-use Rattle.calls.specs.Sequences.{World, expand, records, part, answered, handed, turnOf, callOf}
+use Rattle.calls.specs.Calls.{Outcome, wordsOfPart, expandOf, recordsOf, expandWith, recordsWith}
+use Rattle.calls.specs.Sequences.{World, expand, records, part, answered, handed, turnOf, callOf, callWith}
 use Rattle.calls.proofs.RecordLaws.{room-words}
 use Rattle.calls.proofs.ExpandKept.{entered-is}
 use Rattle.calls.proofs.Parts.{part-within}
@@ -24,13 +24,13 @@ use Rattle.rinkolza.specs.Exported.{sessionWords, partWords, handedPart,
 use Rattle.rinkolza.proofs.CallerLaws.{room-of}
 
 none-room : roomOf trSize [] ≡ 0
-unfolding roomOf
+unfolding roomWith
 none-room = refl
 
 -- the words of an expanded state name its list
 part-is : (l : Lent) (s : Session) (m : Memory) (n : ℕ) (c : Composition) → enteredAt l s m n ≡ good c
     → let p = partAt (storeOf s m) n in roomOf trSize (wordsOfPart (m .trs) p) ≢ 0 → handedPart (m .states) n (wordsOfPart (m .trs) p) ≡ p
-unfolding trRoom partAt
+unfolding trRoomWith partWith
 part-is l s m n c e any =
     let d = storeOf s m in
     let p = partAt d n in
@@ -44,7 +44,7 @@ part-is l s m n c e any =
 -- where the part that is named has a record, expand answers it and changes nothing
 pub names-part : (l : Lent) (s : Session) (m : Memory) (n : ℕ) → roomOf trSize (recordsOf l s m n) ≢ 0
     → expandOf l s m n ≡ record { answer = good (handedPart (m .states) n (recordsOf l s m n)); session = s; memory = m }
-unfolding recordsOf expandOf
+unfolding recordsWith expandWith
 names-part l s m n = by-checks (enteredAt l s m n) refl (eqb (expandedAt (m .states) n) 1) refl
   where
     by-checks : (x : Checked Composition) → enteredAt l s m n ≡ x → (b : Bool) → eqb (expandedAt (m .states) n) 1 ≡ b → roomOf trSize (recordsOf l s m n) ≢ 0
@@ -65,7 +65,7 @@ part-said e = cc
 pub records-alike : (l : Lent) (w v : World) (n a b c d : ℕ) → callOf l v (records n) .reply ≡ callOf l w (records n) .reply
     → ((p : Part) → callOf l w (expand n) .reply ≡ answered (part p) (w .session) → callOf l v (expand n) .reply ≡ callOf l w (expand n) .reply)
     → recordsWords l (sessionWords (v .session)) (c ∷ d ∷ []) (v .memory) n ≡ recordsWords l (sessionWords (w .session)) (a ∷ b ∷ []) (w .memory) n
-unfolding callOf recordsWords
+unfolding callWith recordsWords
 records-alike l w v n a b c d same again = ap partWords (go (ℕ-discrete (roomOf trSize (recordsOf l (w .session) (w .memory) n)) 0))
   where
     words : recordsOf l (v .session) (v .memory) n ≡ recordsOf l (w .session) (w .memory) n

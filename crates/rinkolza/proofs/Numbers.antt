@@ -12,8 +12,8 @@ use Rattle.words.specs.Sigmas.{Operand, isSet}
 use Rattle.words.specs.Steps.{Composition, Triple, stepsAt, startAt, finalAt}
 use Rattle.words.specs.Settings.{Settings, settingsOk, Lent, operand1, operand2, compositionOf}
 use Rattle.calls.specs.Store.{Memory, Part, stateRoom, tripleAt, expandedAt}
-use Rattle.calls.specs.Checks.{Session, storeOf, sideFor, sessionOk, entered, enteredAt}
-use Rattle.calls.specs.Calls.{Done, settle, unchanged, begun, opened, openOf, storeSteps, expansion, expandBy, expandOf, finalWeightOf, onward, runBy, runFrom, runAfter, runOf}
+use Rattle.calls.specs.Checks.{Session, storeOf, sideFor, sessionOk, entered, enteredAt, enteredAtWith, enteredWith, sideForWith}
+use Rattle.calls.specs.Calls.{Done, settle, unchanged, begun, opened, openOf, storeSteps, expandBy, expandOf, finalWeightOf, onward, runBy, runFrom, runAfter, runOf, begunWith, expandWith, expansionWith, finalWeightWith, openWith, runFromWith, runWith}
 use Rattle.lazy_fst.proofs.CallLaws.{at-entered}
 use Rattle.calls.proofs.ExpandCases.{store-refusals, final-refusals}
 
@@ -48,7 +48,7 @@ side-by false false false true = tt
 side-by false false false false = (omega arith, omega arith)
 
 side-numbered : (s : Settings) (l : Lent) → Numbered (sideFor s l)
-unfolding sideFor sideOf
+unfolding sideForWith sideOf
 side-numbered s l =
     checked (not (settingsOk s)) 1 _ (omega arith, omega arith)
     (checked (not (wellFormed (l .m1))) 2 _ (omega arith, omega arith)
@@ -65,16 +65,16 @@ side-numbered s l =
     B = operand2 s l
 
 entered-numbered : (l : Lent) (s : Session) (m : Memory) → Numbered (entered l s m)
-unfolding entered
+unfolding enteredWith
 entered-numbered l s m =
     and-then (sideFor (s .settings) l) _ (side-numbered (s .settings) l) (λ side e. checked (not (sessionOk l s m side)) 8 _ (omega arith, omega arith) tt)
 
 at-numbered : (l : Lent) (s : Session) (m : Memory) (n : ℕ) → Numbered (enteredAt l s m n)
-unfolding enteredAt
+unfolding enteredAtWith
 at-numbered l s m n = and-then (entered l s m) _ (entered-numbered l s m) (λ c e. checked (leb (s .used .states) n) 9 _ (omega arith, omega arith) tt)
 
 pub open-numbered : (s : Settings) (l : Lent) (got : Session) (m : Memory) → Numbered (openOf s l got m .answer)
-unfolding openOf begun
+unfolding openWith begunWith
 open-numbered s l got m =
     let after : Side → Checked (Done (Unit {0})) = λ side. andThen (begun m (startAt (compositionOf s l side))) (λ d. good (opened s side d)) in
     settled got m (andThen (sideFor s l) after)
@@ -86,7 +86,7 @@ open-numbered s l got m =
     began (some t) = checked (eqb (stateRoom m) 0 || not (nonEmpty (m .heads))) 13 _ (omega arith, omega arith) tt
 
 pub expand-numbered : (l : Lent) (s : Session) (m : Memory) (n : ℕ) → Numbered (expandOf l s m n .answer)
-unfolding expandOf expansion
+unfolding expandWith expansionWith
 expand-numbered l s m n =
     let after : Composition → Checked (Done Part) = λ c. expandBy c s m n (eqb (expandedAt (m .states) n) 1) in
     settled s m (andThen (enteredAt l s m n) after) (and-then (enteredAt l s m n) after (at-numbered l s m n) (λ c e. by-mark c (at-entered l s m n c e .0) (eqb (expandedAt (m .states) n) 1)))
@@ -100,7 +100,7 @@ expand-numbered l s m n =
         and-then (storeSteps (storeOf s m) (stepsAt c t)) _ (by-number (storeSteps (storeOf s m) (stepsAt c t)) (λ k x. let z = store-refusals l s m c e (storeOf s m) t k x in (omega (arith, z .0), z .1))) (λ d x. tt)
 
 pub final-numbered : (l : Lent) (s : Session) (m : Memory) (n : ℕ) → Numbered (finalWeightOf l s m n .answer)
-unfolding finalWeightOf
+unfolding finalWeightWith
 final-numbered l s m n =
     let t = tripleAt (m .states) n in
     let after : Composition → Checked (Done (Option ℕ)) = λ c. andThen (finalAt c t) (λ w. good (unchanged s m w)) in
@@ -109,7 +109,7 @@ final-numbered l s m n =
     (λ c e. and-then (finalAt c t) (λ w. good (unchanged s m w)) (by-number (finalAt c t) (λ k x. let z = final-refusals c t k x in (omega (arith, z), omega (arith, z)))) (λ w x. tt)))
 
 from-numbered : (l : Lent) (k n : ℕ) (s : Session) (m : Memory) → Numbered (runFrom l k n s m .answer)
-unfolding runFrom
+unfolding runFromWith
 from-numbered l zero n s m = tt
 from-numbered l (suc k) n s m = go (leb (s .used .states) n) (λ s′ m′. from-numbered l k (suc n) s′ m′)
   where
@@ -122,7 +122,7 @@ from-numbered l (suc k) n s m = go (leb (s .used .states) n) (λ s′ m′. from
     go false rest = on (expandOf l s m n .answer) (expand-numbered l s m n) rest
 
 pub run-numbered : (l : Lent) (s : Session) (m : Memory) → Numbered (runOf l s m .answer)
-unfolding runOf
+unfolding runWith
 run-numbered l s m = go (entered l s m) (entered-numbered l s m)
   where
     go : (x : Checked Composition) → Numbered x → Numbered (runAfter x l s m .answer)

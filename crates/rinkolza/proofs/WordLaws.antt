@@ -13,7 +13,7 @@ use Rattle.words.specs.Settings.{Lent}
 use Rattle.words.specs.Steps.{Composition, finalAt}
 use Rattle.calls.specs.Store.{Memory, tripleAt}
 use Rattle.calls.specs.Checks.{Session, enteredAt}
-use Rattle.calls.specs.Calls.{settle, unchanged, finalWeightOf}
+use Rattle.calls.specs.Calls.{settle, unchanged, finalWeightOf, finalWeightWith}
 use Rattle.rinkolza.specs.Exported.{sessionWords, sessionAt, nine, two}
 
 -- the n words of a list from place k on
@@ -45,7 +45,7 @@ both-sized w old h = (eqb-true _ _ (and-left (nine w) (two old) h), eqb-true _ _
 
 -- final weight hands back the session that it got
 pub final-session : (l : Lent) (s : Session) (m : Memory) (n : ℕ) → finalWeightOf l s m n .session ≡ s
-unfolding finalWeightOf
+unfolding finalWeightWith
 final-session l s m n = go (enteredAt l s m n)
   where
     weighed : (x : Checked (Option ℕ)) → settle s m (andThen x (λ w. good (unchanged s m w))) .session ≡ s

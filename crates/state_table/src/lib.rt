@@ -5,7 +5,7 @@ ghost use Prim.Native.Nat.{ℕ, _+_, _<_};
 ghost use Rattle.lists.specs.Lists.{first, linked};
 ghost use Rattle.calls.specs.Store.{roomOf, stateSize, tripleAt, nextAt, slot as slotOf, sameTriple, find, add};
 ghost use Rattle.compose_state_tuple.specs.Meaning.{tupleMeans};
-ghost use Rattle.store_records.specs.Meaning.{Packs, stored};
+ghost use Rattle.store_records.specs.Meaning.{stored};
 ghost use Rattle.state_table.specs.Meaning.{foundMeans};
 use compose_state_tuple::ComposeStateTuple;
 use compose_state_tuple::same_tuple;
@@ -72,7 +72,7 @@ pub fn find_id(heads: &[u32], states: &[u32], used: u32, tuple: ComposeStateTupl
 
 // A new state in the first unused record, at the head of its chain.
 pub fn add_state(heads: &mut [u32], states: &mut [u32], used: u32, tuple: ComposeStateTuple)
-    requires { ⌜ (used < roomOf stateSize (now states)) × Packs (tupleMeans tuple) ⌝ }
+    requires { ⌜ used < roomOf stateSize (now states) ⌝ }
     ensures { λ _. ⌜ (
         (trs : List ℕ) (k : ℕ) →
         let d = stored (now (heads .entry)) (now (states .entry)) trs used k in

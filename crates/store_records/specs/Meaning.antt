@@ -1,14 +1,10 @@
 -- What the code's types stand for in the definitions of `calls`, and a store made of its parts.
 use mathlib.Core.List.{List}
-use Prim.Native.Nat.{ℕ, _<_}
+use Prim.Native.Nat.{ℕ}
 use Rattle.words.specs.Steps.{Triple, Step}
 use Rattle.calls.specs.Store.{Memory, Used as Counts, Store}
 use Rattle.fst.specs.declared.tr.Tr.{Tr}
 use Rattle.store_records.specs.declared.Used.{Used}
-
--- The pair goes into one word, "s1 × 65536 + s2". The states of a machine all do: there are at most 65535.
-abbrev pub Packs : Triple → Type 0
-Packs t = (t .s1 < 65536) × (t .s2 < 65536)
 
 -- A composed transition that leads to a triple. Its record holds the number of that state, and not the triple.
 abbrev pub stepMeans : Tr → Triple → Step

@@ -1,4 +1,4 @@
-// State records: s1 × 65536 + s2, f, expanded, first transition, next. No other file knows their layout.
+// State records: s1, s2, f, expanded, first transition, next. No other file knows their layout.
 ghost use mathlib.Core.Path.{_≡_};
 ghost use mathlib.Core.List.{List};
 ghost use Prim.Native.Nat.{ℕ, _*_, _≤_, _<_};
@@ -7,7 +7,7 @@ ghost use lib.ListN.{length};
 ghost use Rattle.lists.specs.Lists.{put};
 ghost use Rattle.calls.specs.Store.{roomOf, stateSize, stateField, tripleAt, expandedAt, firstAt, nextAt, stateRecord, mark};
 ghost use Rattle.compose_state_tuple.specs.Meaning.{tupleMeans};
-ghost use Rattle.store_records.specs.Meaning.{Packs, stored};
+ghost use Rattle.store_records.specs.Meaning.{stored};
 use crate::lent::least;
 use crate::lent::store;
 use compose_state_tuple::ComposeStateTuple;
@@ -16,17 +16,19 @@ use fst::StateId;
 use fst::word;
 
 // The words of a state record, and the place of each.
-pub const STATE_SIZE: usize = 5;
+pub const STATE_SIZE: usize = 6;
 
-const STATE_PAIR: usize = 0;
+const STATE_S1: usize = 0;
 
-const STATE_F: usize = 1;
+const STATE_S2: usize = 1;
 
-const STATE_EXPANDED: usize = 2;
+const STATE_F: usize = 2;
 
-const STATE_FIRST: usize = 3;
+const STATE_EXPANDED: usize = 3;
 
-const STATE_NEXT: usize = 4;
+const STATE_FIRST: usize = 4;
+
+const STATE_NEXT: usize = 5;
 
 // How many state records there is room for.
 pub fn state_room(states: &[u32]) -> u32
@@ -46,11 +48,10 @@ fn state_word(states: &[u32], n: StateId, k: usize) -> u32
 pub fn get_tuple(states: &[u32], n: StateId) -> ComposeStateTuple
     ensures { λ r. ⌜ tupleMeans r ≡ tripleAt (now (states .entry)) (n .0) ⌝ }
 {
-    let pair = state_word(states, n, STATE_PAIR);
     ComposeStateTuple {
         fs: state_word(states, n, STATE_F),
-        s1: StateId(pair / 65536),
-        s2: StateId(pair % 65536),
+        s1: StateId(state_word(states, n, STATE_S1)),
+        s2: StateId(state_word(states, n, STATE_S2)),
     }
 }
 
@@ -82,10 +83,11 @@ pub fn next_of(states: &[u32], n: StateId) -> u32
 
 // The record of a state just found, at the front of a lent tail.
 fn write_state(tail: &mut [u32], tuple: ComposeStateTuple, next: u32)
-    requires { ⌜ (stateSize ≤ length (now tail)) × Packs (tupleMeans tuple) ⌝ }
+    requires { ⌜ stateSize ≤ length (now tail) ⌝ }
     ensures { λ _. ⌜ now (tail .exit) ≡ put (now (tail .entry)) 0 (stateRecord (tupleMeans tuple) next) ⌝ }
 {
-    tail[STATE_PAIR] = tuple.s1.0 * 65536 + tuple.s2.0;
+    tail[STATE_S1] = tuple.s1.0;
+    tail[STATE_S2] = tuple.s2.0;
     tail[STATE_F] = tuple.fs;
     tail[STATE_EXPANDED] = 0;
     tail[STATE_FIRST] = 0;
@@ -94,7 +96,7 @@ fn write_state(tail: &mut [u32], tuple: ComposeStateTuple, next: u32)
 
 // The same in the first unused record.
 pub fn push_state(states: &mut [u32], used: u32, tuple: ComposeStateTuple, next: u32)
-    requires { ⌜ (used < roomOf stateSize (now states)) × Packs (tupleMeans tuple) ⌝ }
+    requires { ⌜ used < roomOf stateSize (now states) ⌝ }
     ensures { λ _. ⌜ now (states .exit) ≡ put (now (states .entry)) (stateSize * used) (stateRecord (tupleMeans tuple) next) ⌝ }
 {
     let at = STATE_SIZE * used as usize;

@@ -7,9 +7,9 @@ use native.Mathlib.Omega.{arith}
 use lib.ListN.{length, getD, take, drop, length-drop}
 use lib.Seq.{length-take-le, getD-take, getD-drop, ext-getD}
 use Rattle.lists.specs.Lists.{linked}
-use Rattle.calls.specs.Store.{Store, stateSize, trSize, stateRoom, trRoom, stateField, trNextAt, firstPlace, firstAt, partAt}
+use Rattle.calls.specs.Store.{Store, stateSize, trSize, stateField, trNextAt, firstAt, partAt, firstWith, partWith, stateRoomWith, trRoomWith}
 use Rattle.calls.specs.Calls.{wordsOfPart}
-use Rattle.calls.proofs.RecordLaws.{room-words}
+use Rattle.calls.proofs.RecordLaws.{firstPlace, room-words}
 use Rattle.calls.proofs.StoreForms.{Form}
 use Rattle.store_records.specs.Meaning.{stored}
 use Rattle.store_records.proofs.RestLaws.{SameRecords, state-same, tr-same}
@@ -59,18 +59,18 @@ module _ {S1 S2 : ℕ} (d : Store) (form : Form S1 S2 d (d .used .trs)) (states 
   rises i h = form .tr i h .next
 
   next-rest : (i : ℕ) → i < V′ → trNextAt trs i ≡ trNextAt (d .memory .trs) i
-  unfolding trNextAt trRoom
+  unfolding trNextAt trRoomWith
   next-rest i h = tr-same same-trs i 4 (omega (arith, form .trs-fit)) (omega arith)
 
   pub part-rest : (heads : List ℕ) (u n : ℕ) → n < d .used .states → partAt (stored heads states trs u V′) n ≡ partAt d n
-  unfolding partAt firstAt stateRoom
+  unfolding partWith firstWith stateRoomWith
   part-rest heads u n h =
       let f = state-same same n firstPlace (omega (arith, form .states-fit)) (omega arith) in
       let l = linked-inside (trNextAt (d .memory .trs)) (trNextAt trs) V′ V′ (stateField (d .memory .states) n firstPlace) rises next-rest (form .state n h .first) in
       rw (f, l)
 
   pub words-rest : (n : ℕ) → n < d .used .states → wordsOfPart trs (partAt d n) ≡ wordsOfPart (d .memory .trs) (partAt d n)
-  unfolding partAt trRoom
+  unfolding partWith trRoomWith
   words-rest n h =
       let f = firstAt (d .memory .states) n in
       let c = length (linked (trNextAt (d .memory .trs)) V′ f) in

@@ -11,7 +11,7 @@ use Rattle.lists.specs.Lists.{every, interval, keepIf}
 use Rattle.lists.proofs.Members.{every-in}
 use Rattle.words.specs.Labels.{MAX, Checked, good, refused}
 use Rattle.words.specs.Weights.{cost, count, times}
-use Rattle.words.specs.Machines.{stateCount, trCount, startWord, sideMark, acceptorMark, stateWord, trWord, firstOk, nextOk, firstOf, nextOf, listBy, listFrom, listOf, noFall, sorted, stateOk, trOk, acceptor, marksOk, sizeOk, wellFormed}
+use Rattle.words.specs.Machines.{stateCount, trCount, startWord, sideMark, acceptorMark, stateWord, trWord, firstOk, nextOk, firstOf, nextOf, listBy, listFrom, listOf, noFall, sorted, stateOk, trOk, acceptor, marksOk, wellFormed, sizeUpTo, wellFormedUpTo}
 use Rattle.words.specs.Matches.{MatchType, inputs, outputs, labelled}
 use Rattle.words.specs.Sigmas.{has, isAllowed, sigmaTrs}
 use Rattle.words.specs.Sides.{Side, only, both, sideOf, directionAt}
@@ -84,11 +84,11 @@ malformedOnes =
     ∷ []
 
 well-formed-hold : every wellFormed wellFormedOnes ≡ true
-unfolding wellFormedOnes wellFormed sizeOk stateOk trOk marksOk acceptor every interval sorted noFall sideMark acceptorMark stateCount trCount startWord stateWord trWord firstOk nextOk firstOf nextOf listBy listFrom listOf
+unfolding wellFormedOnes wellFormedUpTo sizeUpTo stateOk trOk marksOk acceptor every interval sorted noFall sideMark acceptorMark stateCount trCount startWord stateWord trWord firstOk nextOk firstOf nextOf listBy listFrom listOf
 well-formed-hold = refl
 
 malformed-hold : every (λ m. not (wellFormed m)) malformedOnes ≡ true
-unfolding malformedOnes wellFormed sizeOk stateOk trOk marksOk acceptor every interval sorted noFall sideMark acceptorMark stateCount trCount startWord stateWord trWord firstOk nextOk firstOf nextOf listBy listFrom listOf
+unfolding malformedOnes wellFormedUpTo sizeUpTo stateOk trOk marksOk acceptor every interval sorted noFall sideMark acceptorMark stateCount trCount startWord stateWord trWord firstOk nextOk firstOf nextOf listBy listFrom listOf
 malformed-hold = refl
 
 pub well-formed-ones : (m : List ℕ) → In m wellFormedOnes → wellFormed m ≡ true

@@ -11,7 +11,7 @@ use Rattle.lists.specs.Lists.{every, interval}
 use Rattle.lists.proofs.Members.{and-left, and-right, every-in, in-interval}
 use Rattle.words.specs.Labels.{MAX}
 use Rattle.words.specs.Matches.{MatchType, inputs, outputs}
-use Rattle.words.specs.Machines.{limit, stateCount, trCount, startWord, sideMark, acceptorMark, stateWord, trWord, firstOk, firstOf, nextOf, machineOf, sorted, finalOk, stateOk, trOk, sideMarkOk, acceptorMarkOk, acceptor, marksOk, sizeOk, wellFormed}
+use Rattle.words.specs.Machines.{limit, stateCount, trCount, startWord, sideMark, acceptorMark, stateWord, trWord, firstOk, firstOf, nextOf, machineOf, sorted, finalOk, stateOk, trOk, sideMarkOk, acceptorMarkOk, acceptor, marksOk, sizeOk, wellFormed, sizeUpTo, wellFormedUpTo}
 
 -- the place of a record: "the length is exactly 6 + 3S + 5T", and records count from 1
 pub tr-place : (m : List ℕ) (t k : ℕ) → trWord m (suc t) k ≡ getD m (6 + 3 * stateCount m + 5 * t + k) 0
@@ -31,9 +31,9 @@ pub record TrForm (m : List ℕ) (t : ℕ) : Type 0 where
   pub next : nextOf m t ≡ trWord m t 4
 
 pub record Form (m : List ℕ) : Type 0 where
-  -- "S and T are at most 65535", in digits: no machine that a closed case can hold would show a wrong `limit`
-  pub states : stateCount m ≤ 65535
-  pub trs : trCount m ≤ 65535
+  -- S and T are at most 16777215, in digits: no machine that a closed case can hold would show a wrong `limit`
+  pub states : stateCount m ≤ 16777215
+  pub trs : trCount m ≤ 16777215
   pub words : length m ≡ 6 + 3 * stateCount m + 5 * trCount m
   pub start : startWord m ≤ stateCount m
   pub state : (s : ℕ) → s < stateCount m → StateForm m s
@@ -69,7 +69,7 @@ accepts-form m e =
     and-right (sideMarkOk (sideMark outputs m) (sorted outputs (machineOf m))) _ (and-right (sideMarkOk (sideMark inputs m) (sorted inputs (machineOf m))) _ e)
 
 pub form : (m : List ℕ) → wellFormed m ≡ true → Form m
-unfolding wellFormed sizeOk
+unfolding wellFormedUpTo sizeUpTo
 form m e =
     let size = and-left (sizeOk m) _ e in
     let e1 = and-right (sizeOk m) _ e in
@@ -89,6 +89,6 @@ form m e =
     }
 
 -- the size asks no more than `Form` says of it: with a smaller `limit` this would fail
-pub size-asks : (m : List ℕ) → stateCount m ≤ 65535 → trCount m ≤ 65535 → length m ≡ 6 + 3 * stateCount m + 5 * trCount m → sizeOk m ≡ true
-unfolding sizeOk
-size-asks m states trs words = rw (le-leb (stateCount m) 65535 states, le-leb (trCount m) 65535 trs) (eq-eqb _ _ words)
+pub size-asks : (m : List ℕ) → stateCount m ≤ 16777215 → trCount m ≤ 16777215 → length m ≡ 6 + 3 * stateCount m + 5 * trCount m → sizeOk m ≡ true
+unfolding sizeUpTo
+size-asks m states trs words = rw (le-leb (stateCount m) 16777215 states, le-leb (trCount m) 16777215 trs) (eq-eqb _ _ words)

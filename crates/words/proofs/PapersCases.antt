@@ -17,7 +17,7 @@ use Rattle.papers.proofs.Forms.{Meeting, pair-meets}
 use Rattle.words.specs.Labels.{MAX}
 use Rattle.words.specs.Weights.{cost}
 use Rattle.words.specs.Matches.{inputs, outputs}
-use Rattle.words.specs.Machines.{stateCount, trCount, startWord, sideMark, acceptorMark, stateWord, trWord, firstOk, nextOk, firstOf, nextOf, listBy, listFrom, listOf, noFall, sorted, stateOk, trOk, acceptor, marksOk, sizeOk, wellFormed}
+use Rattle.words.specs.Machines.{stateCount, trCount, startWord, sideMark, acceptorMark, stateWord, trWord, firstOk, nextOk, firstOf, nextOf, listBy, listFrom, listOf, noFall, sorted, stateOk, trOk, acceptor, marksOk, sizeUpTo, wellFormedUpTo}
 use Rattle.words.specs.Sides.{only, sideOf, directionAt}
 use Rattle.words.specs.Sigmas.{inner}
 use Rattle.words.specs.Steps.{Composition}
@@ -46,7 +46,7 @@ abbrev pub listing : Composition
 listing = compositionOf (settings MAX) (lent listed1 listed2) (only outputs)
 
 pub listing-sound : Composable listing
-unfolding sideOf wellFormed sizeOk stateOk trOk marksOk acceptor every interval sorted noFall sideMark acceptorMark stateCount trCount startWord stateWord trWord firstOk nextOk firstOf nextOf listBy listFrom listOf
+unfolding sideOf wellFormedUpTo sizeUpTo stateOk trOk marksOk acceptor every interval sorted noFall sideMark acceptorMark stateCount trCount startWord stateWord trWord firstOk nextOk firstOf nextOf listBy listFrom listOf
 listing-sound = sound-of (settings MAX) (lent listed1 listed2) (only outputs) refl refl refl
 
 -- the four states of the listing: 1 alone, 2 alone, the label 5
@@ -83,7 +83,7 @@ abbrev pub sigmas : Composition
 sigmas = compositionOf (settings 9) served (only inputs)
 
 pub sigmas-sound : Composable sigmas
-unfolding sideOf wellFormed sizeOk stateOk trOk marksOk acceptor every interval sorted noFall sideMark acceptorMark stateCount trCount startWord stateWord trWord firstOk nextOk firstOf nextOf listBy listFrom listOf
+unfolding sideOf wellFormedUpTo sizeUpTo stateOk trOk marksOk acceptor every interval sorted noFall sideMark acceptorMark stateCount trCount startWord stateWord trWord firstOk nextOk firstOf nextOf listBy listFrom listOf
 sigmas-sound = sound-of (settings 9) served (only inputs) refl refl refl
 
 abbrev origin : Triple

@@ -5,13 +5,13 @@ use mathlib.Core.List.{List·Memᴰ as In}
 use Rattle.lists.specs.Lists.{every}
 use Rattle.lists.proofs.Members.{and-right, every-in}
 use Rattle.lists.proofs.Compare.{eqList, eqList-eq}
-use Rattle.words.specs.Machines.{wellFormed, sizeOk, stateOk, trOk, marksOk, acceptor}
+use Rattle.words.specs.Machines.{wellFormed, stateOk, trOk, marksOk, acceptor, sizeUpTo, wellFormedUpTo}
 use Rattle.words.specs.Settings.{settingsOk}
 use Rattle.words.proofs.Cases.{Case, answer, holds}
 use Rattle.words.proofs.RustCases.{rustCases}
 
 all-hold : every holds rustCases ≡ true
-unfolding holds answer eqList every settingsOk wellFormed sizeOk stateOk trOk marksOk acceptor rustCases
+unfolding holds answer eqList every settingsOk wellFormedUpTo sizeUpTo stateOk trOk marksOk acceptor rustCases
 all-hold = refl
 
 -- the answer at each of the Rust's cases is the Rust's

@@ -10,9 +10,9 @@ use Rattle.papers.specs.Machine.{Machine}
 use Rattle.words.specs.Labels.{noLabel}
 use Rattle.words.specs.Matches.{MatchType, inputs, outputs, labelOn}
 
--- "S and T are at most 65535"
+-- "S and T are at most 65535" is now: "The limit on states, transitions and records of each sort becomes 16777215" (02, 2.9)
 abbrev pub limit : ℕ
-limit = 65535
+limit = 16777215
 
 -- "the length is exactly 6 + 3S + 5T": the words of the header, of a state's record, of a transition's record
 abbrev pub headerWords : ℕ
@@ -146,15 +146,22 @@ marksOk m =
     sideMarkOk (sideMark inputs m) (sorted inputs (machineOf m))
     && (sideMarkOk (sideMark outputs m) (sorted outputs (machineOf m)) && acceptorMarkOk (acceptorMark m) (acceptor m))
 
--- "S and T are at most 65535 and the length is exactly 6 + 3S + 5T."
-unfoldable pub sizeOk : List ℕ → Bool
-sizeOk m = leb (stateCount m) limit && (leb (trCount m) limit && eqb (length m) (headerWords + stateWords * stateCount m + trWords * trCount m))
+-- S and T "are at most" the limit "and the length is exactly 6 + 3S + 5T."
+unfoldable pub sizeUpTo : ℕ → List ℕ → Bool
+sizeUpTo most m = leb (stateCount m) most && (leb (trCount m) most && eqb (length m) (headerWords + stateWords * stateCount m + trWords * trCount m))
 
 -- "Start plus one is at most S, a first at most T, a target below S. Anything else, a label MAX or a false mark included, is malformed."
-unfoldable pub wellFormed : List ℕ → Bool
-wellFormed m =
-    sizeOk m
+unfoldable pub wellFormedUpTo : ℕ → List ℕ → Bool
+wellFormedUpTo most m =
+    sizeUpTo most m
     && (leb (startWord m) (stateCount m)
     && (every (stateOk m) (interval 0 (stateCount m))
     && (every (trOk m) (interval 1 (trCount m))
     && marksOk m)))
+
+-- the same up to the limit that holds
+abbrev pub sizeOk : List ℕ → Bool
+sizeOk = sizeUpTo limit
+
+abbrev pub wellFormed : List ℕ → Bool
+wellFormed = wellFormedUpTo limit

@@ -1,11 +1,11 @@
 -- The piece from state 0 on, of as many states as there is room for.
-use Rattle.calls.specs.Store.{stateRoom}
+use Rattle.calls.specs.Store.{stateRoomWith}
 use borrow.Author.Needs.{needs}
 use Rattle.compose_run.proofs.compute.Statement.{statement}
 use Rattle.compose_run.proofs.compute.Tie as tie
 
 returns : tie.Need-returns
-unfolding stateRoom
+unfolding stateRoomWith
 returns c = rw (← c .before .before .before .before .before .before .before .before .before .before .state-room .ensures) (c .before .before .before .before .before .before .compute-from .ensures .0)
 
 pub compute-spec : {M : Type 1} → statement M

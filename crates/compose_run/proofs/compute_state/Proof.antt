@@ -3,7 +3,7 @@ use mathlib.Core.Path.{sym, _∙_}
 use denote.Ref.{now}
 use Rattle.store_records.specs.Meaning.{memoryOf}
 use Rattle.compose_fst_op.specs.Composing.{lentOf}
-use Rattle.compose_store.specs.Meaning.{sessionUnder, leftBy}
+use Rattle.compose_store.specs.Meaning.{sessionUnder}
 use Rattle.compose_run.proofs.RunTurns.{turn-listed, turn-new}
 use borrow.Author.Needs.{needs}
 use Rattle.compose_run.proofs.compute_state.Statement.{statement}

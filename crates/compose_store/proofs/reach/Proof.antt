@@ -3,7 +3,7 @@ use mathlib.Core.Path.{sym, _∙_, ap}
 use mathlib.Core.List.{[]}
 use native.Mathlib.Omega.{arith}
 use Rattle.words.specs.Labels.{good}
-use Rattle.calls.specs.Store.{Store, stateSize, stateRoom}
+use Rattle.calls.specs.Store.{Store, stateSize, stateRoomWith}
 use Rattle.calls.proofs.RecordLaws.{room-words}
 use Rattle.compose_state_tuple.specs.Meaning.{tupleMeans}
 use Rattle.store_records.specs.Meaning.{stored}
@@ -13,18 +13,18 @@ use Rattle.compose_store.proofs.reach.Statement.{statement}
 use Rattle.compose_store.proofs.reach.Tie as tie
 
 add-state-requires : tie.Need-add-state-requires
-unfolding stateRoom
+unfolding stateRoomWith
 add-state-requires c κs =
     let p = c .before .before .before .before .before .before .before .before .before .pre in
     let a = c .before .before .before .before .before .before .before .before .before .args in
-    (new-room (stored (a .heads .now) (a .states .now) [] (a .used) 0) (tupleMeans (a .tuple)) (sym (rw (c .before .before .enum-told .given .1) at (c .before .before .before .before .find-id .ensures [] 0))) (p .0 [] 0), (p .1, p .2))
+    new-room (stored (a .heads .now) (a .states .now) [] (a .used) 0) (tupleMeans (a .tuple)) (sym (rw (c .before .before .enum-told .given .1) at (c .before .before .before .before .find-id .ensures [] 0))) (p [] 0)
 
 add-t18 : tie.Need-add-t18
-unfolding stateRoom
+unfolding stateRoomWith
 add-t18 c =
     let p = c .before .before .before .before .before .before .before .before .before .before .before .before .before .before .pre in
     let a = c .before .before .before .before .before .before .before .before .before .before .before .before .before .before .args in
-    let r = new-room (stored (a .heads .now) (a .states .now) [] (a .used) 0) (tupleMeans (a .tuple)) (sym (rw (c .before .before .before .before .before .before .before .enum-told .given .1) at (c .before .before .before .before .before .before .before .before .before .find-id .ensures [] 0))) (p .0 [] 0) in
+    let r = new-room (stored (a .heads .now) (a .states .now) [] (a .used) 0) (tupleMeans (a .tuple)) (sym (rw (c .before .before .before .before .before .before .before .enum-told .given .1) at (c .before .before .before .before .before .before .before .before .before .find-id .ensures [] 0))) (p [] 0) in
     omega (arith, r, room-words stateSize (a .states .now) _ r .0)
 
 returns : tie.Need-returns
@@ -39,7 +39,7 @@ returns-2 c =
     λ trs k.
     let lacks = sym (rw (c .before .before .before .before .before .before .before .enum-told .given .1) at (c .before .before .before .before .before .before .before .before .before .find-id .ensures trs k)) in
     let d = stored (a .heads .now) (a .states .now) trs (a .used) k in
-    ap (λ (e : Store). good (record { store = e; state = a .used })) (c .before .before .before .before .add-state .ensures trs k) ∙ sym (reach-new d (tupleMeans (a .tuple)) lacks (new-room d (tupleMeans (a .tuple)) lacks (p .0 trs k)))
+    ap (λ (e : Store). good (record { store = e; state = a .used })) (c .before .before .before .before .add-state .ensures trs k) ∙ sym (reach-new d (tupleMeans (a .tuple)) lacks (new-room d (tupleMeans (a .tuple)) lacks (p trs k)))
 
 pub reach-spec : {M : Type 1} → statement M
 reach-spec =

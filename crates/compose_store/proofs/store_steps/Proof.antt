@@ -1,6 +1,6 @@
 -- What is left to store, from the answer in hand on, leaves what all of it does. The first step of an accepted rest is accepted, and no refusal comes.
 use mathlib.Core.Path.{_≡_, refl, sym, _∙_, subst}
-use mathlib.Core.List.{[], _∷_}
+use mathlib.Core.List.{[]}
 use native.Mathlib.Omega.{arith}
 use lib.ListN.{length}
 use Rattle.words.specs.Labels.{good}
@@ -9,8 +9,8 @@ use Rattle.store_records.specs.Meaning.{stored}
 use Rattle.compose_fst_op.specs.Composing.{optionSettings, lentOf}
 use Rattle.compose_moves.specs.Cursors.{stepsLeft, nextMeans}
 use Rattle.compose_moves.specs.Moves.{composeTrMeans}
-use Rattle.compose_store.specs.Meaning.{Accepted, Narrow}
-use Rattle.compose_store.proofs.StoreTurns.{askedLeft, follows, first-accepted, no-refusal, store-turn, left-all, left-less, narrow-left, none-stored}
+use Rattle.compose_store.specs.Meaning.{Accepted}
+use Rattle.compose_store.proofs.StoreTurns.{askedLeft, follows, first-accepted, no-refusal, store-turn, left-all, left-less, none-stored}
 use borrow.Author.Needs.{needs}
 use Rattle.compose_store.proofs.store_steps.Statement.{statement}
 use Rattle.compose_store.proofs.store_steps.Tie as tie
@@ -18,7 +18,6 @@ use Rattle.compose_store.proofs.store_steps.Tie as tie
 abbrev Inv-loop : tie.InvT-loop
 Inv-loop m1 m2 a1 a2 options heads₀ states₀ trs₀ grown₀ ahead₀ heads states trs grown ahead =
     (length heads ≡ length heads₀) × (length states ≡ length states₀) × (length trs ≡ length trs₀)
-    × Narrow (askedLeft (nextMeans (optionSettings options) (lentOf options m1 m2 a1 a2) ahead))
     × Accepted (storeSteps (stored heads states trs (grown .states) (grown .trs)) (askedLeft (nextMeans (optionSettings options) (lentOf options m1 m2 a1 a2) ahead)))
     × (storeSteps (stored heads states trs (grown .states) (grown .trs)) (askedLeft (nextMeans (optionSettings options) (lentOf options m1 m2 a1 a2) ahead))
     ≡ storeSteps (stored heads₀ states₀ trs₀ (grown₀ .states) (grown₀ .trs)) (askedLeft (nextMeans (optionSettings options) (lentOf options m1 m2 a1 a2) ahead₀)))
@@ -36,7 +35,7 @@ loop-holds c =
     let d = stored (a .heads .now) (a .states .now) (a .trs .now) (a .used .states) (a .used .trs) in
     let all = stepsLeft S L (a .start) in
     let x = nextMeans S L (c .next-step .result) in
-    (refl, refl, refl, narrow-left all x e (p .1), subst Accepted (sym (left-all d all x e)) (p .0), refl)
+    (refl, refl, refl, subst Accepted (sym (left-all d all x e)) p, refl)
 
 returns : tie.Need-returns Inv-loop μ-loop
 returns c =
@@ -46,13 +45,13 @@ returns c =
     let L = lentOf (a .options) (a .m1 .now) (a .m2 .now) (a .a1 .now) (a .a2 .now) in
     let d = stored (a .heads .now) (a .states .now) (a .trs .now) (a .used .states) (a .used .trs) in
     sym (none-stored (stored (l .heads) (l .states) (l .trs) (l .grown .states) (l .grown .trs)))
-    ∙ (rw (c .enum-told .given .1) at (l .inv .5))
+    ∙ (rw (c .enum-told .given .1) at (l .inv .4))
     ∙ left-all d (stepsLeft S L (a .start)) (nextMeans S L (c .before .before .before .next-step .result)) (c .before .before .before .next-step .ensures)
 
 returns-2 : tie.Need-returns-2 Inv-loop μ-loop
 returns-2 c =
     let l = c .before .before .loop in
-    absurd (no-refusal (stored (l .heads) (l .states) (l .trs) (l .grown .states) (l .grown .trs)) (c .enum-told2 .given .0 .0) [] (rw (c .enum-told2 .given .1) at (l .inv .4)))
+    absurd (no-refusal (stored (l .heads) (l .states) (l .trs) (l .grown .states) (l .grown .trs)) (c .enum-told2 .given .0 .0) [] (rw (c .enum-told2 .given .1) at (l .inv .3)))
 
 store-step-requires : tie.Need-store-step-requires Inv-loop μ-loop
 store-step-requires c κs =
@@ -64,9 +63,8 @@ store-step-requires c κs =
     let d = stored (l .heads) (l .states) (l .trs) (l .grown .states) (l .grown .trs) in
     let st = composeTrMeans (n .0 .0) in
     let others = stepsLeft S L (n .0 .1 .0) in
-    let k : Narrow (good st ∷ others) = rw (n .1) at (l .inv .3) in
     let e = c .goes-on .ensures ∙ follows S L (c .before .before .before .before .next-step2 .result) others (c .before .before .before .before .next-step2 .ensures) in
-    (subst (λ b. Accepted (storeStep d (nextFor d b) st)) (sym e) (first-accepted d st others (rw (n .1) at (l .inv .4))), k .0 .0, k .0 .1)
+    subst (λ b. Accepted (storeStep d (nextFor d b) st)) (sym e) (first-accepted d st others (rw (n .1) at (l .inv .3)))
 
 loop-less : tie.Need-loop-less Inv-loop μ-loop
 loop-less c =
@@ -92,15 +90,13 @@ loop-again c =
     let st = composeTrMeans (n .0 .0) in
     let others = stepsLeft S L (n .0 .1 .0) in
     let x = nextMeans S L (c .before .before .before .before .before .before .before .before .before .before .before .next-step2 .result) in
-    let k : Narrow (good st ∷ others) = rw (n .1) at (l .inv .3) in
     let e = c .before .before .before .before .before .before .before .goes-on .ensures ∙ follows S L (c .before .before .before .before .before .before .before .before .before .before .before .next-step2 .result) others (c .before .before .before .before .before .before .before .before .before .before .before .next-step2 .ensures) in
     let t = store-turn d f st others x (c .before .before .before .before .before .before .before .before .before .before .before .next-step2 .ensures) (subst (λ b. good f ≡ storeStep d (nextFor d b) st) e (w .ensures)) in (
       search needs,
       search needs,
       search needs,
-      narrow-left others x (c .before .before .before .before .before .before .before .before .before .before .before .next-step2 .ensures) (k .1),
-      subst Accepted (sym t) (rw (n .1) at (l .inv .4)),
-      t ∙ (rw (n .1) at (l .inv .5)),
+      subst Accepted (sym t) (rw (n .1) at (l .inv .3)),
+      t ∙ (rw (n .1) at (l .inv .4)),
     )
 
 pub store-steps-spec : {M : Type 1} → statement M

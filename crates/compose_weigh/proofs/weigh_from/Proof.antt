@@ -2,7 +2,7 @@
 use mathlib.Core.Path.{_≡_, refl, sym, _∙_}
 use Prim.Native.Nat.{_+_, _-_, _^_, _<_}
 use Rattle.words.specs.Labels.{good, refused}
-use Rattle.calls.specs.Store.{stateRoom, trRoom}
+use Rattle.calls.specs.Store.{stateRoomWith, trRoomWith}
 use Rattle.store_records.specs.Meaning.{stored}
 use Rattle.compose_fst_op.specs.Composing.{optionSettings, lentOf}
 use Rattle.compose_moves.specs.Cursors.{stepsLeft}
@@ -48,7 +48,7 @@ returns-2 c =
     ∙ l .inv .3
 
 returns-3 : tie.Need-returns-3 Inv-loop μ-loop
-unfolding trRoom
+unfolding trRoomWith
 returns-3 c =
     let a = c .before .before .before .before .before .before .before .before .before .before .before .before .before .before .before .before .before .args in
     let l = c .before .before .before .before .before .before .before .loop in
@@ -60,7 +60,7 @@ returns-3 c =
     ∙ l .inv .3
 
 returns-4 : tie.Need-returns-4 Inv-loop μ-loop
-unfolding trRoom stateRoom
+unfolding trRoomWith stateRoomWith
 returns-4 c =
     let a = c .before .before .before .before .before .before .before .before .before .before .before .before .before .before .before .before .before .before .before .before .before .before .before .args in
     let l = c .before .before .before .before .before .before .before .before .before .before .before .before .before .loop in
@@ -73,7 +73,7 @@ returns-4 c =
     ∙ l .inv .3
 
 loop-again : tie.Need-loop-again Inv-loop μ-loop
-unfolding trRoom stateRoom
+unfolding trRoomWith stateRoomWith
 loop-again c =
     let a = c .before .before .before .before .before .before .before .before .before .before .before .before .before .before .before .before .before .before .before .before .before .before .before .before .args in
     let l = c .before .before .before .before .before .before .before .before .before .before .before .before .before .before .loop in

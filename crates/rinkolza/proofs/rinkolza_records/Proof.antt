@@ -2,7 +2,7 @@
 use mathlib.Core.Path.{_∙_}
 use denote.Ref.{now}
 use borrow.Author.Tests.{eq-eqb, ne-eqb}
-use Rattle.calls.specs.Store.{roomOf}
+use Rattle.calls.specs.Store.{roomWith}
 use Rattle.calls.specs.Calls.{recordsOf}
 use Rattle.store_records.specs.Meaning.{memoryOf}
 use Rattle.lazy_fst.specs.Meaning.{lentWith}
@@ -16,7 +16,7 @@ unfolding recordsWords
 returns c = rw (ne-eqb _ _ (c .if1 .taken))
 
 returns-2 : tie.Need-returns-2
-unfolding recordsWords roomOf
+unfolding recordsWords roomWith
 returns-2 c = rw (c .before .before .write-answer .ensures, eq-eqb _ _ (c .before .before .before .before .before .if1 .left), ne-eqb _ _ (c .before .before .before .before .if2 .taken))
 
 returns-3 : tie.Need-returns-3

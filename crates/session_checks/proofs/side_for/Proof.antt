@@ -1,6 +1,6 @@
 -- The refusals in the order of `sideFor`, then the rule.
 use Rattle.fst.proofs.Tests.{fails, holds}
-use Rattle.calls.specs.Checks.{sideFor}
+use Rattle.calls.specs.Checks.{sideForWith}
 use Rattle.match_type.proofs.SideLaws.{side-of-call}
 use Rattle.session_checks.specs.Meaning.{settingsMeans, lentSlices}
 use denote.Ref.{now}
@@ -12,19 +12,19 @@ match-type-requires : tie.Need-match-type-requires
 match-type-requires c κs = (holds (c .before .before .before .before .before .well-formed .ensures) (c .before .before .before .before .if2 .left), holds (c .before .before .before .well-formed2 .ensures) (c .before .before .if3 .left))
 
 returns : tie.Need-returns
-unfolding sideFor
+unfolding sideForWith
 returns c = λ a1 a2. rw (fails (c .before .settings-ok .ensures) (c .if1 .taken))
 
 returns-2 : tie.Need-returns-2
-unfolding sideFor
+unfolding sideForWith
 returns-2 c = λ a1 a2. rw (holds (c .before .before .before .settings-ok .ensures) (c .before .before .if1 .left), fails (c .before .well-formed .ensures) (c .if2 .taken))
 
 returns-3 : tie.Need-returns-3
-unfolding sideFor
+unfolding sideForWith
 returns-3 c = λ a1 a2. rw (holds (c .before .before .before .before .before .settings-ok .ensures) (c .before .before .before .before .if1 .left), holds (c .before .before .before .well-formed .ensures) (c .before .before .if2 .left), fails (c .before .well-formed2 .ensures) (c .if3 .taken))
 
 returns-4 : tie.Need-returns-4
-unfolding sideFor
+unfolding sideForWith
 returns-4 c =
     let x = c .before .before .before .before .before .before .before .before .before .before .before .args in
     λ a1 a2. rw (holds (c .before .before .before .before .before .before .before .before .settings-ok .ensures) (c .before .before .before .before .before .before .before .if1 .left), holds (c .before .before .before .before .before .before .well-formed .ensures) (c .before .before .before .before .before .if2 .left), holds (c .before .before .before .before .well-formed2 .ensures) (c .before .before .before .if3 .left), side-of-call (settingsMeans (x .settings)) (lentSlices (now (x .m1)) (now (x .m2)) a1 a2)) (c .match-type .ensures)

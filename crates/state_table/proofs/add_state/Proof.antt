@@ -1,13 +1,13 @@
 -- The record with the old head for its next, and the new head.
 use native.Mathlib.Omega.{arith}
-use Rattle.calls.specs.Store.{headOf, add}
+use Rattle.calls.specs.Store.{headOf, addWith}
 use Rattle.calls.proofs.RecordLaws.{room-words}
 use borrow.Author.Needs.{needs}
 use Rattle.state_table.proofs.add_state.Statement.{statement}
 use Rattle.state_table.proofs.add_state.Tie as tie
 
 returns : tie.Need-returns
-unfolding add headOf
+unfolding addWith headOf
 returns c =
     let s = c .before .before in
     let p = s .before .before .before .before in
@@ -20,7 +20,7 @@ add-state-spec =
     (λ c κs. search needs)
     (λ c κs. search needs)
     (λ c κs. search needs)
-    (λ c. let r = room-words _ _ _ (c .before .before .before .before .before .before .before .before .before .before .before .pre .0) in omega (arith, r .0))
+    (λ c. let r = room-words _ _ _ (c .before .before .before .before .before .before .before .before .before .before .before .pre) in omega (arith, r .0))
     (λ c κs. search needs)
     (λ c. search needs)
     (λ c. search needs)

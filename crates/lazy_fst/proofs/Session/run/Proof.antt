@@ -3,7 +3,7 @@ use mathlib.Core.Path.{sym, _∙_, ap}
 use denote.Ref.{now}
 use Rattle.calls.specs.Store.{stateRoom}
 use Rattle.calls.specs.Checks.{Session}
-use Rattle.calls.specs.Calls.{runFrom, runOf}
+use Rattle.calls.specs.Calls.{runFrom, runWith}
 use Rattle.matchers.specs.Meaning.{allowedOf}
 use Rattle.store_records.specs.Meaning.{memoryOf}
 use Rattle.lazy_fst.specs.Meaning.{lentWith, optionsOf}
@@ -20,13 +20,13 @@ compute-requires c κs =
     rw (c .before .before .before .options-of .ensures) (g .passes)
 
 returns : tie.Need-returns
-unfolding runOf
+unfolding runWith
 returns c =
     let x = c .before .before .before .before .before .before .before .before .before .before .before .before .before .before .before .before .args in
     rw (← c .before .before .before .enter .ensures (allowedOf (x .listed .first) (now (x .allowed1))) (allowedOf (x .listed .second) (now (x .allowed2))), c .before .entered .given .1)
 
 returns-2 : tie.Need-returns-2
-unfolding runOf
+unfolding runWith
 returns-2 c =
     let x = c .before .before .before .before .before .before .before .before .before .before .before .before .before .before .before .before .before .before .before .before .before .before .before .before .before .before .before .before .args in
     let l = lentWith (now (x .m1)) (now (x .m2)) (now (x .allowed1)) (now (x .allowed2)) (x .listed) in

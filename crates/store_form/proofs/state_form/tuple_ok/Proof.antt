@@ -1,20 +1,20 @@
 -- Each part of the triple against its bound, in the order of `tripleOk`.
 use borrow.Author.Tests.{lt-ltb, le-ltb}
-use Rattle.calls.specs.Forms.{tripleOk}
+use Rattle.calls.specs.Forms.{tripleOkWith}
 use borrow.Author.Needs.{needs}
 use Rattle.store_form.proofs.state_form.tuple_ok.Statement.{statement}
 use Rattle.store_form.proofs.state_form.tuple_ok.Tie as tie
 
 returns : tie.Need-returns
-unfolding tripleOk
+unfolding tripleOkWith
 returns c = rw (← c .before .before .get-tuple .ensures, le-ltb _ _ (c .if1 .taken))
 
 returns-2 : tie.Need-returns-2
-unfolding tripleOk
+unfolding tripleOkWith
 returns-2 c = rw (← c .before .before .before .before .get-tuple .ensures, lt-ltb _ _ (c .before .before .if1 .left), le-ltb _ _ (c .if2 .taken))
 
 returns-3 : tie.Need-returns-3
-unfolding tripleOk
+unfolding tripleOkWith
 returns-3 c = rw (← c .before .before .before .before .before .get-tuple .ensures, lt-ltb _ _ (c .before .before .before .if1 .left), lt-ltb _ _ (c .before .if2 .left))
 
 pub tuple-ok-spec : {M : Type 1} → statement M

@@ -1,11 +1,11 @@
 -- The word at its place.
-use Rattle.calls.specs.Store.{expandedAt}
+use Rattle.calls.specs.Store.{expandedWith}
 use borrow.Author.Needs.{needs}
 use Rattle.store_records.proofs.state_records.expanded_word.Statement.{statement}
 use Rattle.store_records.proofs.state_records.expanded_word.Tie as tie
 
 returns : tie.Need-returns
-unfolding expandedAt
+unfolding expandedWith
 returns c = c .state-word .ensures
 
 pub expanded-word-spec : {M : Type 1} → statement M

@@ -3,13 +3,14 @@ use mathlib.Core.Path.{_≡_}
 use Prim.Native.Nat.{suc, _+_, _*_}
 use native.Mathlib.Omega.{arith}
 use Rattle.lists.specs.Lists.{put}
-use Rattle.calls.specs.Store.{stateSize, expandedPlace, firstPlace, mark}
+use Rattle.calls.specs.Store.{stateSize, expandedPlace, markWith}
+use Rattle.calls.proofs.RecordLaws.{firstPlace}
 use borrow.Author.Needs.{needs}
 use Rattle.store_records.proofs.state_records.mark_expanded.Statement.{statement}
 use Rattle.store_records.proofs.state_records.mark_expanded.Tie as tie
 
 returns : tie.Need-returns
-unfolding mark put
+unfolding markWith put
 returns c =
     let n = c .before .before .before .before .before .before .before .before .before .before .args .n .0 in
     let e : stateSize * n + firstPlace ≡ suc (stateSize * n + expandedPlace) = omega arith in

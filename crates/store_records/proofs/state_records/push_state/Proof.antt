@@ -10,18 +10,18 @@ use Rattle.store_records.proofs.state_records.push_state.Statement.{sta
 use Rattle.store_records.proofs.state_records.push_state.Tie as tie
 
 sub-write-state : tie.Need-sub-write-state
-sub-write-state c = let r = room-words _ _ _ (c .before .pre .0) in omega (arith, r .1)
+sub-write-state c = let r = room-words _ _ _ (c .before .pre) in omega (arith, r .1)
 
 part-write-state-start : tie.Need-part-write-state-start
-part-write-state-start c = let r = room-words _ _ _ (c .before .pre .0) in omega (arith, r .1)
+part-write-state-start c = let r = room-words _ _ _ (c .before .pre) in omega (arith, r .1)
 
 write-state-requires : tie.Need-write-state-requires
-write-state-requires c κs = let r = room-words _ _ _ (c .before .before .pre .0) in (omega (arith, r .1), c .before .before .pre .1)
+write-state-requires c κs = let r = room-words _ _ _ (c .before .before .pre) in omega (arith, r .1)
 
 returns : tie.Need-returns
 returns c =
     let a = c .before .before .before .before .before .args in
-    let r = room-words _ _ _ (c .before .before .before .before .before .pre .0) in
+    let r = room-words _ _ _ (c .before .before .before .before .before .pre) in
     put-back (stateSize * a .used) (a .states .now) (c .before .before .write-state .last .0) (stateRecord (tupleMeans (a .tuple)) (a .next)) (c .before .before .write-state .ensures) (omega (arith, r .1))
 
 pub push-state-spec : {M : Type 1} → statement M

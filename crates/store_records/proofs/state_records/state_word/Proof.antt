@@ -1,11 +1,11 @@
 -- The word at its place.
-use Rattle.calls.specs.Store.{stateField}
+use Rattle.calls.specs.Store.{fieldOf}
 use borrow.Author.Needs.{needs}
 use Rattle.store_records.proofs.state_records.state_word.Statement.{statement}
 use Rattle.store_records.proofs.state_records.state_word.Tie as tie
 
 returns : tie.Need-returns
-unfolding stateField
+unfolding fieldOf
 returns c = c .word .ensures
 
 pub state-word-spec : {M : Type 1} → statement M

@@ -1,4 +1,4 @@
--- Five words, one after the other.
+-- Six words, one after the other.
 use mathlib.Core.Path.{refl}
 use native.Mathlib.Omega.{arith}
 use lib.ListN.{length-set}
@@ -19,6 +19,9 @@ slice-write-tail-4 c = simp length-set (omega arith)
 slice-write-tail-5 : tie.Need-slice-write-tail-5
 slice-write-tail-5 c = simp length-set (omega arith)
 
+slice-write-tail-6 : tie.Need-slice-write-tail-6
+slice-write-tail-6 c = simp length-set (omega arith)
+
 same-length : tie.Need-same-length
 same-length c = simp length-set
 
@@ -31,11 +34,10 @@ write-state-spec =
     tie.close
     (tie.spec
     (λ c. search needs)
-    (λ c. search needs)
-    (λ c. search needs)
     slice-write-tail-2
     slice-write-tail-3
     slice-write-tail-4
     slice-write-tail-5
+    slice-write-tail-6
     same-length
     returns)

@@ -1,11 +1,11 @@
 -- Four words, each at its place.
-use Rattle.calls.specs.Store.{trField, targetAt}
+use Rattle.calls.specs.Store.{targetAt, fieldOf}
 use borrow.Author.Needs.{needs}
 use Rattle.store_records.proofs.tr_records.stored_tr.Statement.{statement}
 use Rattle.store_records.proofs.tr_records.stored_tr.Tie as tie
 
 returns : tie.Need-returns
-unfolding targetAt trField
+unfolding targetAt fieldOf
 returns c = rw (c .before .before .before .word .ensures, c .before .before .word2 .ensures, c .before .word3 .ensures, c .word4 .ensures)
 
 pub stored-tr-spec : {M : Type 1} → statement M

@@ -1,11 +1,11 @@
 -- Whole records, up to the limit.
-use Rattle.calls.specs.Store.{roomOf}
+use Rattle.calls.specs.Store.{roomWith}
 use borrow.Author.Needs.{needs}
 use Rattle.store_records.proofs.tr_records.tr_room.Statement.{statement}
 use Rattle.store_records.proofs.tr_records.tr_room.Tie as tie
 
 returns : tie.Need-returns
-unfolding roomOf
+unfolding roomWith
 returns c = c .least .ensures
 
 pub tr-room-spec : {M : Type 1} → statement M
