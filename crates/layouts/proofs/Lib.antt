@@ -1,0 +1,11 @@
+pub mod OldRecords
+pub mod SameStores
+pub mod SameSteps
+pub mod SameChecks
+pub mod SameExpansions
+pub mod SameRuns
+pub mod SameCalls
+pub mod SameOpenings
+pub mod Theorem
+pub mod Cases
+pub mod MovedCase
