@@ -27,8 +27,9 @@ fn least(n: u32, room: usize) -> u32
 }
 
 // Walks the list of each state, down to a record that an earlier walk has seen: from there on no label falls. So each record that has a bit in `seen` is
-// passed once, though lists share tails. Left by the label at the first label that falls.
-fn lists_sorted(m: &[u32], on: MatchType) -> bool
+// passed once, though lists share tails. Which have one goes by how many there are, `records`; the answer does not. Left by the label at the first label
+// that falls.
+fn lists_sorted(m: &[u32], on: MatchType, records: u32) -> bool
     ensures { λ r. ⌜ r ≡ sortedOf (onOf on) (machineOf (now (m .entry))) ⌝ }
 {
     let n = least(num_states(m), m.len() / STATE_WORDS);
@@ -44,10 +45,10 @@ fn lists_sorted(m: &[u32], on: MatchType) -> bool
                 ok = false;
                 break 'states;
             }
-            if is_seen(&seen, t) {
+            if is_seen(&seen, records, t) {
                 break 'list;
             }
-            see(&mut seen, t);
+            see(&mut seen, records, t);
             low = label;
             t = next_tr(m, t);
         }
@@ -64,7 +65,7 @@ pub fn sorted(m: &[u32], on: MatchType) -> bool
     if all_records(m, RecordTest::Rises(on), n) {
         return true;
     }
-    lists_sorted(m, on)
+    lists_sorted(m, on, n)
 }
 
 // Whether input equals output in every record, in a list or not.

@@ -1,20 +1,20 @@
 -- The limits, then the length.
 use borrow.Author.Tests.{le-leb, lt-leb}
-use Rattle.words.specs.Machines.{sizeOk}
+use Rattle.words.specs.Machines.{sizeUpTo}
 use borrow.Author.Needs.{needs}
 use Rattle.fst_properties.proofs.check.size_ok.Statement.{statement}
 use Rattle.fst_properties.proofs.check.size_ok.Tie as tie
 
 returns : tie.Need-returns
-unfolding sizeOk
+unfolding sizeUpTo
 returns c = simp (← c .before .num-states .ensures, lt-leb _ _ (c .if1 .taken))
 
 returns-2 : tie.Need-returns-2
-unfolding sizeOk
+unfolding sizeUpTo
 returns-2 c = simp (← c .before .before .before .num-states .ensures, ← c .before .num-records .ensures, le-leb _ _ (c .before .before .if1 .left), lt-leb _ _ (c .if2 .taken))
 
 returns-3 : tie.Need-returns-3
-unfolding sizeOk
+unfolding sizeUpTo
 returns-3 c = simp (← c .before .before .before .num-states .ensures, ← c .before .num-records .ensures, le-leb _ _ (c .before .before .if1 .left), le-leb _ _ (c .if2 .left))
 
 pub size-ok-spec : {M : Type 1} → statement M

@@ -5,7 +5,7 @@ use denote.Ref.{now}
 use lib.Dec.{leb}
 use Rattle.lists.specs.Lists.{every, interval}
 use Rattle.fst.proofs.Tests.{fails, holds}
-use Rattle.words.specs.Machines.{stateCount, startWord, stateOk, sizeOk, wellFormed}
+use Rattle.words.specs.Machines.{stateCount, startWord, stateOk, sizeOk, wellFormedUpTo}
 use borrow.Author.Needs.{needs}
 use Rattle.fst_properties.proofs.check.well_formed.Statement.{statement}
 use Rattle.fst_properties.proofs.check.well_formed.Tie as tie
@@ -21,26 +21,26 @@ states : (c : tie.Else3) → let m = now (c .before .before .before .before .bef
 states c = holds (c .before .states-ok .ensures) (c .if3 .left)
 
 returns : tie.Need-returns
-unfolding wellFormed
+unfolding wellFormedUpTo
 returns c = rw (fails (c .before .size-ok .ensures) (c .if1 .taken))
 
 returns-2 : tie.Need-returns-2
-unfolding wellFormed
+unfolding wellFormedUpTo
 returns-2 c = rw (size (c .before .before), fails (c .before .start-ok .ensures) (c .if2 .taken))
 
 returns-3 : tie.Need-returns-3
-unfolding wellFormed
+unfolding wellFormedUpTo
 returns-3 c = let p = c .before .before in rw (size (p .before .before), start p, fails (c .before .states-ok .ensures) (c .if3 .taken))
 
 returns-4 : tie.Need-returns-4
-unfolding wellFormed
+unfolding wellFormedUpTo
 returns-4 c =
     let p = c .before .before .before in
     let q = p .before .before in
     rw (size (q .before .before), start q, states p, ← c .before .before .num-records .ensures, fails (c .before .all-records .ensures) (c .if4 .taken))
 
 returns-5 : tie.Need-returns-5
-unfolding wellFormed
+unfolding wellFormedUpTo
 returns-5 c =
     let p = c .before .before .before .before in
     let q = p .before .before in

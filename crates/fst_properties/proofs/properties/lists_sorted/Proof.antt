@@ -22,22 +22,22 @@ use Rattle.fst_properties.proofs.properties.lists_sorted.Statement.{sta
 use Rattle.fst_properties.proofs.properties.lists_sorted.Tie as tie
 
 abbrev Inv-list : tie.InvT-list
-Inv-list m on n seen₀ ok₀ s low₀ t₀ seen ok low t =
+Inv-list m on records n seen₀ ok₀ s low₀ t₀ seen ok low t =
     (ok ≡ true)
     × (s < n)
     × (t ≤ trCount m)
-    × Walked (onOf on) m seen (low .0) t
+    × Walked (onOf on) m records seen (low .0) t
     × (fromOn (onOf on) m (low .0) t && every (listSorted (onOf on) m) (interval (s + 1) (n - (s + 1))) ≡ sorted (onOf on) (machineOf m))
 
 abbrev μ-list : tie.MeasureT-list
-μ-list m on n seen₀ ok₀ s low₀ t₀ seen ok low t = length (listFrom m t)
+μ-list m on records n seen₀ ok₀ s low₀ t₀ seen ok low t = length (listFrom m t)
 
 abbrev Inv-states : tie.InvT-states
-Inv-states m on n seen₀ ok₀ s₀ seen ok s =
-    (ok ≡ true) × (s ≤ n) × SeenSorted (onOf on) m seen × (every (listSorted (onOf on) m) (interval s (n - s)) ≡ sorted (onOf on) (machineOf m))
+Inv-states m on records n seen₀ ok₀ s₀ seen ok s =
+    (ok ≡ true) × (s ≤ n) × SeenSorted (onOf on) m records seen × (every (listSorted (onOf on) m) (interval s (n - s)) ≡ sorted (onOf on) (machineOf m))
 
 abbrev μ-states : tie.MeasureT-states
-μ-states m on n seen₀ ok₀ s₀ seen ok s = n - s
+μ-states m on records n seen₀ ok₀ s₀ seen ok s = n - s
 
 -- in a turn of the inner loop, the list is this record and the list from its link
 turn : (c : tie.In-list Inv-list μ-list Inv-states μ-states) →
@@ -53,14 +53,14 @@ ended c =
     let l = c .before .list .inv in
     ⊎-elim
     (λ w. from-end _ _ _ _ (w .left))
-    (λ w. meets _ _ _ _ _ (l .3) (w .0 .taken) (l .2) (rw (w .1 .ensures) at (w .4 .left)) (sym (w .6 .ensures) ∙ w .7 .taken))
+    (λ w. meets _ _ _ _ _ _ (l .3) (w .0 .taken) (l .2) (rw (w .1 .ensures) at (w .4 .left)) (sym (w .6 .ensures) ∙ w .7 .taken))
     (c .list-test .came)
 
 states-holds : tie.Need-states-holds Inv-list μ-list Inv-states μ-states
 states-holds c = (
   refl,
   omega arith,
-  λ u h. absurd (none-seen 2048 u h),
+  λ u h. absurd (none-seen _ 2048 u h),
   rw (sub-zero, c .least .ensures, c .before .num-states .ensures, sorted-lists) (run-cut (listSorted _ _) 0 _ _ (far-list _ _)),
 )
 
@@ -71,7 +71,7 @@ list-holds c =
     let h = c .before .states-test .taken in
     let a = c .before .before .before .before .before .before .args in
     rw (c .first-tr .ensures)
-    (l .0, h, first-inside _ _, begins _ _ _ _ _ (l .2), sym (run-turn (listSorted (onOf (a .on)) (now (a .m))) _ _ _ h) ∙ l .3)
+    (l .0, h, first-inside _ _, begins _ _ _ _ _ _ (l .2), sym (run-turn (listSorted (onOf (a .on)) (now (a .m))) _ _ _ h) ∙ l .3)
 
 list-less : tie.Need-list-less Inv-list μ-list Inv-states μ-states
 list-less c = rw (c .next-tr .ensures) (omega (arith, ap length (turn (c .before .before .before .before .before .before .before .before .before .before))))
@@ -83,7 +83,7 @@ list-again c =
     let e = p .before .list-test .taken in
     let g = rw (p .inner-label .ensures) at (c .before .before .before .before .before .before .if1 .left) in
     rw (c .next-tr .ensures, p .inner-label .ensures, c .before .see .ensures)
-    (l .0, l .1, link _ _ .inside, goes-on _ _ _ _ _ (l .3) e (l .2) g, rw (from-turn _ _ _ _ e (l .2), le-leb _ _ g) at (l .4))
+    (l .0, l .1, link _ _ .inside, goes-on _ _ _ _ _ _ (l .3) e (l .2) g, rw (from-turn _ _ _ _ e (l .2), le-leb _ _ g) at (l .4))
 
 states-again : tie.Need-states-again Inv-list μ-list Inv-states μ-states
 states-again c = let l = c .before .list .inv in (l .0, omega arith, l .3 .then (ended c), rw (ended c) at (l .4))
