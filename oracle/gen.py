@@ -22,6 +22,8 @@ import random
 import sys
 
 MAX = 4294967295
+# the most states and transitions of a machine, and records of each sort
+LIMIT = 16777215
 
 
 def falls(firsts, recs, side):
@@ -153,7 +155,7 @@ def damaged(rng, words):
             words.pop(rng.randrange(len(words)))
         elif words:
             i = rng.randrange(len(words)) if rng.random() < 0.6 else rng.randrange(min(6, len(words)))
-            words[i] = rng.choice([0, 1, 2, 3, words[i] + 1, max(0, words[i] - 1), 65535, 65536, MAX])
+            words[i] = rng.choice([0, 1, 2, 3, words[i] + 1, max(0, words[i] - 1), LIMIT, LIMIT + 1, MAX])
             words[i] = min(words[i], MAX)
     return words
 

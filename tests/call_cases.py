@@ -12,6 +12,7 @@ import subprocess
 import sys
 
 import rust
+from model import EXPANDED, FIRST, STATE_WORDS, TR_WORDS, state_record
 from state_cases import parsed
 
 SIDES = {"input": 0, "output": 1, "both": 2}
@@ -60,8 +61,8 @@ class Slices:
 
     def __init__(self, draw, states, trs):
         self.heads = [draw.choice((0, 7)) for _ in range(draw.randint(1, 4))]
-        self.states = [7] * (5 * states + draw.randint(0, 4))
-        self.trs = [7] * (5 * trs + draw.randint(0, 4))
+        self.states = [7] * (STATE_WORDS * states + draw.randrange(STATE_WORDS))
+        self.trs = [7] * (TR_WORDS * trs + draw.randrange(TR_WORDS))
         self.before = (list(self.heads), list(self.states), list(self.trs))
         self.found, self.used, self.parts = 0, 0, {}
 
@@ -72,7 +73,7 @@ class Slices:
 
     def find(self, s):
         slot = (s[0] + 31 * s[1] + s[2]) % len(self.heads)
-        self.states[5 * self.found:5 * self.found + 5] = [s[0] * 65536 + s[1], s[2], 0, 0, self.heads[slot]]
+        self.states[STATE_WORDS * self.found:STATE_WORDS * (self.found + 1)] = state_record(s, self.heads[slot])
         self.found += 1
         self.heads[slot] = self.found
 
@@ -81,14 +82,14 @@ class Slices:
         for k, (i, o, w, to) in enumerate(trs):
             while self.found <= to:
                 self.find(triples[self.found])
-            self.trs[5 * self.used:5 * self.used + 5] = [i, o, w, to, self.used + 2 if k + 1 < len(trs) else 0]
+            self.trs[TR_WORDS * self.used:TR_WORDS * (self.used + 1)] = [i, o, w, to, self.used + 2 if k + 1 < len(trs) else 0]
             self.used += 1
-        self.states[5 * n + 2:5 * n + 4] = [1, first]
+        self.states[STATE_WORDS * n + EXPANDED:STATE_WORDS * n + FIRST + 1] = [1, first]
         self.parts[n] = (first, len(trs))
 
     def records(self, n):
         first, count = self.parts.get(n, (0, 0))
-        return self.trs[5 * (first - 1):5 * (first - 1 + count)] if count else []
+        return self.trs[TR_WORDS * (first - 1):TR_WORDS * (first - 1 + count)] if count else []
 
 
 def calling(oracle, seed, count):

@@ -12,8 +12,8 @@ import random
 import sys
 
 import rust
-from machine import MAX, Words
-from model import Lent, World, room
+from machine import LIMIT, MAX, Words
+from model import FIRST, STATE_WORDS, TR_WORDS, Lent, World
 
 SEED, CASES = 1, 160
 # the numbers that each call must answer somewhere in the lists
@@ -71,7 +71,7 @@ def drawn_list(draw):
     return [draw.choice((0, 1, 2, 3, 9, MAX)) for _ in range(draw.randint(0, 3))] if draw.random() < 0.3 else None
 
 
-ODD = (0, 1, 2, 3, 4, 5, 7, 8, 9, 65535, 65536, 65537, 131072, MAX)
+ODD = (0, 1, 2, 3, 4, 5, 7, 8, 9, 65536, LIMIT, LIMIT + 1, 2 ** 31, MAX)
 
 
 class Case:
@@ -83,7 +83,8 @@ class Case:
         kind = self.settings[0]
         self.lent = Lent(machine(draw, 0, kind, self.settings[2]), machine(draw, 1, kind, self.settings[4]), drawn_list(draw), drawn_list(draw))
         fill = draw.choice((0, 0, 7, MAX))
-        sizes = draw.choice((1, 2, 5)) * some(draw), 5 * draw.choice((1, 3, 6, 12)) * some(draw) + draw.randint(0, 4), 5 * draw.choice((2, 6, 20, 20)) * some(draw) + draw.randint(0, 4)
+        sizes = (draw.choice((1, 2, 5)) * some(draw), STATE_WORDS * draw.choice((1, 3, 6, 12)) * some(draw) + draw.randrange(STATE_WORDS),
+                 TR_WORDS * draw.choice((2, 6, 20, 20)) * some(draw) + draw.randrange(TR_WORDS))
         self.world = World([fill] * sizes[0], [fill] * sizes[1], [fill] * sizes[2], [0] * 9)
         self.ask(1, *sizes, fill)
         for k in (0, 1):
@@ -122,7 +123,7 @@ class Case:
             self.ask(11)
             self.answered("r", self.world.run(self.lent))
         else:
-            listed = [k for k in range(min(found, room(self.world.states))) if self.world.state(k, 3)]
+            listed = [k for k in range(min(found, self.world.state_room())) if self.world.state(k, FIRST)]
             n = self.draw.choice(listed) if listed and self.draw.random() < 0.8 else n
             self.ask(12, n)
             self.answered("p", self.world.records(n, self.lent))
@@ -145,7 +146,7 @@ class Case:
             which = draw.randint(0, 2)
             slice = (self.world.heads, self.world.states, self.world.trs)[which]
             # mostly a used word
-            used = (len(slice), 5 * self.world.session[7], 5 * self.world.session[8])[which]
+            used = (len(slice), STATE_WORDS * self.world.session[7], TR_WORDS * self.world.session[8])[which]
             i = draw.randrange(max(1, min(len(slice), used)))
             if i >= len(slice):
                 return lambda: None
@@ -222,7 +223,7 @@ def compare(oracle):
     draw, seen = random.Random(SEED), 0
     for _ in range(20 * CASES):
         c = Case(draw)
-        w = World([0] * 5, [0] * 300, [0] * 900, [0] * 9)
+        w = World([0] * 5, [0] * (60 * STATE_WORDS), [0] * (180 * TR_WORDS), [0] * 9)
         opened = w.calling(w.open, c.settings, c.lent)
         side, answers, states = ask(oracle, c.settings, *c.lent.allowed, *c.lent.words, range(8))
         if opened != [0]:
@@ -232,7 +233,7 @@ def compare(oracle):
         for n, answer in enumerate(answers):
             got = w.calling(w.expand, n, c.lent)
             listed = w.records(n, c.lent)
-            mine = got[0] if got[0] else [listed[5 * j:5 * j + 4] for j in range(got[2])]
+            mine = got[0] if got[0] else [listed[TR_WORDS * j:TR_WORDS * j + 4] for j in range(got[2])]
             assert mine == answer, (c.asked, n, mine, answer)
             seen += 1
         for n, (triple, final) in enumerate(states):

@@ -22,11 +22,11 @@ from collections import Counter
 import rust
 from compare import program
 from gen import listed, mixed
-from machine import MAX, Words
+from machine import LIMIT, MAX, Words
 
 BATCH = 500
 ODD_BYTES = b" \t\r\n\0\x0b\x0c+-.,;:/xe_\"'\x1a\x7f\x80\xa0\xc2\xff" + b"0123456789"
-ODD_WORDS = (0, 1, 2, 3, 4095, 4096, 65535, 65536, 2 ** 31, MAX - 1, MAX)
+ODD_WORDS = (0, 1, 2, 3, 4095, 4096, 65536, LIMIT, LIMIT + 1, 2 ** 31, MAX - 1, MAX)
 # spellings of numbers up to the limit, and above it
 WITHIN = [str(MAX - 1), str(MAX), "0" + str(MAX), "0" * 50 + str(MAX), str(2 ** 31)]
 ABOVE = [str(MAX + 1), str(MAX + 2), str(2 ** 33), str(10 ** 10), "00000" + str(MAX + 1), str(2 ** 64 - 1), str(2 ** 64), str(2 ** 64 + 1),
@@ -80,7 +80,7 @@ def some_record(rng, m):
 
 def wrong_count(rng, lines):
     m, at = a_machine(rng, lines), rng.randint(0, 1)
-    put(m, at, rng.choice([m[at] + 1, m[at] - 1, 0, 65535, 65536, MAX]))
+    put(m, at, rng.choice([m[at] + 1, m[at] - 1, 0, LIMIT, LIMIT + 1, MAX]))
 
 
 def other_mark(rng, lines):

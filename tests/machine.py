@@ -1,6 +1,7 @@
 """A machine in words, as document 01 has it."""
 
-MAX = 2 ** 32 - 1
+import rust  # the folder of gen
+from gen import LIMIT, MAX
 
 
 def word_at(m, i):
@@ -50,7 +51,7 @@ class Words:
 
     def well_formed(self):
         S, T = self.S, self.T
-        if S > 65535 or T > 65535 or len(self.m) != 6 + 3 * S + 5 * T or self.word(2) > S:
+        if S > LIMIT or T > LIMIT or len(self.m) != 6 + 3 * S + 5 * T or self.word(2) > S:
             return False
         for s in range(S):
             first, final, weight = (self.state(s, k) for k in range(3))

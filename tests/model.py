@@ -1,5 +1,10 @@
 """Document 01's calls, worked out from its text: the checks, the moves, the memory."""
-from machine import MAX, Words
+from machine import LIMIT, MAX, Words
+
+# the words of a state record (s1, s2, f, expanded, first, next) and of a transition record
+STATE_WORDS, TR_WORDS = 6, 5
+# the places in a state record that are written after it
+EXPANDED, FIRST, NEXT = 3, 4, 5
 
 
 class Refused(Exception):
@@ -158,8 +163,13 @@ class Composition:
         return (words[0] - 1, words[1] - 1, 0) if all(words) else None
 
 
-def room(slice):
-    return min(65535, len(slice) // 5)
+def room(slice, size):
+    return min(LIMIT, len(slice) // size)
+
+
+def state_record(t, next):
+    """The record of a state just found."""
+    return [*t, 0, 0, next]
 
 
 class World:
@@ -177,11 +187,16 @@ class World:
             return [r.number]
 
     def state(self, n, k):
-        return self.states[5 * n + k]
+        return self.states[STATE_WORDS * n + k]
 
     def triple(self, n):
-        pair = self.state(n, 0)
-        return pair // 65536, pair % 65536, self.state(n, 1)
+        return tuple(self.state(n, k) for k in range(3))
+
+    def state_room(self):
+        return room(self.states, STATE_WORDS)
+
+    def tr_room(self):
+        return room(self.trs, TR_WORDS)
 
     def form(self, S1, S2):
         used, last = self.session[7:9]
@@ -189,11 +204,11 @@ class World:
             return False
         for n in range(used):
             s1, s2, f = self.triple(n)
-            expanded, first, next = (self.state(n, k) for k in (2, 3, 4))
+            expanded, first, next = (self.state(n, k) for k in (EXPANDED, FIRST, NEXT))
             if s1 >= S1 or s2 >= S2 or f > 2 or expanded > 1 or first > last or next > n or expanded == 0 and first:
                 return False
         for i in range(last):
-            target, next = self.trs[5 * i + 3:5 * i + 5]
+            target, next = self.trs[TR_WORDS * i + 3:TR_WORDS * i + 5]
             if target >= used or next not in (0, i + 2) or next > last:
                 return False
         return True
@@ -203,7 +218,7 @@ class World:
         side = side_for(self.session[:6], lent)
         a, b = lent.machines()
         used, last = self.session[7:9]
-        refuse(self.session[6] != side or used > room(self.states) or last > room(self.trs) or not self.form(a.S, b.S), 8)
+        refuse(self.session[6] != side or used > self.state_room() or last > self.tr_room() or not self.form(a.S, b.S), 8)
         refuse(n is not None and n >= used, 9)
         return Composition(self.session[:6], lent, side)
 
@@ -215,13 +230,13 @@ class World:
         while link:
             if self.triple(link - 1) == t:
                 return link - 1
-            link = self.state(link - 1, 4)
+            link = self.state(link - 1, NEXT)
         return None
 
     def add(self, t):
         n = self.session[7]
-        refuse(n >= room(self.states), 13)
-        self.states[5 * n:5 * n + 5] = [t[0] * 65536 + t[1], t[2], 0, 0, self.heads[self.slot(t)]]
+        refuse(n >= self.state_room(), 13)
+        self.states[STATE_WORDS * n:STATE_WORDS * (n + 1)] = state_record(t, self.heads[self.slot(t)])
         self.heads[self.slot(t)] = n + 1
         self.session[7] = n + 1
         return n
@@ -229,7 +244,7 @@ class World:
     def open(self, settings, lent):
         side = side_for(settings, lent)
         start = Composition(settings, lent, side).start()
-        refuse(start is not None and (room(self.states) == 0 or not self.heads), 13)
+        refuse(start is not None and (self.state_room() == 0 or not self.heads), 13)
         self.heads = [0] * len(self.heads)
         self.session = list(settings) + [side, 0, 0]
         if start is not None:
@@ -237,31 +252,31 @@ class World:
         return []
 
     def part(self, n):
-        first = self.state(n, 3)
+        first = self.state(n, FIRST)
         count, link = 0, first
         while link:
-            count, link = count + 1, self.trs[5 * link - 1]
+            count, link = count + 1, self.trs[TR_WORDS * link - 1]
         return [first, count]
 
     def expand(self, n, lent):
         return self.expansion(self.entered(lent, n), n)
 
     def expansion(self, c, n):
-        if self.state(n, 2) == 1:
+        if self.state(n, EXPANDED) == 1:
             return self.part(n)
         before = self.session[8]
         for i, o, w, t in c.steps(*self.triple(n)):
-            refuse(self.session[8] >= room(self.trs), 13)
+            refuse(self.session[8] >= self.tr_room(), 13)
             to = self.find(t)
             to = self.add(t) if to is None else to
             k = self.session[8]
             if k > before:
-                self.trs[5 * k - 1] = k + 1
-            self.trs[5 * k:5 * k + 5] = [i, o, w, to, 0]
+                self.trs[TR_WORDS * k - 1] = k + 1
+            self.trs[TR_WORDS * k:TR_WORDS * (k + 1)] = [i, o, w, to, 0]
             self.session[8] = k + 1
         count = self.session[8] - before
         first = before + 1 if count else 0
-        self.states[5 * n + 2:5 * n + 4] = [1, first]
+        self.states[STATE_WORDS * n + EXPANDED:STATE_WORDS * n + FIRST + 1] = [1, first]
         return [first, count]
 
     def final(self, n, lent):
@@ -287,8 +302,8 @@ class World:
             self.entered(lent, n)
         except Refused:
             return []
-        first, count = self.part(n) if self.state(n, 2) == 1 else (0, 0)
-        return self.trs[5 * (first - 1):5 * (first - 1 + count)] if count else []
+        first, count = self.part(n) if self.state(n, EXPANDED) == 1 else (0, 0)
+        return self.trs[TR_WORDS * (first - 1):TR_WORDS * (first - 1 + count)] if count else []
 
     def mixed(self):
         h = 0
