@@ -57,12 +57,13 @@
  *     3  target state, counted from 0
  *     4  next transition of the list, above the own number; 0 ends the list
  *
- * The length is exactly 6 + 3 S + 5 T. Transitions count from 1, states from
- * 0. Lists may share tails. Label RINKOLZA_EPSILON (0) is epsilon; label
- * RINKOLZA_NO_LABEL (RINKOLZA_MAX) is never a label of a machine. A side's mark
- * is unknown, sorted (no label falls within any state's list) or not sorted;
- * a mark that is false makes the machine malformed, as does a start above S,
- * a first above T, a target not below S, a next not above its own number.
+ * The length is exactly 6 + 3 S + 5 T, some 134 million words at the most.
+ * Transitions count from 1, states from 0. Lists may share tails. Label
+ * RINKOLZA_EPSILON (0) is epsilon; label RINKOLZA_NO_LABEL (RINKOLZA_MAX) is
+ * never a label of a machine. A side's mark is unknown, sorted (no label falls
+ * within any state's list) or not sorted; a mark that is false makes the machine
+ * malformed, as does a start above S, a first above T, a target not below S, a
+ * next not above its own number.
  *
  * Machine 1 is matched on its output labels, machine 2 on its input labels:
  * these are the inner labels, and the composition is the input of machine 1 and
@@ -142,11 +143,12 @@
  *           Head (s1 + 31 s2 + f) mod heads_len has the number of the newest
  *           state record of its chain; 0: none. More heads, shorter chains.
  *   states  records of RINKOLZA_STATE_WORDS words; record n + 1 is state n:
- *             0  s1 * 65536 + s2, the states of machine 1 and of machine 2
- *             1  f, the filter state: 0, 1 or 2
- *             2  expanded: 0 or 1
- *             3  first transition record of its list, counted from 1; 0: none
- *             4  the next record of its chain; 0 ends it
+ *             0  s1, the state of machine 1
+ *             1  s2, the state of machine 2
+ *             2  f, the filter state: 0, 1 or 2
+ *             3  expanded: 0 or 1
+ *             4  first transition record of its list, counted from 1; 0: none
+ *             5  the next record of its chain; 0 ends it
  *   trs     records of RINKOLZA_TR_WORDS words, counted from 1:
  *             0  input label     1  output label     2  weight
  *             3  target: the number of a composed state
@@ -155,18 +157,28 @@
  * A state's records stand one after the other, in the order of its list: with
  * first and count from rinkolza_expand or rinkolza_records they are the words
  * trs[5 * (first - 1)] up to, not including, trs[5 * (first - 1 + count)].
+ * At the limit a slice of records has fewer than 2^27 words, 2^29 bytes.
  *
- * Room is whole records: states_len / 5 and trs_len / 5, of each at most
+ * Room is whole records: states_len / 6 and trs_len / 5, of each at most
  * RINKOLZA_LIMIT; what is past that is never read or written. A composition
  * has at most 3 S1 S2 states. There is no bound for its transitions that is
  * worth lending at once: where a call is refused with 13, lengthen states and
  * trs at their ends and call again (tests/c_grow.c does so). A copy will do, or
- * realloc; the words behind may be anything. The heads stay as they are, the
- * same number and words, so lend enough of them at the opening: as many as
- * states are expected, or some 16384. Only an opening that is refused with 13
- * is made again with more heads and a state record. Slices may be lengthened at
- * any time: every call then answers as it would have, or goes on where it would
- * have been refused with 13, and what was given is given again.
+ * realloc; the words behind may be anything. To double them keeps the whole
+ * cost of copying below that of the last copy taken twice; but give a wide state
+ * room for as many records as its two lists have transitions at once, since an
+ * expansion that comes to lack room among many new states is slow, by their
+ * square. Only an opening that is refused with 13 is made again with more heads
+ * and a state record. Slices may be lengthened at any time: every call then
+ * answers as it would have, or goes on where it would have been refused with 13,
+ * and what was given is given again.
+ *
+ * The heads stay as they are, the same number and words, so lend enough of them
+ * at the opening: as many as states are expected, or some 16384 where few are.
+ * With so few for a million states a chain has some 60 records, and every
+ * look-up walks one. More than S1 + 31 S2 are never used, and more than some
+ * 4 (S1 + S2) are seldom worth their memory. Take no multiple of 31: of such
+ * heads the states of machine 2 would share every 31st.
  *
  * Before the opening the words of memory may be anything. After it, nobody
  * but these calls may write to memory, or the answers are those of whatever
@@ -223,13 +235,13 @@ extern "C" {
 #define RINKOLZA_NO_LABEL RINKOLZA_MAX
 
 /* The most states and transitions of a machine, and records of each sort. */
-#define RINKOLZA_LIMIT UINT32_C(65535)
+#define RINKOLZA_LIMIT UINT32_C(16777215)
 
 /* Lengths in words. */
 #define RINKOLZA_SETTINGS_WORDS 6
 #define RINKOLZA_SESSION_WORDS 9
 #define RINKOLZA_ANSWER_WORDS 2
-#define RINKOLZA_STATE_WORDS 5
+#define RINKOLZA_STATE_WORDS 6
 #define RINKOLZA_TR_WORDS 5
 
 /* Marks of a machine's side. */

@@ -19,7 +19,7 @@ static const uint32_t settings[6] = {RINKOLZA_COST, RINKOLZA_SEQUENCE, RINKOLZA_
 static const uint32_t m1[25] = {3, 2, 1, 0, 0, 0, 1, 0, 0, 2, 0, 0, 0, 1, 0, 1, 0, 1, 1, 0, 2, 5, 2, 2, 0};
 static const uint32_t m2[25] = {3, 2, 1, 0, 0, 0, 1, 0, 0, 2, 0, 0, 0, 1, 3, 0, 7, 4, 1, 0, 5, 8, 1, 2, 0};
 
-static uint32_t session[9], answer[2], heads[HEADS], states[5 * RECORDS], trs[5 * RECORDS];
+static uint32_t session[9], answer[2], heads[HEADS], states[RINKOLZA_STATE_WORDS * RECORDS], trs[RINKOLZA_TR_WORDS * RECORDS];
 
 static void need(int ok, const char *what) {
     if (!ok) {
@@ -57,9 +57,9 @@ static void list(void) {
     need(run_it() == 0, "the run");
     printf("side %s\n", sides[session[RINKOLZA_SESSION_SIDE]]);
     for (n = 0; n < session[RINKOLZA_SESSION_USED_STATES]; n++) {
-        const uint32_t *s = states + 5 * n;
+        const uint32_t *s = states + RINKOLZA_STATE_WORDS * n;
         need(final_it(n) == 0, "a final weight");
-        printf("s %u %u %u %u ", n, s[0] / 65536, s[0] % 65536, s[1]);
+        printf("s %u %u %u %u ", n, s[0], s[1], s[2]);
         if (answer[0]) {
             printf("%u\n", answer[1]);
         } else {
@@ -67,7 +67,7 @@ static void list(void) {
         }
         records_it(n);
         for (k = 0; k < answer[1]; k++) {
-            const uint32_t *t = trs + 5 * (answer[0] - 1 + k);
+            const uint32_t *t = trs + RINKOLZA_TR_WORDS * (answer[0] - 1 + k);
             printf("t %u %u %u %u\n", t[0], t[1], t[2], t[3]);
         }
     }
@@ -86,7 +86,7 @@ typedef struct {
 /* Slice `which`, or a second one of the sort at SLICES + `which`: `held` words of `from`, then others. */
 static slice lend(int which, const uint32_t *from, size_t n, size_t held) {
     static unsigned char *ends[2 * SLICES];
-    static uint32_t olds[2 * SLICES][5 * RECORDS];
+    static uint32_t olds[2 * SLICES][RINKOLZA_STATE_WORDS * RECORDS];
     slice s;
     size_t i;
     if (ends[which] == NULL) {
@@ -161,7 +161,7 @@ static void trust(int call, const slice *x, uint32_t n, uint32_t has, uint32_t r
     for (i = 0; i < SLICES; i++) need(memcmp(x[i].w, y[i].w, x[i].n * sizeof(uint32_t)) == 0, "the call that does not check leaves other words");
     if (y[1].n != 9) return;
     weigh(y, has, y[1].w[RINKOLZA_SESSION_USED_STATES]);
-    if (call == 3) need(next[1] == y[1].w[RINKOLZA_SESSION_USED_STATES] - next[0] && (r != 0) == (next[1] > 0) && (r == 0 || y[5].w[5 * next[0] + 2] == 0), "where a run stopped");
+    if (call == 3) need(next[1] == y[1].w[RINKOLZA_SESSION_USED_STATES] - next[0] && (r != 0) == (next[1] > 0) && (r == 0 || y[5].w[RINKOLZA_STATE_WORDS * next[0] + 3] == 0), "where a run stopped");
 }
 
 /* All five calls on fresh copies of the words, with slices of the given lengths and, where `damage` is not 0, some words replaced. */
@@ -229,7 +229,7 @@ int main(void) {
         all_calls(6, 9, 2, HEADS, LEN(states), n, 0);
     }
     for (round = 0; round < 20000; round++) {
-        all_calls(6, 9, 2, 1 + draw() % 4, draw() % 40, draw() % 40, (int)(draw() % 4));
+        all_calls(6, 9, 2, 1 + draw() % 4, draw() % 48, draw() % 40, (int)(draw() % 4));
     }
     need(trusted > 10000, "few calls that do not check");
     fprintf(stderr, "%lu calls, %lu refused, %lu made without checks too\n", calls, refused, trusted);

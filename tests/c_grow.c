@@ -40,7 +40,7 @@ int main(void) {
     if (!refused) printf("side %s\n", sides[session[RINKOLZA_SESSION_SIDE]]);
     for (n = 0; !refused && n < session[RINKOLZA_SESSION_USED_STATES]; n++) {
         const uint32_t *s = states + RINKOLZA_STATE_WORDS * n, *w = weights + 2 * n;
-        printf(w[0] ? "s %u %u %u %u %u\n" : "s %u %u %u %u -\n", n, s[0] / 65536, s[0] % 65536, s[1], w[1]);
+        printf(w[0] ? "s %u %u %u %u %u\n" : "s %u %u %u %u -\n", n, s[0], s[1], s[2], w[1]);
         rinkolza_trusted_records(session, 9, LENT, n, part, 2);
         for (k = 0; k < part[1]; k++) {
             const uint32_t *t = trs + RINKOLZA_TR_WORDS * (part[0] - 1 + k);

@@ -11,8 +11,8 @@ use std::ops::Range;
 pub const EPSILON: u32 = 0;
 /// The largest number that can be a label; 4294967295 never is one.
 pub const LARGEST_LABEL: u32 = u32::MAX - 1;
-/// The most states, and the most transitions, that a machine may have.
-pub const LARGEST_COUNT: usize = 65535;
+/// The most states, and the most transitions, that a machine or a composition may have.
+pub const LARGEST_COUNT: usize = 16_777_215;
 
 /// A transition of a state.
 #[derive(Clone, Copy, Debug, PartialEq, Eq, Hash)]
@@ -90,8 +90,8 @@ impl Machine {
     ///
     /// # Errors
     ///
-    /// [`Error::Machine`] where a state is above 65534, a label above [`LARGEST_LABEL`], or there are more than
-    /// [`LARGEST_COUNT`] transitions; [`Error::Memory`] where there is no memory for them.
+    /// [`Error::Machine`] where a state is not below [`LARGEST_COUNT`], a label is above [`LARGEST_LABEL`], or there are
+    /// more than [`LARGEST_COUNT`] transitions; [`Error::Memory`] where there is no memory for them.
     pub fn from_lists(
         start: Option<u32>,
         trs: &[(u32, Tr)],
@@ -120,11 +120,7 @@ impl Machine {
     ///
     /// [`Error::Machine`] where there are [`LARGEST_COUNT`] states already; [`Error::Memory`] where there is no memory for it.
     pub fn add_state(&mut self) -> Result<u32, Error> {
-        if self.states.len() >= LARGEST_COUNT {
-            return Err(Error::Machine(format!(
-                "a machine has at most {LARGEST_COUNT} states"
-            )));
-        }
+        one_more(self.states.len(), "states")?;
         reserve(&mut self.states, 1, "states")?;
         self.states.push(State::default());
         Ok(self.states.len() as u32 - 1)
@@ -134,7 +130,7 @@ impl Machine {
     ///
     /// # Errors
     ///
-    /// [`Error::Machine`] where the number is above 65534; [`Error::Memory`] where there is no memory for it.
+    /// [`Error::Machine`] where the number is not below [`LARGEST_COUNT`]; [`Error::Memory`] where there is no memory for it.
     pub fn ensure_state(&mut self, state: u32) -> Result<(), Error> {
         if state as usize >= LARGEST_COUNT {
             return Err(Error::Machine(format!(
@@ -161,11 +157,7 @@ impl Machine {
                 "a label is at most {LARGEST_LABEL}"
             )));
         }
-        if self.count >= LARGEST_COUNT {
-            return Err(Error::Machine(format!(
-                "a machine has at most {LARGEST_COUNT} transitions"
-            )));
-        }
+        one_more(self.count, "transitions")?;
         let trs = &mut self.states[source as usize].trs;
         reserve(trs, 1, "transitions")?;
         trs.push(tr);
@@ -303,10 +295,29 @@ impl Machine {
     }
 }
 
+/// An error where there are as many as a machine may have.
+fn one_more(count: usize, what: &str) -> Result<(), Error> {
+    if count < LARGEST_COUNT {
+        return Ok(());
+    }
+    Err(Error::Machine(format!(
+        "a machine has at most {LARGEST_COUNT} {what}"
+    )))
+}
+
 fn label(by: By, tr: &Tr) -> u32 {
     match by {
         By::Input => tr.input,
         By::Output => tr.output,
+    }
+}
+
+#[cfg(test)]
+impl Machine {
+    /// The machine with so many transitions counted: one that is all but full, without the memory for it.
+    pub(crate) fn counting(mut self, count: usize) -> Machine {
+        self.count = count;
+        self
     }
 }
 
@@ -327,13 +338,29 @@ mod tests {
         assert!(machine.add_tr(1, tr(1, 1, 0)).is_err());
         assert!(machine.add_tr(0, tr(u32::MAX, 1, 0)).is_err());
         assert!(machine.add_tr(0, tr(1, u32::MAX, 0)).is_err());
-        assert!(machine.ensure_state(65535).is_err());
-        assert!(machine.ensure_state(65534).is_ok());
-        assert!(machine.add_state().is_err());
-        for _ in 0..LARGEST_COUNT {
-            machine.add_tr(0, tr(1, 1, 0)).unwrap();
-        }
-        assert!(machine.add_tr(0, tr(1, 1, 0)).is_err());
+        assert_eq!((machine.state_count(), machine.tr_count()), (1, 0));
+    }
+
+    #[test]
+    fn the_most_of_each_sort() {
+        assert_eq!(LARGEST_COUNT, (1 << 24) - 1);
+        let mut machine = Machine::new();
+        assert!(machine.ensure_state(LARGEST_COUNT as u32).is_err());
+        assert!(machine.ensure_state(u32::MAX).is_err());
+        assert_eq!(machine.state_count(), 0);
+        assert!(one_more(LARGEST_COUNT - 1, "states").is_ok());
+        assert!(one_more(LARGEST_COUNT, "states").is_err());
+        // More than 65535, the limit of old.
+        assert!(machine.ensure_state(70_000).is_ok());
+        assert_eq!(machine.add_state(), Ok(70_001));
+        let mut machine = machine.counting(LARGEST_COUNT - 1);
+        machine.add_tr(0, tr(1, 1, 70_001)).unwrap();
+        let refused = machine.add_tr(0, tr(1, 1, 0)).unwrap_err();
+        assert_eq!(
+            refused.to_string(),
+            "a machine has at most 16777215 transitions"
+        );
+        assert_eq!(machine.trs(0).len(), 1);
     }
 
     #[test]

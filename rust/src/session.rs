@@ -10,9 +10,9 @@
 use crate::error::{Error, Refusal};
 use crate::machine::Machine;
 use crate::prepare::Inputs;
-use crate::settings::{Options, Room};
+use crate::settings::{Options, Room, FEW_STATES, FEW_TRS};
 use crate::sys::Owned;
-use crate::words::Trs;
+use crate::words::{self, Trs};
 use std::ops::Range;
 
 /// The side on which the machines are matched.
@@ -89,14 +89,17 @@ impl Composition {
     }
 
     /// Opens the composition of two machines in words, see [`words`](crate::words), with room that may grow up to
-    /// `most`; both count as [`Room::LARGEST`] where they are above it.
+    /// `most`; both count as [`Room::LARGEST`] where they are above it. Of what `room` has none it takes what suits the
+    /// machines, see [`Options::room`], within `most`.
     ///
     /// # Errors
     ///
     /// [`Error::Refused`] by the numbers 1 to 7 or 13; [`Error::Memory`] where there is no memory for the room.
     pub fn open_words(inputs: Inputs, room: Room, most: Room) -> Result<Composition, Error> {
-        let (room, most) = (room.within(Room::LARGEST), most.within(Room::LARGEST));
-        let owned = Owned::open(inputs, room, most)?;
+        let most = most.within(Room::LARGEST);
+        let room = suited(room.within(Room::LARGEST), &inputs, most);
+        let heads = room.heads;
+        let owned = Owned::open(inputs, room, Room { heads, ..most })?;
         let opened = owned.memory().room();
         Ok(Composition {
             owned,
@@ -228,16 +231,16 @@ impl Composition {
 
     /// Whether state n is found and expanded.
     pub fn is_expanded(&self, n: u32) -> bool {
-        self.record(n).is_some_and(|record| record[2] == 1)
+        self.record(n).is_some_and(|record| record[3] == 1)
     }
 
     /// Where state n comes from; none where it is not found.
     pub fn triple(&self, n: u32) -> Option<Triple> {
         let record = self.record(n)?;
         Some(Triple {
-            first: record[0] >> 16,
-            second: record[0] & 0xffff,
-            filter: record[1],
+            first: record[0],
+            second: record[1],
+            filter: record[2],
         })
     }
 
@@ -282,7 +285,7 @@ impl Composition {
         if n >= self.found() {
             return None;
         }
-        self.owned.memory().states.chunks_exact(5).nth(n as usize)
+        self.owned.memory().state(n)
     }
 
     /// A piece of a run: at most k states, from the lowest that is not expanded on. Where room is lacking it grows and
@@ -303,16 +306,43 @@ impl Composition {
     /// After a call that was refused at state n: more room, where that is what is lacking; else the refusal.
     fn make_room(&mut self, number: u32, n: u32) -> Result<(), Error> {
         let refusal = Refusal::known(number);
-        match self.larger() {
+        match self.larger(n) {
             Some(larger) if refusal == Refusal::NoRoom => self.grow(larger),
             _ => Err(Error::refused(refusal).at(Some(n))),
         }
     }
 
-    /// The room to grow into; heads stay as opened.
-    fn larger(&self) -> Option<Room> {
-        let heads = self.room.heads;
-        self.room.larger(Room { heads, ..self.most })
+    /// The room to grow into after state n lacked some: of each sort of which it may lack records twice as many, and for
+    /// a move of each transition of its two lists, since to be refused again in a wide state takes long. None where it
+    /// can lack no record that there may be. Heads stay as opened.
+    fn larger(&self, n: u32) -> Option<Room> {
+        let (one, other) = self.list_lengths(n);
+        // A move takes a transition, or none, of each list: there are no more moves than such pairs.
+        let moves = (one + 1).saturating_mul(other + 1);
+        let likely = moves.min(one + other);
+        let more = |room: usize, used: u32, most: usize| {
+            let used = used as usize;
+            if room >= most.min(used.saturating_add(moves)) {
+                return room;
+            }
+            let twice = room.max(1).saturating_mul(2);
+            twice.max(used.saturating_add(likely)).min(most)
+        };
+        let larger = Room {
+            heads: self.room.heads,
+            states: more(self.room.states, self.found(), self.most.states),
+            trs: more(self.room.trs, self.tr_count(), self.most.trs),
+        };
+        (larger != self.room).then_some(larger)
+    }
+
+    /// How many transitions the two states that state n is made of have.
+    fn list_lengths(&self, n: u32) -> (usize, usize) {
+        let lent = self.owned.inputs();
+        self.triple(n).map_or((0, 0), |triple| {
+            let first = words::list_length(&lent.first, triple.first);
+            (first, words::list_length(&lent.second, triple.second))
+        })
     }
 
     /// Grows. Where memory is not to be had all stays, and it may be asked for again.
@@ -321,6 +351,26 @@ impl Composition {
         self.room = larger;
         self.growths += 1;
         Ok(())
+    }
+}
+
+/// The room, with what suits the machines where it names nothing.
+fn suited(room: Room, inputs: &Inputs, most: Room) -> Room {
+    // No more states or transitions than there are words for: these may be any words.
+    let count = |words: &[u32], place: usize| {
+        let word = words.get(place).copied().unwrap_or(0);
+        (word as usize).min(words.len())
+    };
+    let both = |place| (count(&inputs.first, place), count(&inputs.second, place));
+    let ((states1, states2), (trs1, trs2)) = (both(0), both(1));
+    let named = |named: usize, suits: usize, most: usize| match named {
+        0 => suits.min(most),
+        named => named,
+    };
+    Room {
+        heads: named(room.heads, Room::heads_for(states1, states2), most.heads),
+        states: named(room.states, FEW_STATES.max(states1 + states2), most.states),
+        trs: named(room.trs, FEW_TRS.max(trs1 + trs2), most.trs),
     }
 }
 
@@ -372,10 +422,15 @@ mod tests {
         };
         let mut composition = Composition::open(&one, &chain(), &options).unwrap();
         composition.expand(0).unwrap();
+        composition.most = room;
+        let lacking = composition.run().unwrap_err();
+        assert_eq!(lacking, Error::refused(Refusal::NoRoom).at(Some(3)));
         // Memory of this size is never to be had.
-        composition.room.trs = usize::MAX / 16;
-        composition.most.trs = usize::MAX;
-        let refused = composition.run().unwrap_err();
+        let huge = Room {
+            states: usize::MAX / 16,
+            ..room
+        };
+        let refused = composition.grow(huge).unwrap_err();
         assert!(
             matches!(refused, Error::Memory { what: "words", .. }),
             "{refused}"
@@ -386,10 +441,10 @@ mod tests {
         assert_eq!(composition.expand(0).unwrap().len(), 1);
         assert_eq!(composition.progress().expanded, 3);
         // Asked again, when it is to be had, the run goes on.
-        composition.room = room;
         composition.most = Room::LARGEST;
         composition.run().unwrap();
         assert_eq!((composition.found(), composition.tr_count()), (9, 8));
+        // From 4 to 8 and to 16, of each sort.
         assert_eq!(composition.growths(), 2);
     }
 }

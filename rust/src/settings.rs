@@ -2,6 +2,8 @@
 
 #![forbid(unsafe_code)]
 
+use crate::machine::LARGEST_COUNT;
+
 /// What weights are.
 #[derive(Clone, Copy, Debug, Default, PartialEq, Eq)]
 #[non_exhaustive]
@@ -116,10 +118,18 @@ pub enum Sort {
     Never,
 }
 
+/// Heads for a small composition, and for one of which much may come.
+const FEW_HEADS: usize = 1 << 14;
+const MANY_HEADS: usize = 1 << 20;
+/// Records to begin with, where the machines are small.
+pub(crate) const FEW_STATES: usize = 1024;
+pub(crate) const FEW_TRS: usize = 4096;
+
 /// Room for a composition, in records.
 #[derive(Clone, Copy, Debug, PartialEq, Eq)]
 pub struct Room {
-    /// Heads of the state table; more of them make it faster. An open composition keeps those that it was opened with.
+    /// Heads of the state table; more of them make it faster. An open composition keeps those that it was opened with;
+    /// where none are named it takes those of [`Room::heads_for`].
     pub heads: usize,
     /// State records.
     pub states: usize,
@@ -128,12 +138,30 @@ pub struct Room {
 }
 
 impl Room {
-    /// The largest room: 65535 records of each sort, more than which no composition can use, and as many heads.
+    /// The largest room: [`LARGEST_COUNT`] records of each sort, more than which no composition can use, and as many
+    /// heads. It is there to grow up to: begun with, it takes some 800 megabytes.
     pub const LARGEST: Room = Room {
-        heads: 65535,
-        states: 65535,
-        trs: 65535,
+        heads: LARGEST_COUNT,
+        states: LARGEST_COUNT,
+        trs: LARGEST_COUNT,
     };
+
+    /// The heads for a composition of machines with so many states.
+    ///
+    /// The state (s1, s2, f) belongs to head s1 + 31 s2 + f, modulo the number of heads: more than S1 + 31 S2 are never
+    /// used, and hardly more than there are pairs of states. Up to that there are as many as make short chains, but no
+    /// more than four for each state of a machine (16 bytes, where the machine's words take 12 and 20 for each transition)
+    /// or a million in all (four megabytes), and never fewer than 16384. No multiple of 31 is given: it would leave most
+    /// heads to no state of the second machine.
+    pub fn heads_for(first: usize, second: usize) -> usize {
+        let used = first
+            .saturating_add(second.saturating_mul(31))
+            .min(first.saturating_mul(second));
+        let worth = first.saturating_add(second).saturating_mul(4);
+        let heads = used.min(worth.max(MANY_HEADS)).max(FEW_HEADS);
+        let heads = heads.min(Room::LARGEST.heads);
+        heads - usize::from(heads.is_multiple_of(31))
+    }
 
     /// The room, with each count that is above `most` cut down to it.
     pub fn within(self, most: Room) -> Room {
@@ -181,9 +209,10 @@ pub struct Options {
     pub sigma2: Sigma,
     /// What is sorted first.
     pub sort: Sort,
-    /// The room to begin with; records grow where they do not suffice. Heads stay as they are at the opening (16384 where
-    /// nothing is said, enough for as many states as a composition may have): with few heads for many states it is slow.
-    /// What is above [`Room::LARGEST`] counts as that.
+    /// The room to begin with; records grow where they do not suffice. Heads stay as they are at the opening. Of what it
+    /// has none, as by default, there is what suits the machines: heads by [`Room::heads_for`], where few for many states
+    /// are slow; and records for as many states, and as many transitions, as both have together, since a state that
+    /// lacks many is slow, but no fewer than 1024 and 4096. What is above [`Room::LARGEST`] counts as that.
     pub room: Room,
     /// The room beyond which it does not grow. What is above [`Room::LARGEST`] counts as that.
     pub most: Room,
@@ -198,9 +227,9 @@ impl Default for Options {
             sigma2: Sigma::default(),
             sort: Sort::default(),
             room: Room {
-                heads: 16384,
-                states: 1024,
-                trs: 4096,
+                heads: 0,
+                states: 0,
+                trs: 0,
             },
             most: Room::LARGEST,
         }
@@ -208,8 +237,8 @@ impl Default for Options {
 }
 
 impl Options {
-    /// Costs, the filter sequence, no sigma, sorted where needed, 16384 heads, and records that grow up to
-    /// [`Room::LARGEST`].
+    /// Costs, the filter sequence, no sigma, sorted where needed, room as the machines ask for, and records that grow up
+    /// to [`Room::LARGEST`].
     pub fn new() -> Options {
         Options::default()
     }
@@ -298,13 +327,46 @@ mod tests {
             room = larger;
             steps += 1;
         }
-        assert_eq!((room.heads, room.states, room.trs), (65535, 65535, 65535));
-        assert!(steps < 20);
+        assert_eq!(room, Room::LARGEST);
+        assert_eq!(room.states, 16_777_215);
+        assert!(steps < 26, "{steps}");
+        let huge = Room {
+            heads: usize::MAX,
+            states: usize::MAX,
+            trs: LARGEST_COUNT + 1,
+        };
+        assert_eq!(huge.within(Room::LARGEST), Room::LARGEST);
+    }
+
+    #[test]
+    fn heads_by_the_machines() {
+        for (first, second, heads) in [
+            (0, 0, 16384),
+            (3, 3, 16384),
+            (1000, 1000, 32_000),
+            // As many as can be used: S1 + 31 S2; 131072 is no multiple of 31.
+            (4096, 4096, 131_072),
+            (1_000_000, 20, 1_000_620),
+            // As many as there are pairs.
+            (1, 1_000_000, 1_000_000),
+            // Four for each state.
+            (20, 1_000_000, 4_000_080),
+            // 31 × 4000 of the second machine and a multiple of 31 of the first.
+            (31 * 100, 4000, 127_099),
+            (100_000_000, 100_000_000, 16_777_215),
+            (usize::MAX, usize::MAX, 16_777_215),
+        ] {
+            assert_eq!(Room::heads_for(first, second), heads, "{first} {second}");
+        }
     }
 
     #[test]
     fn heads_stay_where_they_are_the_most() {
-        let room = Options::default().room;
+        let room = Room {
+            heads: 99,
+            states: 3,
+            trs: 4,
+        };
         let most = Room {
             heads: room.heads,
             ..Room::LARGEST

@@ -25,14 +25,20 @@ pub struct Lent<'a> {
     pub allowed2: Option<&'a [u32]>,
 }
 
+/// The words of a state record: the first machine's state, the second's, the filter's, expanded (0 or 1), first
+/// transition record, next record of the chain.
+pub const STATE_WORDS: usize = 6;
+/// The words of a transition record: input, output, weight, target, next.
+pub const TR_WORDS: usize = crate::words::TR;
+
 /// The three slices in which a composition is stored.
 #[derive(Clone, Debug, Default, PartialEq, Eq)]
 pub struct Memory {
     /// Heads of the state table's chains.
     pub heads: Vec<u32>,
-    /// State records of five words.
+    /// State records of [`STATE_WORDS`] words.
     pub states: Vec<u32>,
-    /// Transition records of five words.
+    /// Transition records of [`TR_WORDS`] words.
     pub trs: Vec<u32>,
 }
 
@@ -45,8 +51,8 @@ impl Memory {
     pub fn new(room: Room) -> Result<Memory, Error> {
         Ok(Memory {
             heads: zeros(room.heads)?,
-            states: zeros(room.states.saturating_mul(5))?,
-            trs: zeros(room.trs.saturating_mul(5))?,
+            states: zeros(room.states.saturating_mul(STATE_WORDS))?,
+            trs: zeros(room.trs.saturating_mul(TR_WORDS))?,
         })
     }
 
@@ -54,15 +60,21 @@ impl Memory {
     pub fn room(&self) -> Room {
         Room {
             heads: self.heads.len(),
-            states: self.states.len() / 5,
-            trs: self.trs.len() / 5,
+            states: self.states.len() / STATE_WORDS,
+            trs: self.trs.len() / TR_WORDS,
         }
     }
 
     /// The words of so many transition records from this one on, counted from 1, as an expansion answers them.
     pub fn part(&self, first: u32, count: u32) -> &[u32] {
-        let from = 5 * (first as usize).saturating_sub(1);
-        self.trs.get(from..from + 5 * count as usize).unwrap_or(&[])
+        let from = TR_WORDS * (first as usize).saturating_sub(1);
+        let words = TR_WORDS * count as usize;
+        self.trs.get(from..from + words).unwrap_or(&[])
+    }
+
+    /// The words of the record of state n.
+    pub fn state(&self, n: u32) -> Option<&[u32]> {
+        self.states.chunks_exact(STATE_WORDS).nth(n as usize)
     }
 }
 
@@ -73,9 +85,9 @@ fn zeros(count: usize) -> Result<Vec<u32>, Error> {
     Ok(words)
 }
 
-/// How many words are lacking to so many records.
-fn lacking(words: &[u32], records: usize) -> usize {
-    records.saturating_mul(5).saturating_sub(words.len())
+/// How many words are lacking to so many records of a size.
+fn lacking(words: &[u32], records: usize, size: usize) -> usize {
+    records.saturating_mul(size).saturating_sub(words.len())
 }
 
 /// The nine words of a session: six settings, side, used states, used transitions.
@@ -213,7 +225,7 @@ pub fn run(lent: &Lent<'_>, session: &mut Session, memory: &mut Memory) -> u32 {
     call!(rinkolza_run, as_mut_ptr, [], session, lent, memory, [])
 }
 
-/// The records of state n, five words each, as a part of the transition slice; empty where it is not expanded or a
+/// The records of state n, [`TR_WORDS`] words each, as a part of the transition slice; empty where it is not expanded or a
 /// check from 1 to 9 would refuse.
 pub fn records<'m>(lent: &Lent<'_>, session: &Session, memory: &'m Memory, n: u32) -> &'m [u32] {
     let mut answer = [0; 2];
@@ -277,22 +289,28 @@ impl Owned {
             session: Session::default(),
             memory: Memory::new(room)?,
         };
-        loop {
-            let number = open(
-                &owned.inputs.settings,
-                &owned.inputs.lent(),
-                &mut owned.session,
-                &mut owned.memory,
-            );
-            let refusal = match number {
-                0 => return Ok(owned),
-                refused => Refusal::known(refused),
-            };
-            match owned.memory.room().larger(most) {
-                Some(larger) if refusal == Refusal::NoRoom => owned.memory = Memory::new(larger)?,
-                _ => return Err(Error::refused(refusal)),
+        let mut number = owned.opened();
+        // An opening takes a head and a record: what one step does not give no other does.
+        if number == Refusal::NoRoom.number() {
+            if let Some(larger) = room.larger(most) {
+                owned.memory = Memory::new(larger)?;
+                number = owned.opened();
             }
         }
+        match number {
+            0 => Ok(owned),
+            refused => Err(Error::refused(Refusal::known(refused))),
+        }
+    }
+
+    /// The number that the opening answers. Refused, the value is not handed out.
+    fn opened(&mut self) -> u32 {
+        open(
+            &self.inputs.settings,
+            &self.inputs.lent(),
+            &mut self.session,
+            &mut self.memory,
+        )
     }
 
     /// What is composed.
@@ -409,8 +427,8 @@ impl Owned {
     /// [`Error::Memory`] where so much is not to be had; all stays.
     pub fn lengthen(&mut self, states: usize, trs: usize) -> Result<(), Error> {
         let memory = &mut self.memory;
-        let more_states = lacking(&memory.states, states);
-        let more_trs = lacking(&memory.trs, trs);
+        let more_states = lacking(&memory.states, states, STATE_WORDS);
+        let more_trs = lacking(&memory.trs, trs, TR_WORDS);
         reserve(&mut memory.states, more_states, "words")?;
         reserve(&mut memory.trs, more_trs, "words")?;
         memory.states.resize(memory.states.len() + more_states, 0);

@@ -402,6 +402,39 @@ mod tests {
     }
 
     #[test]
+    fn the_most_states_and_transitions() {
+        let plain = Format::default();
+        let many: String = (0..70_000).map(|n| format!("{n} 0 1 1\n")).collect();
+        let machine = read(&many, "m", &plain).unwrap();
+        assert_eq!(
+            (machine.state_count(), machine.tr_count()),
+            (70_000, 70_000)
+        );
+        let mut reader = Reader {
+            format: &plain,
+            machine: machine.counting(LARGEST_COUNT - 1),
+            numbers: HashMap::new(),
+        };
+        assert_eq!(reader.line("7 7 1 1"), Ok(()));
+        assert_eq!(
+            reader.line("7 7 1 1"),
+            Err("a machine has at most 16777215 transitions".to_string())
+        );
+        let kept = Format {
+            keep_numbers: true,
+            ..plain
+        };
+        assert_eq!(
+            says("5\n16777215\n", &kept),
+            "m:2: state 16777215 is past the last possible one: a machine has at most 16777215 states"
+        );
+        assert_eq!(
+            says("4294967296\n", &kept),
+            "m:1: state 4294967296 is past the last possible one, 16777214"
+        );
+    }
+
+    #[test]
     fn errors_name_their_line() {
         let plain = Format::default();
         assert!(says("0 1 1 1\n\n0 1 1\n", &plain).starts_with("m:3: a line is"));
@@ -411,16 +444,6 @@ mod tests {
         assert!(says("0 1 x 1", &plain).contains("the input label \"x\""));
         assert!(says("0 1 1 4294967295", &plain).contains("the output label \"4294967295\""));
         assert!(says("0 99999999999999999999 1 1", &plain).starts_with("m:1: "));
-        let many: String = (0..65536).map(|_| "0 0 1 1\n").collect();
-        assert_eq!(
-            says(&many, &plain),
-            "m:65536: a machine has at most 65535 transitions"
-        );
-        let states: String = (0..65536).map(|state| format!("{state}\n")).collect();
-        assert_eq!(
-            says(&states, &plain),
-            "m:65536: a machine has at most 65535 states"
-        );
         assert!(
             says("\u{feff}0 1 1 1\n", &plain).starts_with("m:1: the text begins with a byte-order")
         );

@@ -11,7 +11,8 @@ use crate::machine::{By, Machine, Tr};
 
 const HEADER: usize = 6;
 const STATE: usize = 3;
-const TR: usize = 5;
+/// The words of a transition, in a machine as in a composition.
+pub(crate) const TR: usize = 5;
 
 /// Which marks the words carry.
 #[derive(Clone, Copy, Debug, PartialEq, Eq)]
@@ -71,8 +72,8 @@ fn encode_trs(machine: &Machine, words: &mut Vec<u32>) {
 ///
 /// # Errors
 ///
-/// [`Error::Machine`] where the words are not a machine, or with lists of their own it has more than 65535 transitions;
-/// [`Error::Memory`] where there is no memory for it.
+/// [`Error::Machine`] where the words are not a machine, or with lists of their own it has more than
+/// [`LARGEST_COUNT`](crate::LARGEST_COUNT) transitions; [`Error::Memory`] where there is no memory for it.
 pub fn decode(words: &[u32]) -> Result<Machine, Error> {
     let bad = || Error::Machine("these words are not a machine".to_string());
     let header = words.get(..HEADER).ok_or_else(bad)?;
@@ -107,6 +108,20 @@ pub fn decode(words: &[u32]) -> Result<Machine, Error> {
     Ok(machine)
 }
 
+/// How many transitions the list of a state has, in the words of a machine; of any other words some number.
+pub(crate) fn list_length(words: &[u32], state: u32) -> usize {
+    let word = |place: usize| words.get(place).copied().unwrap_or(0);
+    let tail = HEADER + STATE * word(0) as usize;
+    let mut next = word(HEADER + STATE * state as usize);
+    let mut length = 0;
+    while next != 0 {
+        length += 1;
+        let after = word(tail + TR * (next as usize - 1) + 4);
+        next = if after > next { after } else { 0 };
+    }
+    length
+}
+
 /// The transition in a record of five words.
 pub(crate) fn tr_of(record: &[u32]) -> Tr {
     Tr::new(record[0], record[1], record[2], record[3])
@@ -127,16 +142,16 @@ impl Iterator for Trs<'_> {
     type Item = Tr;
 
     fn next(&mut self) -> Option<Tr> {
-        if self.0.len() < 5 {
+        if self.0.len() < TR {
             return None;
         }
-        let (record, rest) = self.0.split_at(5);
+        let (record, rest) = self.0.split_at(TR);
         self.0 = rest;
         Some(tr_of(record))
     }
 
     fn size_hint(&self) -> (usize, Option<usize>) {
-        let count = self.0.len() / 5;
+        let count = self.0.len() / TR;
         (count, Some(count))
     }
 }

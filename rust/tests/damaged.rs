@@ -31,7 +31,9 @@ fn one_call(draw: &mut Draw, damaged: &mut Fixed, seen: &mut Seen) {
         3 => sys::run(&lent, &mut damaged.session, &mut damaged.memory),
         _ => {
             let part = sys::records(&lent, &damaged.session, &damaged.memory, n);
-            assert!(part.len().is_multiple_of(5) && part.len() <= damaged.memory.trs.len());
+            assert!(
+                part.len().is_multiple_of(sys::TR_WORDS) && part.len() <= damaged.memory.trs.len()
+            );
             0
         }
     };

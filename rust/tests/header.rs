@@ -1,6 +1,6 @@
 //! The declarations in `src/sys.rs` and the refusals' numbers, held to the library's header.
 
-use rinkolza::Refusal;
+use rinkolza::{sys, Refusal, LARGEST_COUNT};
 use std::fs;
 use std::path::Path;
 
@@ -98,4 +98,27 @@ fn the_refusals_are_numbered_as_in_the_header() {
         .map(Refusal::number)
         .collect();
     assert_eq!(numbers, known);
+}
+
+/// What the header defines a name as, a number.
+fn defined(header: &str, name: &str) -> usize {
+    let sought = format!("#define RINKOLZA_{name} ");
+    let line = header.lines().find_map(|line| line.strip_prefix(&sought));
+    let value = line.unwrap_or_else(|| panic!("{name} is defined"));
+    let digits = value.trim_start_matches("UINT32_C(").trim_end_matches(')');
+    digits.parse().expect("a number")
+}
+
+#[test]
+fn the_limit_and_the_records_are_as_in_the_header() {
+    let header = header();
+    assert_eq!(defined(&header, "LIMIT"), LARGEST_COUNT);
+    assert_eq!(defined(&header, "STATE_WORDS"), sys::STATE_WORDS);
+    assert_eq!(defined(&header, "TR_WORDS"), sys::TR_WORDS);
+    let room = format!(
+        "states_len / {} and trs_len / {}",
+        sys::STATE_WORDS,
+        sys::TR_WORDS
+    );
+    assert!(header.contains(&room));
 }

@@ -2,9 +2,9 @@
 
 mod common;
 
-use common::{number, Draw, Fixed, World};
+use common::{number, Draw, Fixed, World, LARGE};
 use rinkolza::{
-    text, words, By, Composition, Format, Kind, Machine, Options, Refusal, Room, Sigma, Sort,
+    text, words, By, Composition, Format, Kind, Machine, Options, Refusal, Sigma, Sort,
 };
 
 fn read(lines: &str) -> Machine {
@@ -23,7 +23,7 @@ fn the_machine_is_what_the_calls_say() {
         else {
             continue;
         };
-        let mut fixed = Fixed::open(inputs, Room::LARGEST).unwrap();
+        let mut fixed = Fixed::open(inputs, LARGE).unwrap();
         assert_eq!(composition.run().map_err(number), fixed.run());
         let Ok(machine) = composition.machine() else {
             assert!((0..fixed.found()).any(|n| fixed.final_weight(n) == Err(12)));

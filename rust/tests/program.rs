@@ -360,7 +360,7 @@ fn the_help_fits_and_names_every_option() {
     }
     assert_eq!(count, 24);
     for word in [
-        "65535",
+        "16777215",
         "refused 13",
         "include/rinkolza.h",
         "4096",
@@ -369,4 +369,136 @@ fn the_help_fits_and_names_every_option() {
     ] {
         assert!(help.contains(word), "{word}");
     }
+}
+
+/// The kerning of two glyphs, one after the other; 0 before the first.
+fn kern(before: u32, glyph: u32) -> u32 {
+    if before == 0 {
+        return 0;
+    }
+    (before * 7919 + glyph * 104_729) % 61
+}
+
+/// Pair kerning in full: state g is "the last glyph was g", with a transition for each next glyph.
+fn kerning(glyphs: u32) -> String {
+    let mut text = String::new();
+    for last in 0..=glyphs {
+        for glyph in 1..=glyphs {
+            let cost = kern(last, glyph);
+            text += &format!("{last}\t{glyph}\t{glyph}\t{glyph}\t{cost}\n");
+        }
+    }
+    (0..=glyphs).for_each(|last| text += &format!("{last}\n"));
+    text
+}
+
+/// The words of a text in pieces that look random.
+fn drawn_glyphs(count: usize, glyphs: u32) -> Vec<u32> {
+    let mut word = 1u64;
+    let mut next = || {
+        word = word.wrapping_mul(6364136223846793005);
+        word = word.wrapping_add(1442695040888963407);
+        1 + (word >> 33) as u32 % glyphs
+    };
+    (0..count).map(|_| next()).collect()
+}
+
+/// The program's answer for a first machine in standard input and a second in a file of its own.
+fn composed_with(first: &str, second: &str, name: &str) -> String {
+    let file = std::env::temp_dir().join(format!("rinkolza-{name}-{}", std::process::id()));
+    std::fs::write(&file, second).unwrap();
+    let path = file.display().to_string();
+    let output = call(&["compose", "--keep-state-numbering", "-", &path], first);
+    std::fs::remove_file(&file).unwrap();
+    let (status, text, error) = said(&output);
+    assert_eq!((status, error), (0, ""));
+    text.to_string()
+}
+
+#[test]
+fn four_hundred_glyphs_with_kerning_in_full() {
+    let second = kerning(400);
+    assert_eq!(second.lines().count(), 401 * 400 + 401);
+    let glyphs = drawn_glyphs(5000, 400);
+    let (mut first, mut expected) = (String::new(), String::new());
+    let mut before = 0;
+    for (place, &glyph) in glyphs.iter().enumerate() {
+        let next = place + 1;
+        first += &format!("{place} {next} {glyph} {glyph}\n");
+        expected += &format!("{place}\t{next}\t{glyph}\t{glyph}");
+        match kern(before, glyph) {
+            0 => expected += "\n",
+            cost => expected += &format!("\t{cost}\n"),
+        }
+        before = glyph;
+    }
+    let last = format!("{}\n", glyphs.len());
+    let composed = composed_with(&(first + &last), &second, "kerning");
+    // Not `assert_eq`: the texts are long.
+    assert!(composed == expected + &last);
+}
+
+const PRIME: u64 = (1 << 61) - 1;
+
+/// How many paths there are from state 0 to a final state, modulo a prime, and the least cost of one: of a text whose
+/// lines stand in the order of states and lead to higher ones.
+fn paths(text: &str, states: usize) -> (u64, u64) {
+    let mut here = vec![(0, u64::MAX); states];
+    here[0] = (1, 0);
+    let mut all = (0, u64::MAX);
+    for line in text.lines() {
+        let fields: Vec<usize> = line.split('\t').map(|f| f.parse().unwrap()).collect();
+        let (ways, cost) = here[fields[0]];
+        let (to, more) = match fields.len() {
+            1 | 2 => (&mut all, fields.get(1)),
+            _ => {
+                assert!(fields[1] > fields[0], "{line}");
+                (&mut here[fields[1]], fields.get(4))
+            }
+        };
+        let more = more.map_or(0, |&cost| cost as u64);
+        *to = ((to.0 + ways) % PRIME, to.1.min(cost.saturating_add(more)));
+    }
+    all
+}
+
+const GLYPHS: u32 = 6;
+
+/// So many places with two glyphs each, and the least cost of a text of them with its kerning.
+fn lattice(places: usize) -> (String, u64) {
+    let mut text = String::new();
+    // The least cost up to here that ends in the glyph.
+    let mut costs = [u64::MAX; 1 + GLYPHS as usize];
+    costs[0] = 0;
+    for (place, &glyph) in drawn_glyphs(places, GLYPHS).iter().enumerate() {
+        let mut next = [u64::MAX; 1 + GLYPHS as usize];
+        for (label, cost) in [(glyph, 0), (glyph % GLYPHS + 1, 3)] {
+            text += &format!("{place} {} {label} {label} {cost}\n", place + 1);
+            let cheapest = (0..=GLYPHS).map(|before| {
+                let so_far = costs[before as usize];
+                so_far.saturating_add(cost + u64::from(kern(before, label)))
+            });
+            next[label as usize] = cheapest.min().unwrap();
+        }
+        costs = next;
+    }
+    let least = costs.into_iter().min().unwrap();
+    (text + &format!("{places}\n"), least)
+}
+
+#[test]
+fn a_hundred_thousand_states() {
+    let places = 99_999;
+    let (first, cheapest) = lattice(places);
+    let composed = composed_with(&first, &kerning(GLYPHS), "lattice");
+    // From the second place on two states, one for each glyph that may be the last, and from each two transitions.
+    let (states, trs) = (1 + 2 * places, 2 + 4 * (places - 1));
+    assert_eq!(composed.lines().count(), trs + 2);
+    assert_eq!(composed.lines().last(), Some(&*format!("{}", states - 1)));
+    let (ways, least) = paths(&composed, states);
+    let expected = (0..places).fold(1, |ways, _| 2 * ways % PRIME);
+    assert_eq!((ways, least), (expected, cheapest));
+    // What is read is printed as it was.
+    let printed = call(&["print", "--keep-state-numbering", "-"], &first);
+    assert!(said(&printed).1 == first.replace(' ', "\t").replace("\t0\n", "\n"));
 }

@@ -82,7 +82,7 @@ fn cycles() {
 
 #[test]
 fn large_machines() {
-    let last = 65534;
+    let last = 99_999;
     let chain: Vec<(u32, Tr)> = (0..last)
         .map(|state| (state, Tr::new(1, 0, 1, state + 1)))
         .collect();
@@ -90,7 +90,7 @@ fn large_machines() {
     let all: Vec<Reading> = one.readings(Kind::Cost).collect();
     assert_eq!(all.len(), 1);
     assert_eq!(all[0].weight(), Some(u64::from(last) + 7));
-    assert_eq!((all[0].input().len(), all[0].output().len()), (65534, 0));
+    assert_eq!((all[0].input().len(), all[0].output().len()), (99_999, 0));
     // Two ways at each of thirty states: 2^30 readings, the first of which come at once.
     let ways: Vec<(u32, Tr)> = (0..60)
         .map(|k| (k / 2, Tr::new(k, k, 4_000_000_000, k / 2 + 1)))

@@ -20,6 +20,9 @@ const MOST: Room = Room {
     trs: 4096,
 };
 
+/// Transitions of a large machine.
+const MANY: u32 = 100_000;
+
 /// What the calls that check answered, and what they left.
 #[derive(Debug, PartialEq)]
 struct Checked {
@@ -97,7 +100,8 @@ fn compare(inputs: &Inputs) -> Result<u32, u32> {
     let (checked, _) = twice(inputs);
     let mut damaged = checked?.left;
     let side = damaged.session.side();
-    damaged.memory.states[4] = 1;
+    // The first record's chain leads to itself.
+    damaged.memory.states[sys::STATE_WORDS - 1] = 1;
     let refused = on_a_small_stack(move || {
         let lent = damaged.inputs.lent();
         sys::expand(&lent, &mut damaged.session, &mut damaged.memory, 0)
@@ -130,7 +134,7 @@ fn drawn_machines() {
     assert!(refusals[5] + refusals[6] > 0, "{refusals:?}");
 }
 
-/// One state whose list is as long as a machine's may be, sorted or not; its sortedness is judged in fact.
+/// One state with a long list, sorted or not; its sortedness is judged in fact.
 fn wide(count: u32, falling: bool) -> Vec<u32> {
     let mut words = vec![2, count, 1, 0, 0, 0, 1, 1, 0, 0, 1, 0];
     for own in 1..=count {
@@ -141,7 +145,7 @@ fn wide(count: u32, falling: bool) -> Vec<u32> {
 }
 
 #[test]
-fn the_largest_machines() {
+fn large_machines() {
     let compared = |first: &[u32], second: &[u32], settings| {
         compare(&Inputs {
             first: first.to_vec(),
@@ -152,8 +156,8 @@ fn the_largest_machines() {
         })
     };
     let plain = [0, 0, u32::MAX, 0, u32::MAX, 0];
-    let sigma = [0, 2, 65535, 1, u32::MAX, 0];
-    let (rising, falling) = (wide(65535, false), wide(65535, true));
+    let sigma = [0, 2, MANY, 1, u32::MAX, 0];
+    let (rising, falling) = (wide(MANY, false), wide(MANY, true));
     let few = wide(9, true);
     assert_eq!(compared(&rising, &few, plain), Ok(1));
     assert_eq!(compared(&rising, &few, sigma), Ok(1));

@@ -2,8 +2,15 @@
 
 #![allow(dead_code)]
 
-use rinkolza::sys::{self, Memory, Session};
+use rinkolza::sys::{self, Memory, Session, TR_WORDS};
 use rinkolza::{words, Composition, Inputs, Room, Tr};
+
+/// Room that no small composition uses up; it is had at once.
+pub const LARGE: Room = Room {
+    heads: 16384,
+    states: 65535,
+    trs: 65535,
+};
 
 /// Numbers that look random, the same at every run.
 pub struct Draw(pub u64);
@@ -31,7 +38,7 @@ impl Draw {
         match self.below(8) {
             0 => u32::MAX - self.below(3),
             1 => self.next() as u32,
-            2 => self.below(70_000),
+            2 => self.below(20_000_000),
             _ => self.below(7),
         }
     }
@@ -201,15 +208,15 @@ impl World for Fixed {
     }
 
     fn triple(&self, n: u32) -> (u32, u32, u32) {
-        let record = &self.memory.states[5 * n as usize..][..5];
-        (record[0] >> 16, record[0] & 0xffff, record[1])
+        let record = self.memory.state(n).expect("the state is found");
+        (record[0], record[1], record[2])
     }
 
     fn expand(&mut self, n: u32) -> Result<Vec<Tr>, u32> {
         let lent = self.inputs.lent();
         let (first, count) = sys::expand(&lent, &mut self.session, &mut self.memory, n)?;
-        let from = 5 * first.saturating_sub(1) as usize;
-        let part = records(&self.memory.trs[from..from + 5 * count as usize]);
+        let from = TR_WORDS * first.saturating_sub(1) as usize;
+        let part = records(&self.memory.trs[from..from + TR_WORDS * count as usize]);
         assert_eq!(part, self.trs(n), "records of {n}");
         Ok(part)
     }

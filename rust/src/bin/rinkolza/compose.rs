@@ -5,11 +5,14 @@ use crate::files::{self, say, write_out, Tables};
 use crate::{plain_format, shown, unwritable};
 use rinkolza::{
     dot, text, to_sort, Composition, Error, Filter, Format, Machine, Options, Refusal, Rewrite,
-    Room, Side, Sigma, Sort, SymbolTable,
+    Room, Side, Sigma, Sort, SymbolTable, LARGEST_COUNT,
 };
 
 /// States expanded between two lines of progress.
 const STEP: u32 = 256;
+
+/// Records of each sort to begin with, some three megabytes of them: up to that nothing is copied.
+const BEGIN: usize = 65535;
 
 #[derive(Clone, Copy)]
 enum To {
@@ -32,6 +35,7 @@ pub fn compose(args: &Args) -> Result<(), Stop> {
     let first = files::read_machine(file1, &first_format(args, &tables, &format))?;
     let second = files::read_machine(file2, &second_format(args, &tables, &format))?;
     say_sorted(&first, &second, &options);
+    let options = options.with_room(room(&first, &second));
     let mut composition = Composition::open(&first, &second, &options).map_err(refused)?;
     let ran = match args.has("progress") {
         false => composition.run(),
@@ -46,6 +50,15 @@ pub fn compose(args: &Args) -> Result<(), Stop> {
         To::Counts => counts(&composition, &machine),
     };
     write_out(args, &text)
+}
+
+/// The room to begin with: more than small machines would get.
+fn room(first: &Machine, second: &Machine) -> Room {
+    Room {
+        states: BEGIN.max(first.state_count() + second.state_count()),
+        trs: BEGIN.max(first.tr_count() + second.tr_count()),
+        ..Options::new().room
+    }
 }
 
 /// FIRST has the inner labels on its outputs. As an acceptor it has one table, by whatever option it is named.
@@ -89,9 +102,7 @@ fn options(args: &Args, tables: &Tables) -> Result<Options, Stop> {
         .with_filter(args.choice("filter", &filters)?)
         .with_sigma1(sigma(args, "1", tables.inner())?)
         .with_sigma2(sigma(args, "2", tables.inner())?)
-        .with_sort(args.choice("sort", &sorts)?)
-        // Some three megabytes; so nothing is copied.
-        .with_room(Room::LARGEST))
+        .with_sort(args.choice("sort", &sorts)?))
 }
 
 fn sigma(args: &Args, machine: &str, symbols: Option<&SymbolTable>) -> Result<Sigma, Stop> {
@@ -212,7 +223,9 @@ fn refused_at(error: Error, composition: &Composition) -> Stop {
     };
     let made_of = state.and_then(|state| composition.triple(state));
     let hint = match (refusal, made_of) {
-        (Refusal::NoRoom, _) => "\nrinkolza: a composition has at most 65535 states and 65535 transitions".to_string(),
+        (Refusal::NoRoom, _) => format!(
+            "\nrinkolza: a composition has at most {LARGEST_COUNT} states and {LARGEST_COUNT} transitions"
+        ),
         (_, Some(triple)) => format!(
             "\nrinkolza: that state is made of state {} of the first machine and state {} of the second, as rinkolza print numbers them",
             triple.first, triple.second
