@@ -98,14 +98,11 @@ impl Composition {
     pub fn open_words(inputs: Inputs, room: Room, most: Room) -> Result<Composition, Error> {
         let most = most.within(Room::LARGEST);
         let room = suited(room.within(Room::LARGEST), &inputs, most);
-        let heads = room.heads;
-        let owned = Owned::open(inputs, room, Room { heads, ..most })?;
-        let opened = owned.memory().room();
         Ok(Composition {
-            owned,
-            room: opened,
+            owned: Owned::open(inputs, room)?,
+            room,
             most,
-            growths: u32::from(opened != room),
+            growths: 0,
             next: 0,
         })
     }
@@ -317,23 +314,26 @@ impl Composition {
     /// can lack no record that there may be. Heads stay as opened.
     fn larger(&self, n: u32) -> Option<Room> {
         let (one, other) = self.list_lengths(n);
+        let Room { heads, states, trs } = self.room;
+        let (found, stored) = (self.found() as usize, self.tr_count() as usize);
         // A move takes a transition, or none, of each list: there are no more moves than such pairs.
         let moves = (one + 1).saturating_mul(other + 1);
-        let likely = moves.min(one + other);
-        let more = |room: usize, used: u32, most: usize| {
-            let used = used as usize;
-            if room >= most.min(used.saturating_add(moves)) {
-                return room;
-            }
-            let twice = room.max(1).saturating_mul(2);
-            twice.max(used.saturating_add(likely)).min(most)
+        let end = |room: usize, used: usize, most: usize| match room < used.saturating_add(moves) {
+            true => most.max(room),
+            false => room,
         };
-        let larger = Room {
-            heads: self.room.heads,
-            states: more(self.room.states, self.found(), self.most.states),
-            trs: more(self.room.trs, self.tr_count(), self.most.trs),
+        let most = Room {
+            heads,
+            states: end(states, found, self.most.states),
+            trs: end(trs, stored, self.most.trs),
         };
-        (larger != self.room).then_some(larger)
+        let twice = self.room.larger(most)?;
+        let listed = Room {
+            heads,
+            states: twice.states.max(found + one + other),
+            trs: twice.trs.max(stored + one + other),
+        };
+        Some(listed.within(most))
     }
 
     /// How many transitions the two states that state n is made of have.

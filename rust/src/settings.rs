@@ -172,8 +172,8 @@ impl Room {
         }
     }
 
-    /// Twice the room, within `most`; none where there is no more to be had. A composition takes it where a call lacks
-    /// room; once it is open, for records alone, with `most.heads` the heads that it has.
+    /// Twice the room, within `most`; none where there is no more to be had. A composition takes no less where a call
+    /// lacks room, for records alone.
     pub fn larger(self, most: Room) -> Option<Room> {
         let more = |count: usize, most: usize| count.max(1).saturating_mul(2).min(most).max(count);
         let larger = Room {

@@ -276,41 +276,24 @@ macro_rules! trusted {
 }
 
 impl Owned {
-    /// Opens a composition in memory with this room; where a head or a state record is lacking, in larger room within
-    /// `most`. Both count as [`Room::LARGEST`] where they are above it.
+    /// Opens a composition in memory with this room, which counts as [`Room::LARGEST`] where it is above it.
     ///
     /// # Errors
     ///
     /// [`Error::Refused`] by the numbers 1 to 7 or 13; [`Error::Memory`] where there is no memory for the room.
-    pub fn open(inputs: Inputs, room: Room, most: Room) -> Result<Owned, Error> {
-        let (room, most) = (room.within(Room::LARGEST), most.within(Room::LARGEST));
-        let mut owned = Owned {
-            inputs,
-            session: Session::default(),
-            memory: Memory::new(room)?,
-        };
-        let mut number = owned.opened();
-        // An opening takes a head and a record: what one step does not give no other does.
-        if number == Refusal::NoRoom.number() {
-            if let Some(larger) = room.larger(most) {
-                owned.memory = Memory::new(larger)?;
-                number = owned.opened();
-            }
-        }
+    pub fn open(inputs: Inputs, room: Room) -> Result<Owned, Error> {
+        let mut session = Session::default();
+        let mut memory = Memory::new(room.within(Room::LARGEST))?;
+        let number = open(&inputs.settings, &inputs.lent(), &mut session, &mut memory);
+        // Refused, nothing is handed out.
         match number {
-            0 => Ok(owned),
+            0 => Ok(Owned {
+                inputs,
+                session,
+                memory,
+            }),
             refused => Err(Error::refused(Refusal::known(refused))),
         }
-    }
-
-    /// The number that the opening answers. Refused, the value is not handed out.
-    fn opened(&mut self) -> u32 {
-        open(
-            &self.inputs.settings,
-            &self.inputs.lent(),
-            &mut self.session,
-            &mut self.memory,
-        )
     }
 
     /// What is composed.

@@ -2,16 +2,10 @@
 
 mod common;
 
-use common::{grid, number, Draw, Fixed, World, LARGE};
+use common::{grid, number, Draw, Fixed, World, LARGE, LEAST};
 use rinkolza::sys::{Memory, Owned, Piece};
 use rinkolza::{Composition, Error, Machine, Options, Room, Tr};
 
-/// The least of each sort.
-const LEAST: Room = Room {
-    heads: 1,
-    states: 1,
-    trs: 1,
-};
 /// Heads enough, and records that suffice for an opening.
 const FEW: Room = Room {
     heads: 16384,
@@ -112,10 +106,10 @@ fn drawn_lists_of_pieces() {
         let mut inputs = draw.inputs(6, 6);
         draw.make_heavy(&mut inputs.second);
         let small = Room { heads: 3, ..FEW };
-        let Ok(mut large) = Owned::open(inputs.clone(), LARGE, LARGE) else {
+        let Ok(mut large) = Owned::open(inputs.clone(), LARGE) else {
             continue;
         };
-        let mut small = Owned::open(inputs, small, small).unwrap();
+        let mut small = Owned::open(inputs, small).unwrap();
         for _ in 0..1 + draw.below(12) {
             let n = draw.below(large.session().used_states() + 2);
             match draw.below(3) {
@@ -303,6 +297,25 @@ fn no_more_of_one_sort_than_can_be_used() {
     }
 }
 
+/// Room of a sort that was named above the most stays while the other grows.
+#[test]
+fn named_room_above_the_most_stays() {
+    let (first, second) = ladder(100, 1);
+    let room = |states, trs| Room {
+        states,
+        trs,
+        ..LEAST
+    };
+    let options = Options::new().with_room(room(40, 37));
+    let options = options.with_most(room(1, LARGE.trs));
+    let mut composition = Composition::open(&first, &second, &options).unwrap();
+    assert_eq!(World::run(&mut composition), Err(13));
+    assert_eq!(
+        (composition.room(), composition.found()),
+        (room(40, 74), 40)
+    );
+}
+
 #[test]
 fn the_most_room_is_the_end() {
     let most = Room {
@@ -411,7 +424,7 @@ fn memory_that_is_not_to_be_had_is_an_error() {
 
 #[test]
 fn what_cannot_be_lengthened_stays() {
-    let mut owned = Owned::open(grid(5), FEW, FEW).unwrap();
+    let mut owned = Owned::open(grid(5), FEW).unwrap();
     assert_eq!(owned.run_from(0, u32::MAX).refused, Some(13));
     let before = owned.clone();
     for (states, trs) in [(usize::MAX, 9), (9, usize::MAX / 8), (usize::MAX / 6, 9)] {

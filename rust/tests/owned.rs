@@ -118,7 +118,7 @@ fn drawn_calls() {
             states: 1 + draw.below(40) as usize,
             trs: draw.below(120) as usize,
         };
-        let Ok(mut owned) = Owned::open(inputs, room, room) else {
+        let Ok(mut owned) = Owned::open(inputs, room) else {
             continue;
         };
         for _ in 0..1 + draw.below(16) {
@@ -146,7 +146,7 @@ fn past_the_found_states_nothing_is_done() {
         states: 99,
         trs: 99,
     };
-    let mut owned = Owned::open(common::grid(4), room, room).unwrap();
+    let mut owned = Owned::open(common::grid(4), room).unwrap();
     owned.run_from(0, 3);
     let (before, found) = (owned.clone(), owned.session().used_states());
     for n in [found, found + 1, 70_000, u32::MAX] {

@@ -7,7 +7,7 @@
 
 mod common;
 
-use common::{listing, number, ordered, Fixed, World};
+use common::{listing, number, ordered, Fixed, World, LEAST};
 use rinkolza::{Composition, Inputs, Room};
 use std::fs;
 use std::path::{Path, PathBuf};
@@ -16,12 +16,6 @@ const ROOM: Room = Room {
     heads: 64,
     states: 1024,
     trs: 1024,
-};
-/// The least of each sort.
-const LEAST: Room = Room {
-    heads: 1,
-    states: 1,
-    trs: 1,
 };
 
 #[test]

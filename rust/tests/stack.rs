@@ -60,7 +60,7 @@ fn checked(inputs: Inputs) -> Result<Checked, u32> {
 
 /// The same, in memory that grows on 13.
 fn trusted(inputs: Inputs) -> Option<Trusted> {
-    let mut left = Owned::open(inputs, FEW, FEW).ok()?;
+    let mut left = Owned::open(inputs, FEW).ok()?;
     let expanded = (0..4).map(|n| left.expand(n)).collect();
     let mut pieces = vec![left.run_from(0, 5)];
     while let Some(larger) = left.memory().room().larger(MOST) {

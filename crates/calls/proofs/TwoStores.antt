@@ -51,7 +51,7 @@ pub alike-triple : (d e : Store) → Alike d e → (n : ℕ) → n < d .used .st
 alike-triple d e a n h = triple-same (d .memory .states) (e .memory .states) n n (λ k i. a .state n k h (omega arith))
 
 -- a record written in the first unused place of two slices
-written : (size : ℕ) (l r rec : List ℕ) (t u : ℕ) → u ≡ t → length rec ≡ size → size * t + size ≤ length l → size * u + size ≤ length r → ((i : ℕ) → i < size * t → getD r i 0 ≡ getD l i 0)
+pub written : (size : ℕ) (l r rec : List ℕ) (t u : ℕ) → u ≡ t → length rec ≡ size → size * t + size ≤ length l → size * u + size ≤ length r → ((i : ℕ) → i < size * t → getD r i 0 ≡ getD l i 0)
     → (i : ℕ) → i < size * (t + 1) → getD (put r (size * u) rec) i 0 ≡ getD (put l (size * t) rec) i 0
 written size l r rec t u z whole a b same i h = go (decLt i (size * t))
   where

@@ -20,10 +20,10 @@ use Rattle.calls.proofs.StoreForms.{Form}
 use Rattle.calls.proofs.ExpandKept.{entered-is}
 use Rattle.calls.proofs.Parts.{part-within}
 use Rattle.layouts.specs.Layout.{five}
-use Rattle.layouts.specs.SameRecords.{SameState, Small}
+use Rattle.layouts.specs.SameRecords.{SameState, Small, Above}
 use Rattle.layouts.proofs.SameStores.{Rooms, rooms, whole-trs, state-two, part-two, words-two}
 use Rattle.layouts.proofs.SameSteps.{Wide}
-use Rattle.layouts.proofs.SameChecks.{Pair, Above, Entered2, entered-two}
+use Rattle.layouts.proofs.SameChecks.{Pair, Entered2, entered-two}
 use Rattle.layouts.proofs.SameExpansions.{Expand2, expand-ready}
 use Rattle.layouts.proofs.SameRuns.{Agree, run-ready}
 
@@ -137,11 +137,11 @@ module _ {K J : ℕ} (l : Lent) (small : Small l) (s : Session) (o m : Memory) (
       go (inr (inl (c, x, y, e, i))) = inl (rw (x, y) (ap₂ (λ (b : ℕ) (q : List ℕ). cond (eqb b 1) q []) (same-state c e n i .expanded) (same-words c e n i)))
       go (inr (inr (x, w, a))) = inr (rw x, w, a)
 
-  pub place-two : (n : ℕ) → (recordsPlaceWith five l s o n ≡ recordsPlace l s m n) ⊎ Wide K J
+  pub place-two : (n : ℕ) → (recordsPlaceWith five l s o n ≡ recordsPlace l s m n) ⊎ (Wide K J × Above (s .used))
   unfolding recordsPlaceWith
   place-two n = go (found-two n)
     where
-      go : Found2 n → (recordsPlaceWith five l s o n ≡ recordsPlace l s m n) ⊎ Wide K J
+      go : Found2 n → (recordsPlaceWith five l s o n ≡ recordsPlace l s m n) ⊎ (Wide K J × Above (s .used))
       go (inl (k, x, y)) = inl (rw (x, y))
       go (inr (inl (c, x, y, e, i))) = inl (rw (x, y) (ap₂ (λ (b q : ℕ). cond (eqb b 1) q 0) (same-state c e n i .expanded) (same-place c e n i)))
-      go (inr (inr (x, w, a))) = inr w
+      go (inr (inr (x, w, a))) = inr (w, a)

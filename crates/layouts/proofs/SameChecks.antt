@@ -1,7 +1,7 @@
 -- The checks 1 to 9 in both layouts, on memories with the same records: refused by one number in both, passed in both, or 8 in the old one alone, where more records are used than
 -- its limit.
 use mathlib.Core.Path.{_≡_, refl, sym, _∙_}
-use mathlib.Core.Bool.{Bool, true, false, not, _&&_, true≢false}
+use mathlib.Core.Bool.{Bool, true, false, not, _&&_, true≢false, and-false}
 use mathlib.Core.List.{List}
 use mathlib.Core.Logic.{_⊎_, inl, inr, ⊎-elim}
 use Prim.Native.Nat.{ℕ, _≤_, _<_}
@@ -19,7 +19,7 @@ use Rattle.calls.specs.Store.{Memory, Used, Store, stateRoom, trRoom, stateRoom
 use Rattle.calls.specs.Forms.{fits, formOk, fitsWith, formOkWith}
 use Rattle.calls.specs.Checks.{Session, sideNumber, storeOf, sideFor, sessionOk, entered, enteredWith, sessionOkWith, sideForWith}
 use Rattle.layouts.specs.Layout.{five}
-use Rattle.layouts.specs.SameRecords.{newStates, wholeTrs, SameRecords, SmallMachine, Small, Large, LargeRefused}
+use Rattle.layouts.specs.SameRecords.{newStates, wholeTrs, SameRecords, SmallMachine, Small, Large, LargeRefused, Above}
 use Rattle.layouts.proofs.SameStores.{Rooms, rooms, form-two}
 use Rattle.layouts.proofs.SameSteps.{Wide}
 
@@ -29,12 +29,9 @@ pub record Pair (K J : ℕ) (o m : Memory) (u : Used) : Type 0 where
   pub states : newStates m ≡ K
   pub trs : wholeTrs m ≡ J
 
--- no more, or more, are used than the old limit
+-- no more are used than the old limit
 abbrev pub Low : Used → Type 0
 Low u = (u .states ≤ 65535) × (u .trs ≤ 65535)
-
-abbrev pub Above : Used → Type 0
-Above u = (65535 < u .states) ⊎ (65535 < u .trs)
 
 -- "machines within the old limit" are as well formed as before
 formed-two : (m : List ℕ) → SmallMachine m → wellFormedUpTo (five .limit) m ≡ wellFormed m
@@ -45,10 +42,6 @@ pub side-two : (s : Settings) (l : Lent) → Small l → sideForWith five s l �
 unfolding sideForWith
 side-two s l h = rw (formed-two (l .m1) (h .0), formed-two (l .m2) (h .1))
 
-never : (b : Bool) → b && false ≡ false
-never true = refl
-never false = refl
-
 -- and above it they were malformed
 pub large-refused : LargeRefused
 unfolding sideForWith wellFormedUpTo sizeUpTo
@@ -56,7 +49,7 @@ large-refused s l h = go (settingsOk s) (wellFormedUpTo (five .limit) (l .m1)) (
   where
     malformed : (m : List ℕ) → Large m → wellFormedUpTo (five .limit) m ≡ false
     malformed m (inl x) = rw (lt-leb _ _ x)
-    malformed m (inr x) = rw (lt-leb _ _ x, never (leb (stateCount m) 65535))
+    malformed m (inr x) = rw (lt-leb _ _ x, and-false)
 
     go : (a b c : Bool) → settingsOk s ≡ a → wellFormedUpTo (five .limit) (l .m1) ≡ b → wellFormedUpTo (five .limit) (l .m2) ≡ c → (k : ℕ) × (0 < k) × (k ≤ 3) × (sideForWith five s l ≡ refused k)
     go false b c x y z = (1, omega arith, omega arith, rw x)
@@ -73,7 +66,7 @@ fit-split u t a b = go (decLt a u) (decLt b t)
   where
     go : Dec (a < u) → Dec (b < t) → Fits u t a b
     go (yes x) y = inr (rw (lt-leb u a x), inl x)
-    go (no x) (yes y) = inr (rw (lt-leb t b y) (never (leb u a)), inr y)
+    go (no x) (yes y) = inr (rw (lt-leb t b y) (and-false (leb u a)), inr y)
     go (no x) (no y) = inl (rw (le-leb u a (omega arith), le-leb t b (omega arith)), omega arith, omega arith)
 
 -- the checks 1 to 8 in both

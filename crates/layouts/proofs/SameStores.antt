@@ -20,6 +20,7 @@ use Rattle.calls.specs.Calls.{wordsOfPart}
 use Rattle.calls.proofs.StoreForms.{Form}
 use Rattle.calls.proofs.ChainLaws.{chain-below, add-field, add-new, add-holds}
 use Rattle.calls.proofs.FormKept.{mark-other, mark-triple, mark-next, mark-expanded, mark-first}
+use Rattle.calls.proofs.TwoStores.{written}
 use Rattle.calls.proofs.Parts.{part-alike, words-alike}
 use Rattle.layouts.specs.Layout.{five, oldField}
 use Rattle.layouts.specs.SameRecords.{newStates, wholeTrs, SameState, SameRecords}
@@ -152,16 +153,15 @@ module _ (o : Memory) (d : Store) (same : SameRecords o (d .memory) (d .used)) w
       abbrev tr : List ℕ
       tr = trRecord st target next
 
-      each-word : (i : ℕ) → i < trSize * (T + 1) → Dec (i < trSize * T) → getD (put (o .trs) (trSize * T) tr) i 0 ≡ getD (put (m .trs) (trSize * T) tr) i 0
-      each-word i h (yes l) = put-before (o .trs) (trSize * T) tr i 0 l ∙ (word-two i l ∙ sym (put-before (m .trs) (trSize * T) tr i 0 l))
-      each-word i h (no l) =
-          let j = i - trSize * T in
-          let p : i ≡ trSize * T + j = omega arith in
-          rw p (put-in (o .trs) (trSize * T) tr j 0 (omega arith) (omega (arith, more, same .trs)) ∙ sym (put-in (m .trs) (trSize * T) tr j 0 (omega arith) (omega (arith, more))))
-
       pub append-two : SameRecords (append (beside o d) st target next .memory) (append d st target next .memory) (append d st target next .used)
       unfolding append
-      append-two = record { heads = same .heads; states = same .states; trs = simp length-put (same .trs); state = same .state; word = λ i h w. each-word i h (decLt i (trSize * T)) }
+      append-two = record {
+        heads = same .heads;
+        states = same .states;
+        trs = simp length-put (same .trs);
+        state = same .state;
+        word = λ i h w. written trSize (m .trs) (o .trs) tr T T refl refl (omega (arith, more)) (omega (arith, more, same .trs)) word-two i h;
+      }
 
     -- a mark
     module _ (n first′ : ℕ) (found : n < U) (within : first′ ≤ T) where

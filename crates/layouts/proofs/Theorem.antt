@@ -10,7 +10,7 @@ use Rattle.calls.specs.Checks.{Session}
 use Rattle.calls.specs.Calls.{Outcome, recordsPlace, recordsPlaceWith}
 use Rattle.calls.specs.Sequences.{World, Call, opening, expand, finalWeight, records, run, Said, accepted, part, weight, answered, handed, Turn, saidOf, turnOf, callOf, replies, afterWith, callWith, repliesWith}
 use Rattle.layouts.specs.Layout.{five}
-use Rattle.layouts.specs.SameRecords.{newStates, wholeTrs, SameWorld, Small, SmallCall, SmallCalls, Few, Many, Moved, SameTurn, SameTurns, MovedAt, EarlierAnswers}
+use Rattle.layouts.specs.SameRecords.{newStates, wholeTrs, SameWorld, Small, SmallCall, SmallCalls, Few, Many, Above, Moved, SameTurn, SameTurns, MovedAt, EarlierAnswers}
 use Rattle.layouts.proofs.SameSteps.{Wide}
 use Rattle.layouts.proofs.SameChecks.{Pair}
 use Rattle.layouts.proofs.SameCalls.{Call2, expand-two, run-two, final-two, records-two, place-two}
@@ -117,8 +117,8 @@ earlier-answers l o w small h = record {
   calls = λ cs few. all-calls l small cs o w few worlds;
   call-few = λ c few x. same-turn (callWith five l o c) (callOf l w c) (one-few l small (states x) (trs x) o w c few worlds);
   calls-few = λ cs few x. all-few l small (states x) (trs x) cs o w few worlds;
-  place = λ n x. subst (λ (s : Session). recordsPlaceWith five l s (o .memory) n ≡ recordsPlace l (w .session) (w .memory) n) (sym (h .session))
-      (⊎-elim (λ e. e) (λ v. absurd (⊎-elim (λ a. omega (arith, a, states x)) (λ a. omega (arith, a, trs x)) v)) (place-two l small (w .session) (o .memory) (w .memory) (worlds .pair) n));
+  place = λ n. subst (λ (s : Session). (recordsPlaceWith five l s (o .memory) n ≡ recordsPlace l (w .session) (w .memory) n) ⊎ (Many (o .memory) × Above (s .used))) (sym (h .session))
+      (⊎-elim inl (λ v. inr (many (o .memory) (w .memory) (w .session) (worlds .pair) (v .0), v .1)) (place-two l small (w .session) (o .memory) (w .memory) (worlds .pair) n));
 }
   where
     worlds : Worlds (newStates (w .memory)) (wholeTrs (w .memory)) o w

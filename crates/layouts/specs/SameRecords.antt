@@ -75,12 +75,16 @@ Few m = (oldStates m ≤ five .limit) × (wholeTrs m ≤ five .limit)
 abbrev pub Many : Memory → Type 0
 Many m = (five .limit < oldStates m) ⊎ (five .limit < wholeTrs m)
 
+-- more used than it
+abbrev pub Above : Used → Type 0
+Above u = (five .limit < u .states) ⊎ (five .limit < u .trs)
+
 abbrev pub Refused13 : Reply → Type 0
 Refused13 r = (s : Session) × (r ≡ answered (refusal 13) s)
 
 -- where more are used than the old limit; handing back says 8 by an empty part
 abbrev pub Refused8 : Session → Reply → Type 0
-Refused8 s r = ((five .limit < s .used .states) ⊎ (five .limit < s .used .trs)) × ((r ≡ answered (refusal 8) s) ⊎ (r ≡ handed []))
+Refused8 s r = Above (s .used) × ((r ≡ answered (refusal 8) s) ⊎ (r ≡ handed []))
 
 -- "8, 13 .. move": the slices hold more records than the old limit, and the old call was refused by 13 or by 8
 pub record Moved (o : World) (t : Turn) : Type 0 where
@@ -112,8 +116,8 @@ pub record SameAnswers (l : Lent) (o w : World) : Type 0 where
   pub calls : (cs : List Call) → SmallCalls cs → SameTurns l o w cs ⊎ MovedAt l o w cs
   pub call-few : (c : Call) → SmallCall c → Few (o .memory) → SameTurn (callWith five l o c) (callOf l w c)
   pub calls-few : (cs : List Call) → SmallCalls cs → Few (o .memory) → SameTurns l o w cs
-  -- and where handed-back records lie
-  pub place : (n : ℕ) → Few (o .memory) → recordsPlaceWith five l (o .session) (o .memory) n ≡ recordsPlace l (w .session) (w .memory) n
+  -- and where handed-back records lie, unless handing back moves
+  pub place : (n : ℕ) → (recordsPlaceWith five l (o .session) (o .memory) n ≡ recordsPlace l (w .session) (w .memory) n) ⊎ (Many (o .memory) × Above (o .session .used))
 
 -- "malformed sizes move": with a machine above the old limit every old call was refused by 1, 2 or 3, which the checks of all calls begin with
 abbrev pub LargeRefused : Type 0

@@ -21,7 +21,7 @@ use Rattle.words.specs.Machines.{stateCount, trCount, startWord, sideMar
 use Rattle.words.specs.Sides.{only, sideOf, directionAt}
 use Rattle.words.specs.Sigmas.{inner}
 use Rattle.words.specs.Steps.{Composition}
-use Rattle.words.specs.Settings.{Settings, Lent, operand1, operand2, compositionOf}
+use Rattle.words.specs.Settings.{Settings, Lent, compositionOf}
 use Rattle.words.specs.AsPapers.{exact, composedOf}
 use Rattle.words.specs.Links.{Composable}
 use Rattle.words.proofs.PapersOpened.{sound-of}

@@ -12,6 +12,13 @@ pub const LARGE: Room = Room {
     trs: 65535,
 };
 
+/// The least of each sort.
+pub const LEAST: Room = Room {
+    heads: 1,
+    states: 1,
+    trs: 1,
+};
+
 /// Numbers that look random, the same at every run.
 pub struct Draw(pub u64);
 

@@ -4,7 +4,7 @@ use Prim.Native.Nat.{_≤_}
 use lib.ListN.{length}
 use borrow.Author.Needs.{needs}
 use Rattle.calls.specs.Listing.{refusedLine}
-use Rattle.lazy_fst.specs.Meaning.{lentWith, left}
+use Rattle.lazy_fst.specs.Meaning.{lentWith}
 use Rattle.listing_text.specs.Printing.{bytesOf}
 use Rattle.listing_write.proofs.WrittenLaws.{same-text}
 use Rattle.listing.proofs.LineLaws.{bytes-one}

@@ -5,7 +5,7 @@ use native.Mathlib.Omega.{arith}
 use lib.ListN.{length}
 use borrow.Author.Needs.{needs}
 use Rattle.store_records.specs.Meaning.{memoryOf}
-use Rattle.lazy_fst.specs.Meaning.{lentWith, sessionMeans, left}
+use Rattle.lazy_fst.specs.Meaning.{lentWith, sessionMeans}
 use Rattle.listing_text.specs.Printing.{bytesOf}
 use Rattle.listing_write.proofs.WrittenLaws.{same-text}
 use Rattle.listing.specs.Stages.{linesAt, linesFrom}
