@@ -1,0 +1,4 @@
+pub mod OneStep
+pub mod Rooms
+pub mod AllSteps
+pub mod Chains
