@@ -15,7 +15,7 @@ use Rattle.words.specs.Sides.{nonEmpty}
 use Rattle.words.proofs.ListLaws.{link, first-inside, list-end, list-turn}
 use Rattle.matchers.specs.Cursors.{recordsFrom, withLabel, head0}
 
-records-inside : (m : List ℕ) (t : ℕ) → t ≤ trCount m → recordsFrom m t ≡ listFrom m t
+pub records-inside : (m : List ℕ) (t : ℕ) → t ≤ trCount m → recordsFrom m t ≡ listFrom m t
 unfolding recordsFrom
 records-inside m t h = rw (le-leb t (trCount m) h)
 

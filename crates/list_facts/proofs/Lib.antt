@@ -1,0 +1,4 @@
+pub mod Pass
+pub mod Told
+pub mod Entries
+pub mod FactLaws

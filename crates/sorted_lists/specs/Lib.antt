@@ -1,0 +1,4 @@
+pub mod Runs
+pub mod Longest
+pub mod Seeks
+pub mod Known
