@@ -1,3 +1,4 @@
 pub mod Falls
+pub mod Fits
 pub mod Bits
 pub mod Walked

@@ -1,89 +1,32 @@
 // The check of a machine: it refuses exactly what document 01 calls malformed.
 ghost use mathlib.Core.Path.{_≡_};
-ghost use lib.Dec.{leb};
-ghost use Rattle.lists.specs.Lists.{every, interval};
-ghost use Rattle.words.specs.Machines.{stateCount, startWord, sideMark, acceptorMark, machineOf, sorted as sortedOf, acceptor as acceptorOf, stateOk, sideMarkOk, acceptorMarkOk, marksOk, sizeOk, wellFormed};
+ghost use mathlib.Core.Bool.{true};
+ghost use lib.Dec.{eqb};
+ghost use Rattle.words.specs.Matches.{MatchType as Side, inputs, outputs};
+ghost use Rattle.words.specs.Machines.{sideMark, acceptorMark, machineOf, sorted as sortedOf, acceptor as acceptorOf, sideMarkOk, acceptorMarkOk, marksOk, wellFormed};
 ghost use Rattle.fst.specs.Meaning.{onOf};
+ghost use Rattle.fst_properties.specs.RecordTests.{formFits};
+use crate::form::form_fits;
 use crate::properties::acceptor;
 use crate::properties::sorted;
-use crate::records::RecordTest;
-use crate::records::all_records;
-use fst::FINAL;
-use fst::FINAL_WEIGHT;
-use fst::FIRST;
-use fst::HEADER_WORDS;
-use fst::LIMIT;
 use fst::MatchType;
-use fst::STATE_WORDS;
-use fst::StateId;
-use fst::TR_WORDS;
 use fst::acceptor_mark;
-use fst::num_records;
-use fst::num_states;
 use fst::side_mark;
-use fst::start_word;
-use fst::state_word;
 
-fn size_ok(m: &[u32]) -> bool
-    ensures { λ r. ⌜ r ≡ sizeOk (now (m .entry)) ⌝ }
-{
-    let s = num_states(m);
-    if LIMIT < s {
-        return false;
-    }
-    let t = num_records(m);
-    if LIMIT < t {
-        return false;
-    }
-    m.len() == HEADER_WORDS + STATE_WORDS * (s as usize) + TR_WORDS * (t as usize)
-}
-
-fn start_ok(m: &[u32]) -> bool
-    ensures { λ r. ⌜ r ≡ leb (startWord (now (m .entry))) (stateCount (now (m .entry))) ⌝ }
-{
-    start_word(m) <= num_states(m)
-}
-
-// A first at most T; final 0 or 1, and 0 with the weight 0.
-fn state_ok(m: &[u32], s: StateId) -> bool
-    ensures { λ r. ⌜ r ≡ stateOk (now (m .entry)) (s .0) ⌝ }
-{
-    if num_records(m) < state_word(m, s, FIRST) {
-        return false;
-    }
-    let is_final = state_word(m, s, FINAL);
-    match is_final {
-        0 => state_word(m, s, FINAL_WEIGHT) == 0,
-        1 => true,
-        _ => false,
-    }
-}
-
-// Left by the label at the first bad record of a state.
-fn states_ok(m: &[u32]) -> bool
-    ensures { λ r. ⌜ r ≡ every (stateOk (now (m .entry))) (interval 0 (stateCount (now (m .entry)))) ⌝ }
-{
-    let n = num_states(m);
-    let mut ok = true;
-    let mut s: u32 = 0;
-    'states: while s < n {
-        if !state_ok(m, StateId(s)) {
-            ok = false;
-            break 'states;
-        }
-        s += 1;
-    }
-    ok
-}
-
-// A side whose mark is 0 is not looked at.
-fn side_mark_ok(m: &[u32], on: MatchType) -> bool
+// A side whose mark is 0 is not looked at; nor one whose mark is 1, where it is known that no record falls on such a side.
+fn side_mark_ok(m: &[u32], on: MatchType, rising: bool) -> bool
+    requires { ⌜ (rising ≡ true → sideMark (onOf on) (now m) ≡ 1 → sortedOf (onOf on) (machineOf (now m)) ≡ true) ⌝ }
     ensures { λ r. ⌜ r ≡ sideMarkOk (sideMark (onOf on) (now (m .entry))) (sortedOf (onOf on) (machineOf (now (m .entry)))) ⌝ }
 {
     let mark = side_mark(m, on);
     match mark {
         0 => true,
-        1 => sorted(m, on),
+        1 => {
+            if rising {
+                return true;
+            }
+            sorted(m, on)
+        }
         2 => !sorted(m, on),
         _ => false,
     }
@@ -100,32 +43,37 @@ fn acceptor_mark_ok(m: &[u32]) -> bool
     }
 }
 
-fn marks_ok(m: &[u32]) -> bool
+fn marks_ok(m: &[u32], rising: bool) -> bool
+    requires { ⌜ (rising ≡ true → (on : Side) → sideMark on (now m) ≡ 1 → sortedOf on (machineOf (now m)) ≡ true) ⌝ }
     ensures { λ r. ⌜ r ≡ marksOk (now (m .entry)) ⌝ }
 {
-    if !side_mark_ok(m, MatchType::MatchInput) {
+    if !side_mark_ok(m, MatchType::MatchInput, rising) {
         return false;
     }
-    if !side_mark_ok(m, MatchType::MatchOutput) {
+    if !side_mark_ok(m, MatchType::MatchOutput, rising) {
         return false;
     }
     acceptor_mark_ok(m)
 }
 
+// Whether the form is good, and no label falls from a record to its next on a side whose mark is 1.
+fn formed_and_rising(m: &[u32]) -> bool
+    ensures { λ r. ⌜ r ≡ formFits (eqb (sideMark inputs (now (m .entry))) 1) (eqb (sideMark outputs (now (m .entry))) 1) (now (m .entry)) ⌝ }
+{
+    let input_mark = side_mark(m, MatchType::MatchInput);
+    let output_mark = side_mark(m, MatchType::MatchOutput);
+    form_fits(m, input_mark == 1, output_mark == 1)
+}
+
+// The form, then the marks. Where a label falls, the record may be in no list: then the form is looked at by itself, and sortedness is asked for on a side whose mark is 1.
 pub fn well_formed(m: &[u32]) -> bool
     ensures { λ r. ⌜ r ≡ wellFormed (now (m .entry)) ⌝ }
 {
-    if !size_ok(m) {
+    if formed_and_rising(m) {
+        return marks_ok(m, true);
+    }
+    if !form_fits(m, false, false) {
         return false;
     }
-    if !start_ok(m) {
-        return false;
-    }
-    if !states_ok(m) {
-        return false;
-    }
-    if !all_records(m, RecordTest::Form, num_records(m)) {
-        return false;
-    }
-    marks_ok(m)
+    marks_ok(m, false)
 }

@@ -1,5 +1,6 @@
 // What holds of a machine in fact (fst_properties): its sides sorted, input equal to output, its words well formed.
 mod check;
+mod form;
 mod properties;
 mod records;
 mod seen;

@@ -2,57 +2,18 @@
 ghost use mathlib.Core.Path.{_≡_};
 ghost use lib.Dec.{eqb};
 ghost use Rattle.lists.specs.Lists.{every, interval};
-ghost use Rattle.words.specs.Machines.{trWord, nextOk, trOk};
+ghost use Rattle.words.specs.Machines.{trWord};
 ghost use Rattle.fst.specs.Meaning.{onOf};
 ghost use Rattle.fst_properties.specs.RecordTests.{rises as risesOf, testOf};
 use fst::MatchType;
-use fst::NEXT;
-use fst::NO_LABEL;
-use fst::TARGET;
 use fst::inner_label;
 use fst::label_on;
 use fst::next_tr;
-use fst::num_records;
-use fst::num_states;
-use fst::tr_word;
 
-// What is asked of a record: its own form, input equal to output, or that no label falls from it to the next in its list.
+// What is asked of a record: input equal to output, or that no label falls from it to the next in its list.
 pub enum RecordTest {
-    Form,
     SameLabels,
     Rises(MatchType),
-}
-
-// A next is 0, or above its own number and up to T.
-fn next_ok(m: &[u32], t: u32) -> bool
-    ensures { λ r. ⌜ r ≡ nextOk (now (m .entry)) t ⌝ }
-{
-    let next = tr_word(m, t, NEXT);
-    if next == 0 {
-        return true;
-    }
-    if t < next {
-        return next <= num_records(m);
-    }
-    false
-}
-
-// No label MAX, a target below S, a good next.
-fn tr_ok(m: &[u32], t: u32) -> bool
-    ensures { λ r. ⌜ r ≡ trOk (now (m .entry)) t ⌝ }
-{
-    let ilabel = label_on(m, MatchType::MatchInput, t);
-    if NO_LABEL.0 <= ilabel.0 {
-        return false;
-    }
-    let olabel = label_on(m, MatchType::MatchOutput, t);
-    if NO_LABEL.0 <= olabel.0 {
-        return false;
-    }
-    if num_states(m) <= tr_word(m, t, TARGET) {
-        return false;
-    }
-    next_ok(m, t)
 }
 
 fn same_labels(m: &[u32], t: u32) -> bool
@@ -79,7 +40,6 @@ fn passes(m: &[u32], test: RecordTest, t: u32) -> bool
     ensures { λ r. ⌜ r ≡ testOf test (now (m .entry)) t ⌝ }
 {
     match test {
-        RecordTest::Form => tr_ok(m, t),
         RecordTest::SameLabels => same_labels(m, t),
         RecordTest::Rises(on) => rises(m, on, t),
     }

@@ -16,6 +16,10 @@ unfolding sessionOkWith
 returns-2 c =
     λ six a1 a2. rw (← c .before .before .before .side-number .ensures, eq-eqb _ _ (c .before .before .if1 .left), fails (c .before .fits2 .ensures (now (c .before .before .before .before .before .before .before .before .before .args .heads))) (c .if2 .taken))
 
+form-ok-requires : tie.Need-form-ok-requires
+form-ok-requires c κs =
+    holds (c .before .before .before .fits2 .ensures (now (c .before .before .before .before .before .before .before .before .before .before .before .args .heads))) (c .before .before .if2 .left)
+
 returns-3 : tie.Need-returns-3
 unfolding sessionOkWith
 returns-3 c =
@@ -31,5 +35,5 @@ session-ok-spec =
     returns-2
     (λ c κs. search needs)
     (λ c κs. search needs)
-    (λ c κs. search needs)
+    form-ok-requires
     returns-3)

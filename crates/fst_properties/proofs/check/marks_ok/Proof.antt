@@ -1,9 +1,16 @@
 -- The tests in the order of `marksOk`.
 use Rattle.fst.proofs.Tests.{fails, holds}
+use Rattle.words.specs.Matches.{inputs, outputs}
 use Rattle.words.specs.Machines.{marksOk}
 use borrow.Author.Needs.{needs}
 use Rattle.fst_properties.proofs.check.marks_ok.Statement.{statement}
 use Rattle.fst_properties.proofs.check.marks_ok.Tie as tie
+
+side-mark-ok-requires : tie.Need-side-mark-ok-requires
+side-mark-ok-requires c κs = λ e d. c .before .pre e inputs d
+
+side-mark-ok-requires-2 : tie.Need-side-mark-ok-requires-2
+side-mark-ok-requires-2 c κs = λ e d. c .before .before .before .pre e outputs d
 
 returns : tie.Need-returns
 unfolding marksOk
@@ -21,9 +28,9 @@ pub marks-ok-spec : {M : Type 1} → statement M
 marks-ok-spec =
     tie.close
     (tie.spec
-    (λ c κs. search needs)
+    side-mark-ok-requires
     returns
-    (λ c κs. search needs)
+    side-mark-ok-requires-2
     returns-2
     (λ c κs. search needs)
     returns-3)

@@ -9,8 +9,8 @@ use Rattle.fst.proofs.Tests.{fails, holds}
 use Rattle.lists.proofs.Runs.{run-turn, run-end}
 use Rattle.words.specs.Machines.{stateCount, stateOk}
 use borrow.Author.Needs.{needs}
-use Rattle.fst_properties.proofs.check.states_ok.Statement.{statement}
-use Rattle.fst_properties.proofs.check.states_ok.Tie as tie
+use Rattle.fst_properties.proofs.form.states_ok.Statement.{statement}
+use Rattle.fst_properties.proofs.form.states_ok.Tie as tie
 
 abbrev Inv-states : tie.InvT-states
 Inv-states m n ok₀ s₀ ok s = (ok ≡ true) × (s ≤ n) × (every (stateOk m) (interval s (n - s)) ≡ every (stateOk m) (interval 0 (stateCount m)))

@@ -1,7 +1,7 @@
 -- The two words, compared.
 use borrow.Author.Needs.{needs}
-use Rattle.fst_properties.proofs.check.start_ok.Statement.{statement}
-use Rattle.fst_properties.proofs.check.start_ok.Tie as tie
+use Rattle.fst_properties.proofs.form.start_ok.Statement.{statement}
+use Rattle.fst_properties.proofs.form.start_ok.Tie as tie
 
 returns : tie.Need-returns
 returns c = rw (c .before .start-word .ensures, c .num-states .ensures)

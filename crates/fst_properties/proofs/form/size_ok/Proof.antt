@@ -2,8 +2,8 @@
 use borrow.Author.Tests.{le-leb, lt-leb}
 use Rattle.words.specs.Machines.{sizeUpTo}
 use borrow.Author.Needs.{needs}
-use Rattle.fst_properties.proofs.check.size_ok.Statement.{statement}
-use Rattle.fst_properties.proofs.check.size_ok.Tie as tie
+use Rattle.fst_properties.proofs.form.size_ok.Statement.{statement}
+use Rattle.fst_properties.proofs.form.size_ok.Tie as tie
 
 returns : tie.Need-returns
 unfolding sizeUpTo
