@@ -1,3 +1,4 @@
 pub mod ChainTurns
 pub mod Cleared
 pub mod FindRest
+pub mod Placed

@@ -1,4 +1,6 @@
 // The table of states (state_table.rs): chains of state records, each from a head of its own, newest first.
+mod placing;
+
 ghost use mathlib.Core.Path.{_≡_};
 ghost use mathlib.Core.List.{List, map};
 ghost use Prim.Native.Nat.{ℕ, _+_, _<_};
@@ -11,6 +13,7 @@ use compose_state_tuple::ComposeStateTuple;
 use compose_state_tuple::same_tuple;
 use fst::StateId;
 use fst::word;
+pub use placing::find_or_add;
 use store_records::get_tuple;
 use store_records::next_of;
 use store_records::push_state;

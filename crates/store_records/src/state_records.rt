@@ -1,11 +1,11 @@
-// State records: s1, s2, f, expanded, first transition, next. No other file knows their layout.
+// State records: s1, s2, f, expanded, first transition, next. Their places stand here alone.
 ghost use mathlib.Core.Path.{_≡_};
 ghost use mathlib.Core.List.{List};
 ghost use Prim.Native.Nat.{ℕ, _*_, _≤_, _<_};
 ghost use lib.Dec.{eqb};
 ghost use lib.ListN.{length};
 ghost use Rattle.lists.specs.Lists.{put};
-ghost use Rattle.calls.specs.Store.{roomOf, stateSize, stateField, tripleAt, expandedAt, firstAt, nextAt, stateRecord, mark};
+ghost use Rattle.calls.specs.Store.{roomOf, stateSize, stateField, tripleAt, expandedAt, firstAt, nextAt, sameTriple, stateRecord, mark};
 ghost use Rattle.compose_state_tuple.specs.Meaning.{tupleMeans};
 ghost use Rattle.store_records.specs.Meaning.{stored};
 use crate::lent::least;
@@ -18,17 +18,17 @@ use fst::word;
 // The words of a state record, and the place of each.
 pub const STATE_SIZE: usize = 6;
 
-const STATE_S1: usize = 0;
+pub const STATE_S1: usize = 0;
 
-const STATE_S2: usize = 1;
+pub const STATE_S2: usize = 1;
 
-const STATE_F: usize = 2;
+pub const STATE_F: usize = 2;
 
-const STATE_EXPANDED: usize = 3;
+pub const STATE_EXPANDED: usize = 3;
 
-const STATE_FIRST: usize = 4;
+pub const STATE_FIRST: usize = 4;
 
-const STATE_NEXT: usize = 5;
+pub const STATE_NEXT: usize = 5;
 
 // How many state records there is room for.
 pub fn state_room(states: &[u32]) -> u32
@@ -79,6 +79,36 @@ pub fn next_of(states: &[u32], n: StateId) -> u32
     ensures { λ r. ⌜ r ≡ nextAt (now (states .entry)) (n .0) ⌝ }
 {
     state_word(states, n, STATE_NEXT)
+}
+
+// Word k of the record of state n, where there is room for the record: nothing is tested.
+fn word_in(states: &[u32], n: StateId, k: usize) -> u32
+    requires { ⌜ (n .0 < roomOf stateSize (now states)) × (k < stateSize) ⌝ }
+    ensures { λ r. ⌜ r ≡ stateField (now (states .entry)) (n .0) k ⌝ }
+{
+    states[STATE_SIZE * (n.0 as usize) + k]
+}
+
+// Whether state n has the triple, where there is room for its record. A word is read only where those before it are the same.
+pub fn holds_tuple(states: &[u32], n: StateId, tuple: ComposeStateTuple) -> bool
+    requires { ⌜ n .0 < roomOf stateSize (now states) ⌝ }
+    ensures { λ r. ⌜ r ≡ sameTriple (tripleAt (now (states .entry)) (n .0)) (tupleMeans tuple) ⌝ }
+{
+    if word_in(states, n, STATE_S1) != tuple.s1.0 {
+        return false;
+    }
+    if word_in(states, n, STATE_S2) != tuple.s2.0 {
+        return false;
+    }
+    word_in(states, n, STATE_F) == tuple.fs
+}
+
+// The record after it in its chain, where there is room for its own; 0: none.
+pub fn next_in(states: &[u32], n: StateId) -> u32
+    requires { ⌜ n .0 < roomOf stateSize (now states) ⌝ }
+    ensures { λ r. ⌜ r ≡ nextAt (now (states .entry)) (n .0) ⌝ }
+{
+    word_in(states, n, STATE_NEXT)
 }
 
 // The record of a state just found, at the front of a lent tail.

@@ -5,7 +5,7 @@ ghost use Prim.Native.Nat.{ℕ, _+_, _/_, _≤_, _<_};
 ghost use lib.ListN.{length};
 ghost use Rattle.lists.specs.Lists.{put};
 ghost use Rattle.words.specs.Steps.{Triple};
-ghost use Rattle.calls.specs.Store.{roomOf, trSize, targetAt, trNextAt, trAt, trRecord, append};
+ghost use Rattle.calls.specs.Store.{roomOf, trSize, trNextAt, trAt, trRecord, append};
 ghost use Rattle.fst.specs.Meaning.{trMeans};
 ghost use Rattle.store_records.specs.Meaning.{stepMeans, stored};
 use crate::lent::least;
@@ -24,22 +24,15 @@ const TR_OUTPUT: usize = 1;
 
 const TR_WEIGHT: usize = 2;
 
-const TR_TARGET: usize = 3;
+pub const TR_TARGET: usize = 3;
 
-const TR_NEXT: usize = 4;
+pub const TR_NEXT: usize = 4;
 
 // How many transition records there is room for.
 pub fn tr_room(trs: &[u32]) -> u32
     ensures { λ r. ⌜ r ≡ roomOf trSize (now (trs .entry)) ⌝ }
 {
     least(LIMIT as usize, trs.len() / TR_SIZE) as u32
-}
-
-// The target of the record at place i.
-pub fn target_of(trs: &[u32], i: u32) -> StateId
-    ensures { λ r. ⌜ r .0 ≡ targetAt (now (trs .entry)) i ⌝ }
-{
-    StateId(word(trs, TR_SIZE * (i as usize) + TR_TARGET))
 }
 
 // The record after the one at place i in its list; 0: none.
