@@ -1,6 +1,9 @@
 pub mod WeighLaws
-pub mod QuickLaws
 pub mod AskedLaws
 pub mod WeighTurns
+pub mod CountLaws
+pub mod WindowLaws
+pub mod SetTurns
+pub mod ExactTurns
 pub mod EnteredLaws
 pub mod Cases

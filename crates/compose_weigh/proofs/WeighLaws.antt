@@ -23,22 +23,16 @@ use Rattle.calls.proofs.ChainLaws.{same-triple, find-sound, find-added, find-ot
 use Rattle.calls.proofs.FormKept.{add-form, append-form}
 use Rattle.calls.proofs.StepsKept.{LinkOk, link-ok, longer}
 use Rattle.compose_weigh.specs.Weigh.{reachedWithin, missing, isNew, countState, weighFrom, weighOf}
+use Rattle.compose_weigh.specs.Windows.{Ahead}
 
--- the steps `rest` come after the first i of `all`, and none of those is a refusal
-abbrev Ahead : ℕ → List (Checked Step) → List (Checked Step) → Type 0
-Ahead zero all rest = all ≡ rest
-Ahead (suc i) [] rest = ⊥
-Ahead (suc i) (refused n ∷ all) rest = ⊥
-Ahead (suc i) (good s ∷ all) rest = Ahead i all rest
-
-ahead-next : (i : ℕ) (all : List (Checked Step)) (s : Step) (others : List (Checked Step)) → Ahead i all (good s ∷ others) → Ahead (suc i) all others
+pub ahead-next : (i : ℕ) (all : List (Checked Step)) (s : Step) (others : List (Checked Step)) → Ahead i all (good s ∷ others) → Ahead (suc i) all others
 ahead-next zero all s others e = rw e refl
 ahead-next (suc i) [] s others e = absurd e
 ahead-next (suc i) (refused n ∷ all) s others e = absurd e
 ahead-next (suc i) (good r ∷ all) s others e = ahead-next i all s others e
 
 -- one step more
-within-next : (t : Triple) (i : ℕ) (all : List (Checked Step)) (s : Step) (others : List (Checked Step)) → Ahead i all (good s ∷ others)
+pub within-next : (t : Triple) (i : ℕ) (all : List (Checked Step)) (s : Step) (others : List (Checked Step)) → Ahead i all (good s ∷ others)
     → reachedWithin t (suc i) all ≡ (reachedWithin t i all || sameTriple (s .to) t)
 unfolding reachedWithin
 within-next t zero all s others e = rw e (or-false (sameTriple (s .to) t))
@@ -47,12 +41,12 @@ within-next t (suc i) (refused n ∷ all) s others e = absurd e
 within-next t (suc i) (good r ∷ all) s others e =
     ap (λ b. sameTriple (r .to) t || b) (within-next t i all s others e) ∙ sym (or-assoc (sameTriple (r .to) t) (reachedWithin t i all) (sameTriple (s .to) t))
 
-less : (a b c : Bool) → a && not (b || c) ≡ (a && not b) && not c
+pub less : (a b c : Bool) → a && not (b || c) ≡ (a && not b) && not c
 less false b c = refl
 less true true c = refl
 less true false c = refl
 
-new-next : (d : Store) (i : ℕ) (all : List (Checked Step)) (s : Step) (others : List (Checked Step)) → Ahead i all (good s ∷ others) → (t : Triple)
+pub new-next : (d : Store) (i : ℕ) (all : List (Checked Step)) (s : Step) (others : List (Checked Step)) → Ahead i all (good s ∷ others) → (t : Triple)
     → isNew true d all (suc i) t ≡ (isNew true d all i t && not (sameTriple (s .to) t))
 unfolding isNew
 new-next d i all s others e t = rw (within-next t i all s others e) (less (missing (find d t)) (reachedWithin t i all) (sameTriple (s .to) t))

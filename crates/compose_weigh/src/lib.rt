@@ -1,23 +1,38 @@
 // The first pass of an expansion (compose_fst_op.rs, `compute_trs`): whether it succeeds, decided without writing.
 ghost use mathlib.Core.Path.{_≡_};
-ghost use mathlib.Core.Bool.{true};
+ghost use mathlib.Core.Bool.{Bool, true, not, _&&_};
 ghost use mathlib.Core.List.{List};
-ghost use Prim.Native.Nat.{ℕ};
+ghost use Prim.Native.Nat.{ℕ, _+_, _-_, _^_, _≤_, _<_};
+ghost use Rattle.words.specs.Labels.{Checked};
+ghost use Rattle.words.specs.Steps.{Triple, Step};
+ghost use Rattle.calls.specs.Store.{roomOf, stateSize, find};
 ghost use Rattle.compose_state_tuple.specs.Meaning.{tupleMeans};
-ghost use Rattle.compose_weigh.specs.Weigh.{reachedWithin, isNew, countState, weighOf};
-ghost use Rattle.compose_weigh.specs.Meaning.{stepsFrom, storeIn, countedMeans, weighedMeans};
+ghost use Rattle.triple_set.specs.Sets.{setOf, Headed};
+ghost use Rattle.compose_weigh.specs.Weigh.{reachedWithin, missing, isNew, countState, weighOf};
+ghost use Rattle.compose_weigh.specs.Windows.{setRoom, newWithin, Filled};
+ghost use Rattle.compose_weigh.specs.Meaning.{stepsFrom, storeIn, countedMeans, weighedMeans, Tells, KeptAt, Spans};
 use compose_fst_op::ComposeFstOpOptions;
 use compose_moves::MoveCursor;
 use compose_moves::NextStep;
 use compose_moves::next_step;
 use compose_state_tuple::ComposeStateTuple;
-use compose_state_tuple::same_tuple;
 use fst::REFUSED_NO_ROOM;
 use state_table::FoundState;
 use state_table::find_id;
 use store_records::Used;
 use store_records::state_room;
 use store_records::tr_room;
+use triple_set::mark;
+use triple_set::take;
+
+// The triples that the set of a window holds at most.
+const SET_ROOM: usize = 2048;
+
+// The words of their records.
+const SET_WORDS: usize = 12288;
+
+// The heads of their chains: a prime number, so that triples on a line do not share a few of them.
+const SET_HEADS: usize = 2039;
 
 // No refusal stands, or the number of the first.
 pub enum Weighed {
@@ -38,73 +53,68 @@ struct Weighing {
     start: MoveCursor,
 }
 
-// Whether one of the first `count` steps from a cursor on goes to a triple.
-fn reached_before(
-    m1: &[u32],
-    m2: &[u32],
-    a1: &[u32],
-    a2: &[u32],
-    options: ComposeFstOpOptions,
-    start: MoveCursor,
-    count: u32,
-    tuple: ComposeStateTuple,
-) -> bool
-    ensures { λ r. ⌜ (
-        let steps = stepsFrom options (now (m1 .entry)) (now (m2 .entry)) (now (a1 .entry)) (now (a2 .entry)) start in
-        r ≡ reachedWithin (tupleMeans tuple) count steps
-        ) ⌝ }
-{
-    let mut cursor = start;
-    let mut left = count;
-    while left > 0 {
-        let next = next_step(m1, m2, a1, a2, options, cursor);
-        match next {
-            NextStep::Done => return false,
-            NextStep::Refused(_) => return false,
-            NextStep::Step(tr, after) => {
-                let to = tr.tuple;
-                if same_tuple(to, tuple) {
-                    return true;
-                }
-                cursor = after;
-            }
-        }
-        left -= 1;
-    }
-    false
+// A step that has a transition record: its target, and the cursor after it. Else the weighing ends there.
+enum Kept {
+    To(ComposeStateTuple, MoveCursor),
+    Ends(Weighed),
 }
 
-// Whether a triple needs a new state after the first `count` steps. Not asked exactly, every triple that the table lacks does.
-fn is_new(
+// What a walk over the steps met, or that it was left before their end.
+enum Ending {
+    Ends(Weighed),
+    Open,
+}
+
+// A number of states for some steps, the number of steps up to the cursor after them, and why they end there.
+struct Passed {
+    states: u32,
+    count: u32,
+    cursor: MoveCursor,
+    ending: Ending,
+}
+
+// The next step of a cursor, where its transition record is there; `count` steps came before it.
+fn kept_step(
     m1: &[u32],
     m2: &[u32],
     a1: &[u32],
     a2: &[u32],
-    heads: &[u32],
-    states: &[u32],
+    trs: &[u32],
     w: Weighing,
-    exact: bool,
+    cursor: MoveCursor,
     count: u32,
-    tuple: ComposeStateTuple,
-) -> bool
+) -> Kept
+    requires { ⌜ w .used .trs + count < 2 ^ 32 ⌝ }
     ensures { λ r. ⌜ (
-        (trs : List ℕ) →
-        let d = storeIn (now (heads .entry)) (now (states .entry)) trs (w .used) in
-        let steps = stepsFrom (w .options) (now (m1 .entry)) (now (m2 .entry)) (now (a1 .entry)) (now (a2 .entry)) (w .start) in
-        r ≡ isNew exact d steps count (tupleMeans tuple)
+        (heads states : List ℕ) →
+        KeptAt (w .options) (now (m1 .entry)) (now (m2 .entry)) (now (a1 .entry)) (now (a2 .entry)) (storeIn heads states (now (trs .entry)) (w .used)) count cursor r
         ) ⌝ }
 {
-    let options = w.options;
     let used = w.used;
-    let start = w.start;
-    let found = find_id(heads, states, used.states, tuple);
-    let FoundState::Missing = found else {
-        return false;
-    };
-    if !exact {
-        return true;
+    let options = w.options;
+    let next = next_step(m1, m2, a1, a2, options, cursor);
+    match next {
+        NextStep::Done => Kept::Ends(Weighed::Clear),
+        NextStep::Refused(n) => Kept::Ends(Weighed::Refused(n)),
+        NextStep::Step(tr, after) => {
+            if tr_room(trs) <= used.trs + count {
+                return Kept::Ends(Weighed::Refused(REFUSED_NO_ROOM));
+            }
+            let to = tr.tuple;
+            Kept::To(to, after)
+        }
     }
-    !reached_before(m1, m2, a1, a2, options, start, count, tuple)
+}
+
+// Whether the table lacks a triple.
+fn lacks(heads: &[u32], states: &[u32], used: Used, tuple: ComposeStateTuple) -> bool
+    ensures { λ r. ⌜ ((trs : List ℕ) → r ≡ missing (find (storeIn (now (heads .entry)) (now (states .entry)) trs used) (tupleMeans tuple))) ⌝ }
+{
+    let found = find_id(heads, states, used.states, tuple);
+    match found {
+        FoundState::At(_) => false,
+        FoundState::Missing => true,
+    }
 }
 
 // The used states with a new one, where there is room for it.
@@ -120,8 +130,8 @@ fn count_state(new: bool, room: u32, states: u32) -> Counted
     Counted::States(states + 1)
 }
 
-// The first refusal that storing the steps meets.
-fn weigh_from(
+// What the steps meet where every target that the table lacks is counted as a new state; open where a state's record is lacking then.
+fn weigh_quickly(
     m1: &[u32],
     m2: &[u32],
     a1: &[u32],
@@ -130,12 +140,11 @@ fn weigh_from(
     states: &[u32],
     trs: &[u32],
     w: Weighing,
-    exact: bool,
-) -> Weighed
+) -> Ending
     ensures { λ r. ⌜ (
         let d = storeIn (now (heads .entry)) (now (states .entry)) (now (trs .entry)) (w .used) in
         let steps = stepsFrom (w .options) (now (m1 .entry)) (now (m2 .entry)) (now (a1 .entry)) (now (a2 .entry)) (w .start) in
-        weighedMeans r ≡ weighOf exact d steps
+        Tells (weighOf true d steps) r
         ) ⌝ }
 {
     let used = w.used;
@@ -143,19 +152,14 @@ fn weigh_from(
     let mut count: u32 = 0;
     let mut grown = used.states;
     loop {
-        let next = next_step(m1, m2, a1, a2, w.options, cursor);
-        match next {
-            NextStep::Done => return Weighed::Clear,
-            NextStep::Refused(n) => return Weighed::Refused(n),
-            NextStep::Step(tr, after) => {
-                if tr_room(trs) <= used.trs + count {
-                    return Weighed::Refused(REFUSED_NO_ROOM);
-                }
-                let to = tr.tuple;
-                let new = is_new(m1, m2, a1, a2, heads, states, w, exact, count, to);
+        let kept = kept_step(m1, m2, a1, a2, trs, w, cursor, count);
+        match kept {
+            Kept::Ends(x) => return Ending::Ends(x),
+            Kept::To(to, after) => {
+                let new = lacks(heads, states, used, to);
                 let counted = count_state(new, state_room(states), grown);
                 let Counted::States(n) = counted else {
-                    return Weighed::Refused(REFUSED_NO_ROOM);
+                    return Ending::Open;
                 };
                 grown = n;
                 count += 1;
@@ -165,8 +169,218 @@ fn weigh_from(
     }
 }
 
-// The first refusal that storing the steps from a cursor on meets. The walk for earlier steps, quadratic in the targets that the table lacks, is made only where counting each of them as
-// new meets a lacking record.
+// The targets that the table lacks of the steps from a cursor on, taken into an empty set until it is full.
+fn fill(
+    m1: &[u32],
+    m2: &[u32],
+    a1: &[u32],
+    a2: &[u32],
+    heads: &[u32],
+    states: &[u32],
+    trs: &[u32],
+    w: Weighing,
+    chains: &mut [u32],
+    records: &mut [u32],
+    from: MoveCursor,
+    before: u32,
+) -> Passed
+    requires small { ⌜ w .used .trs + before < 2 ^ 32 ⌝ }
+    requires empty { ⌜ Headed (setOf (now chains) (now records) 0) ⌝ }
+    requires room { ⌜ 0 < roomOf stateSize (now records) ⌝ }
+    ensures { λ r. ⌜ (
+        let d = storeIn (now (heads .entry)) (now (states .entry)) (now (trs .entry)) (w .used) in
+        let steps = stepsFrom (w .options) (now (m1 .entry)) (now (m2 .entry)) (now (a1 .entry)) (now (a2 .entry)) from in
+        let rest = stepsFrom (w .options) (now (m1 .entry)) (now (m2 .entry)) (now (a1 .entry)) (now (a2 .entry)) (r .cursor) in
+        (k : ℕ) × Spans d before k steps rest (r .count) (r .ending)
+        × Filled (λ t. missing (find d t)) k steps (roomOf stateSize (now (records .entry))) (setOf (now (chains .exit)) (now (records .exit)) (r .states))
+        ) ⌝ }
+{
+    let used = w.used;
+    let mut cursor = from;
+    let mut count = before;
+    let mut held: u32 = 0;
+    loop {
+        let kept = kept_step(m1, m2, a1, a2, trs, w, cursor, count);
+        match kept {
+            Kept::Ends(x) => {
+                return Passed {
+                    states: held,
+                    count,
+                    cursor,
+                    ending: Ending::Ends(x),
+                };
+            }
+            Kept::To(to, after) => {
+                let taken = take(chains, records, held, lacks(heads, states, used, to), to);
+                if taken.full {
+                    return Passed {
+                        states: taken.held,
+                        count,
+                        cursor,
+                        ending: Ending::Open,
+                    };
+                }
+                held = taken.held;
+                count += 1;
+                cursor = after;
+            }
+        }
+    }
+}
+
+// How many triples of a set the first `count` steps from a cursor on go to.
+fn count_earlier(
+    m1: &[u32],
+    m2: &[u32],
+    a1: &[u32],
+    a2: &[u32],
+    options: ComposeFstOpOptions,
+    start: MoveCursor,
+    count: u32,
+    chains: &[u32],
+    records: &[u32],
+    held: u32,
+) -> u32
+    ensures { λ r. ⌜ (
+        let all = stepsFrom options (now (m1 .entry)) (now (m2 .entry)) (now (a1 .entry)) (now (a2 .entry)) start in
+        (P : Triple → Bool) (k : ℕ) (steps : List (Checked Step)) (room : ℕ) → room ≤ setRoom
+        → Filled P k steps room (setOf (now (chains .entry)) (now (records .entry)) held)
+        → r + newWithin (λ t. P t && not (reachedWithin t count all)) k steps ≡ held
+        ) ⌝ }
+{
+    let mut marks = [0u32; SET_ROOM];
+    let mut cursor = start;
+    let mut left = count;
+    let mut old: u32 = 0;
+    while left > 0 {
+        let next = next_step(m1, m2, a1, a2, options, cursor);
+        match next {
+            NextStep::Done => return old,
+            NextStep::Refused(_) => return old,
+            NextStep::Step(tr, after) => {
+                let to = tr.tuple;
+                old += mark(chains, records, held, &mut marks, to);
+                cursor = after;
+            }
+        }
+        left -= 1;
+    }
+    old
+}
+
+// The new states of the steps from a cursor on, as many steps as one set takes; `before` steps came before them.
+fn weigh_window(
+    m1: &[u32],
+    m2: &[u32],
+    a1: &[u32],
+    a2: &[u32],
+    heads: &[u32],
+    states: &[u32],
+    trs: &[u32],
+    w: Weighing,
+    from: MoveCursor,
+    before: u32,
+) -> Passed
+    requires { ⌜ w .used .trs + before < 2 ^ 32 ⌝ }
+    ensures { λ r. ⌜ (
+        let d = storeIn (now (heads .entry)) (now (states .entry)) (now (trs .entry)) (w .used) in
+        let all = stepsFrom (w .options) (now (m1 .entry)) (now (m2 .entry)) (now (a1 .entry)) (now (a2 .entry)) (w .start) in
+        let steps = stepsFrom (w .options) (now (m1 .entry)) (now (m2 .entry)) (now (a1 .entry)) (now (a2 .entry)) from in
+        let rest = stepsFrom (w .options) (now (m1 .entry)) (now (m2 .entry)) (now (a1 .entry)) (now (a2 .entry)) (r .cursor) in
+        (k : ℕ) × Spans d before k steps rest (r .count) (r .ending) × (r .states ≡ newWithin (isNew true d all before) k steps)
+        ) ⌝ }
+{
+    let mut chains = [0u32; SET_HEADS];
+    let mut records = [0u32; SET_WORDS];
+    let filled = fill(
+        m1,
+        m2,
+        a1,
+        a2,
+        heads,
+        states,
+        trs,
+        w,
+        &mut chains,
+        &mut records,
+        from,
+        before,
+    );
+    let held = filled.states;
+    let options = w.options;
+    let start = w.start;
+    let old = count_earlier(
+        m1,
+        m2,
+        a1,
+        a2,
+        options,
+        start,
+        before,
+        &chains,
+        &records,
+        held,
+    );
+    let cursor = filled.cursor;
+    let ending = filled.ending;
+    Passed {
+        states: held - old,
+        count: filled.count,
+        cursor,
+        ending,
+    }
+}
+
+// The records that are not used.
+fn spare(room: u32, used: u32) -> u32
+    ensures { λ r. ⌜ r ≡ room - used ⌝ }
+{
+    if room <= used {
+        return 0;
+    }
+    room - used
+}
+
+// The first refusal that storing the steps meets, the new states counted window by window.
+fn weigh_exactly(
+    m1: &[u32],
+    m2: &[u32],
+    a1: &[u32],
+    a2: &[u32],
+    heads: &[u32],
+    states: &[u32],
+    trs: &[u32],
+    w: Weighing,
+) -> Weighed
+    ensures { λ r. ⌜ (
+        let d = storeIn (now (heads .entry)) (now (states .entry)) (now (trs .entry)) (w .used) in
+        let steps = stepsFrom (w .options) (now (m1 .entry)) (now (m2 .entry)) (now (a1 .entry)) (now (a2 .entry)) (w .start) in
+        weighedMeans r ≡ weighOf true d steps
+        ) ⌝ }
+{
+    let used = w.used;
+    let mut cursor = w.start;
+    let mut before: u32 = 0;
+    let mut left = spare(state_room(states), used.states);
+    loop {
+        let passed = weigh_window(m1, m2, a1, a2, heads, states, trs, w, cursor, before);
+        if left < passed.states {
+            return Weighed::Refused(REFUSED_NO_ROOM);
+        }
+        left -= passed.states;
+        let ending = passed.ending;
+        match ending {
+            Ending::Ends(x) => return x,
+            Ending::Open => {
+                let after = passed.cursor;
+                before = passed.count;
+                cursor = after;
+            }
+        }
+    }
+}
+
+// The first refusal that storing the steps from a cursor on meets. The new states are counted exactly only where counting every target that the table lacks meets a lacking record.
 pub fn weigh(
     m1: &[u32],
     m2: &[u32],
@@ -190,12 +404,9 @@ pub fn weigh(
         used,
         start,
     };
-    let quick = weigh_from(m1, m2, a1, a2, heads, states, trs, w, false);
-    let Weighed::Refused(n) = quick else {
-        return Weighed::Clear;
-    };
-    if n == REFUSED_NO_ROOM {
-        return weigh_from(m1, m2, a1, a2, heads, states, trs, w, true);
+    let quick = weigh_quickly(m1, m2, a1, a2, heads, states, trs, w);
+    match quick {
+        Ending::Ends(x) => x,
+        Ending::Open => weigh_exactly(m1, m2, a1, a2, heads, states, trs, w),
     }
-    Weighed::Refused(n)
 }

@@ -1,0 +1,50 @@
+-- Those that the set holds, without those that earlier steps went to, are new.
+use native.Mathlib.Omega.{arith}
+use lib.ListN.{replicate}
+use Rattle.calls.specs.Store.{roomOf, stateSize, find}
+use Rattle.store_records.specs.Meaning.{stored}
+use Rattle.triple_set.proofs.SetLaws.{headed-none}
+use Rattle.compose_fst_op.specs.Composing.{optionSettings, lentOf}
+use Rattle.compose_moves.specs.Cursors.{stepsLeft}
+use Rattle.compose_weigh.specs.Weigh.{missing, isNew}
+use Rattle.compose_weigh.proofs.SetTurns.{set-room}
+use borrow.Author.Needs.{needs}
+use Rattle.compose_weigh.proofs.weigh_window.Statement.{statement}
+use Rattle.compose_weigh.proofs.weigh_window.Tie as tie
+
+fill-requires : tie.Need-fill-requires
+fill-requires c κs = (c .before .before .before .before .before .before .before .before .before .pre, (headed-none 2039 12288 (omega arith), omega (arith, set-room)))
+
+sub-t28 : tie.Need-sub-t28
+sub-t28 c =
+    let a = c .before .before .before .before .before .before .before .before .before .before .before .before .before .before .before .before .before .before .args in
+    let S = optionSettings (a .w .options) in
+    let L = lentOf (a .w .options) (a .m1 .now) (a .m2 .now) (a .a1 .now) (a .a2 .now) in
+    let d = stored (a .heads .now) (a .states .now) (a .trs .now) (a .w .used .states) (a .w .used .trs) in
+    let f = c .before .before .before .before .before .before .before .before .fill .ensures in
+    let e = c .before .count-earlier .ensures (λ t. missing (find d t)) (f .0) (stepsLeft S L (a .from)) (roomOf stateSize (replicate 12288 0)) (omega (arith, set-room)) (f .2) in
+    omega (arith, e)
+
+returns : tie.Need-returns
+unfolding isNew
+returns c =
+    let a = c .before .before .before .before .before .before .before .before .before .before .before .before .before .before .before .before .before .before .args in
+    let S = optionSettings (a .w .options) in
+    let L = lentOf (a .w .options) (a .m1 .now) (a .m2 .now) (a .a1 .now) (a .a2 .now) in
+    let d = stored (a .heads .now) (a .states .now) (a .trs .now) (a .w .used .states) (a .w .used .trs) in
+    let f = c .before .before .before .before .before .before .before .before .fill .ensures in
+    let e = c .before .count-earlier .ensures (λ t. missing (find d t)) (f .0) (stepsLeft S L (a .from)) (roomOf stateSize (replicate 12288 0)) (omega (arith, set-room)) (f .2) in
+    (f .0, f .1, omega (arith, e))
+
+pub weigh-window-spec : {M : Type 1} → statement M
+weigh-window-spec =
+    tie.close
+    (tie.spec
+    (λ c. search needs)
+    (λ c. search needs)
+    fill-requires
+    (λ c. search needs)
+    (λ c. search needs)
+    (λ c κs. search needs)
+    sub-t28
+    returns)
