@@ -84,7 +84,8 @@ module _ (s : Settings) (l : Lent) (side : Side) (t : Triple) where
   abbrev pub made : Checked Move → List (Checked Step)
   made v = map (λ k. andThen k (stepOf C t)) (keep (C .filter) A (here .facts) (t .f) v)
 
-  kept-one : (v : Move) (o : Option ℕ)
+  -- a kept move makes its step, by what its two matches give
+  pub kept-one : (v : Move) (o : Option ℕ)
       → stepIf (C .kind) (given (C .kind) A (t .s1) (asks B (v .second)) (v .first)) (given (C .kind) B (t .s2) (asks A (v .first)) (v .second)) o
       ≡ map (λ k. andThen k (stepOf C t)) (keptBy v o)
   unfolding stepOf

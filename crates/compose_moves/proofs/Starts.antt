@@ -80,7 +80,7 @@ at-rest K sigma mode allowed c o e = rw (e, o, rest-items (K .on) (K .looked) si
 
 module _ (s : Settings) (l : Lent) (side : Side) (t : Triple) where
   -- `words`' steps in a direction
-  steps-along : (d : MatchType) → directionAt side (operand1 s l) (operand2 s l) (t .s1) (t .s2) ≡ good d
+  pub steps-along : (d : MatchType) → directionAt side (operand1 s l) (operand2 s l) (t .s1) (t .s2) ≡ good d
       → stepsAt (compositionOf s l side) t ≡ flatMap (made s l side t) (movesAt d (operand1 s l) (operand2 s l) (t .s1) (t .s2))
   unfolding stepsAt keptAt keptAlong
   steps-along d e = rw e (map-flat _ _ (movesAt d (operand1 s l) (operand2 s l) (t .s1) (t .s2)))

@@ -2,19 +2,27 @@
 ghost use mathlib.Core.Path.{_≡_};
 ghost use Prim.Native.Nat.{_<_};
 ghost use Rattle.words.specs.Labels.{good};
+ghost use Rattle.words.specs.Weights.{kindOf};
+ghost use Rattle.words.specs.Matches.{inputs, outputs};
 ghost use Rattle.calls.specs.Store.{stateRoom};
 ghost use Rattle.calls.specs.Checks.{entered};
 ghost use Rattle.calls.specs.Calls.{expandOf, runFrom};
 ghost use Rattle.calls.specs.Owned.{stopFrom};
 ghost use Rattle.compose_fst_op.specs.Composing.{lentOf, composing};
 ghost use Rattle.store_records.specs.Meaning.{memoryOf};
+ghost use Rattle.list_facts.specs.Memo.{Remembers};
 ghost use Rattle.compose_store.specs.Meaning.{sessionUnder, leftBy};
 ghost use Rattle.compose_run.specs.Meaning.{ranLeft, turnOf};
+use compose_expand::expand_known;
+use compose_expand::expand_state;
 use compose_fst_op::ComposeFstOpOptions;
 use compose_store::Expansion;
-use compose_store::expand_state;
+use fst::MatchType;
 use fst::StateId;
+use list_facts::MEMO_WORDS;
+use list_facts::remembered;
 use store_records::Used;
+use store_records::get_tuple;
 use store_records::is_expanded;
 use store_records::state_room;
 use tr_lists::part_of;
@@ -57,7 +65,7 @@ pub fn expand_found(
     expand_state(m1, m2, a1, a2, options, heads, states, trs, used, n)
 }
 
-// One turn of a run: state n is expanded, if it is not yet. Its list is not asked for.
+// One turn of a run: state n is expanded, if it is not yet. Its list is not asked for. What is remembered of the two machines' lists, by their inner labels, stays true.
 fn compute_state(
     m1: &[u32],
     m2: &[u32],
@@ -67,6 +75,8 @@ fn compute_state(
     heads: &mut [u32],
     states: &mut [u32],
     trs: &mut [u32],
+    memo1: &mut [u32; MEMO_WORDS],
+    memo2: &mut [u32; MEMO_WORDS],
     used: Used,
     n: StateId,
 ) -> Ran
@@ -75,6 +85,8 @@ fn compute_state(
         let m = memoryOf (now heads) (now states) (now trs) in
         let c = composing options (now m1) (now m2) (now a1) (now a2) in
         (entered l (sessionUnder options used) m ≡ good c) × (n .0 < used .states)
+        × Remembers outputs (kindOf (options .kind)) (now m1) (now memo1)
+        × Remembers inputs (kindOf (options .kind)) (now m2) (now memo2)
         ) ⌝ }
     ensures { λ r. ⌜ (
         let l = lentOf options (now (m1 .entry)) (now (m2 .entry)) (now (a1 .entry)) (now (a2 .entry)) in
@@ -82,11 +94,33 @@ fn compute_state(
         let m′ = memoryOf (now (heads .exit)) (now (states .exit)) (now (trs .exit)) in
         ranLeft options m′ r ≡ turnOf (expandOf l (sessionUnder options used) m (n .0))
         ) ⌝ }
+    ensures memos { λ _. ⌜ (
+        Remembers outputs (kindOf (options .kind)) (now (m1 .entry)) (now (memo1 .exit))
+        × Remembers inputs (kindOf (options .kind)) (now (m2 .entry)) (now (memo2 .exit))
+        ) ⌝ }
 {
     if is_expanded(states, n) {
         return Ran::Done(used);
     }
-    let expanded = expand_state(m1, m2, a1, a2, options, heads, states, trs, used, n);
+    let tuple = get_tuple(states, n);
+    let s1 = tuple.s1;
+    let s2 = tuple.s2;
+    let facts1 = remembered(m1, MatchType::MatchOutput, options.kind, memo1, s1);
+    let facts2 = remembered(m2, MatchType::MatchInput, options.kind, memo2, s2);
+    let expanded = expand_known(
+        m1,
+        m2,
+        a1,
+        a2,
+        options,
+        heads,
+        states,
+        trs,
+        used,
+        n,
+        facts1,
+        facts2,
+    );
     match expanded {
         Expansion::New(_, after) => Ran::Done(after),
         Expansion::Refused(k) => Ran::Refused(k, used),
@@ -131,6 +165,8 @@ pub fn compute_from(
         r .next .0 ≡ stopFrom l count (from .0) (sessionUnder options used) m
         ) ⌝ }
 {
+    let mut memo1 = [0u32; MEMO_WORDS];
+    let mut memo2 = [0u32; MEMO_WORDS];
     let mut latest = used;
     let mut n = from.0;
     let mut most = count;
@@ -150,20 +186,18 @@ pub fn compute_from(
             heads,
             states,
             trs,
+            &mut memo1,
+            &mut memo2,
             latest,
             StateId(n),
         );
-        match turn {
-            Ran::Refused(k, kept) => {
-                return Stopped {
-                    next: StateId(n),
-                    ran: Ran::Refused(k, kept),
-                };
-            }
-            Ran::Done(after) => {
-                latest = after;
-            }
-        }
+        let Ran::Done(after) = turn else {
+            return Stopped {
+                next: StateId(n),
+                ran: turn,
+            };
+        };
+        latest = after;
         n += 1;
         most -= 1;
     }

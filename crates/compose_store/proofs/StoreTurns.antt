@@ -10,12 +10,12 @@ use Rattle.words.specs.Sides.{nonEmpty}
 use Rattle.words.specs.Steps.{Step}
 use Rattle.calls.specs.Store.{Store}
 use Rattle.calls.specs.Calls.{nextFor, storeStep, storeSteps, storeStepsWith}
+use Rattle.stored_steps.proofs.OneStep.{accepted-then}
 use Rattle.compose_moves.specs.Walks.{Asked, gives, ends, refuses, asked}
 use Rattle.compose_moves.specs.Cursors.{nextMeans}
 use Rattle.compose_moves.specs.declared.NextStep.{NextStep}
 use Rattle.compose_moves.specs.declared.NextStep.the-variants.{Step as AStep, Done, Refused}
 use Rattle.compose_store.specs.Meaning.{Accepted, goesOn}
-use Rattle.compose_store.proofs.StoreLaws.{accepted-then}
 
 -- the steps that an answer tells of; nothing after a refusal counts
 abbrev pub askedLeft : Asked → List (Checked Step)

@@ -2,7 +2,7 @@
 use mathlib.Core.Bool.{Bool, true, false}
 use mathlib.Core.List.{List}
 use Prim.Native.Nat.{ℕ}
-use Rattle.words.specs.Labels.{Checked, good, refused}
+use Rattle.words.specs.Labels.{good, refused}
 use Rattle.calls.specs.Store.{Memory, Part}
 use Rattle.calls.specs.Checks.{Session, sideNumber}
 use Rattle.calls.specs.Calls.{Reached as Place, Outcome}
@@ -17,11 +17,7 @@ use Rattle.compose_moves.specs.declared.NextStep.the-variants.{Step as AStep, D
 use Rattle.compose_store.specs.declared.Reached.{Reached}
 use Rattle.compose_store.specs.declared.Expansion.{Expansion}
 use Rattle.compose_store.specs.declared.Expansion.the-variants.{New, Refused}
-
--- a value, and no refusal
-abbrev pub Accepted : {A : Type 0} → Checked A → Type 0
-Accepted (good a) = Unit {0}
-Accepted (refused n) = ⊥
+pub use Rattle.stored_steps.specs.Storing.{Accepted}
 
 -- another step, or a refusal, comes
 abbrev pub goesOn : NextStep → Bool

@@ -1,4 +1,4 @@
-// The expansion of a composed state (compose_fst_op.rs, `compute_trs`): first weighed, then stored. The second pass cannot fail: each kept move's record goes through the lent tail, and a
+// The expansion of a composed state (compose_fst_op.rs, `compute_trs`) where a refusal may stand: first weighed, then stored. The second pass cannot fail: each kept move's record goes through the lent tail, and a
 // target that the table lacks becomes a state.
 ghost use mathlib.Core.Path.{_≡_};
 ghost use mathlib.Core.List.{List};
@@ -173,7 +173,7 @@ fn store_steps(
 }
 
 // The records from the first unused one on, where `before` and then `after` are used.
-fn new_part(before: u32, after: u32) -> Part
+pub fn new_part(before: u32, after: u32) -> Part
     requires { ⌜ before ≤ after ⌝ }
     ensures { λ r. ⌜ ((n k : ℕ) → partMeans r ≡ newPart (record { states = n; trs = before }) (record { states = k; trs = after })) ⌝ }
 {
@@ -226,8 +226,8 @@ fn expand_from(
     }
 }
 
-// The expansion of state n, a found one, where the checks 1 to 8 passed.
-pub fn expand_state(
+// The expansion of state n, a found one, where the checks 1 to 8 passed: weighed, then stored.
+pub fn expand_weighed(
     m1: &[u32],
     m2: &[u32],
     a1: &[u32],

@@ -7,7 +7,8 @@ use Rattle.calls.specs.Store.{Store, stateSize, stateRoomWith}
 use Rattle.calls.proofs.RecordLaws.{room-words}
 use Rattle.compose_state_tuple.specs.Meaning.{tupleMeans}
 use Rattle.store_records.specs.Meaning.{stored}
-use Rattle.compose_store.proofs.StoreLaws.{new-room, reach-found, reach-new}
+use Rattle.stored_steps.proofs.OneStep.{new-room}
+use Rattle.compose_store.proofs.StoreLaws.{reach-found, reach-new}
 use borrow.Author.Needs.{needs}
 use Rattle.compose_store.proofs.reach.Statement.{statement}
 use Rattle.compose_store.proofs.reach.Tie as tie

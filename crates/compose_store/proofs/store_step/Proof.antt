@@ -9,7 +9,8 @@ use Rattle.compose_state_tuple.specs.Meaning.{tupleMeans}
 use Rattle.store_records.specs.Meaning.{stored}
 use Rattle.compose_moves.specs.Moves.{composeTrMeans}
 use Rattle.compose_store.specs.Meaning.{reachedMeans}
-use Rattle.compose_store.proofs.StoreLaws.{reach-any, step-room, step-is}
+use Rattle.stored_steps.proofs.OneStep.{step-room}
+use Rattle.compose_store.proofs.StoreLaws.{reach-any, step-is}
 use borrow.Author.Needs.{needs}
 use Rattle.compose_store.proofs.store_step.Statement.{statement}
 use Rattle.compose_store.proofs.store_step.Tie as tie

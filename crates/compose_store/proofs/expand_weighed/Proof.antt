@@ -7,8 +7,8 @@ use Rattle.store_records.specs.Meaning.{memoryOf}
 use Rattle.compose_store.specs.Meaning.{sessionUnder}
 use Rattle.compose_store.proofs.ExpandLaws.{start-refused, ready}
 use borrow.Author.Needs.{needs}
-use Rattle.compose_store.proofs.expand_state.Statement.{statement}
-use Rattle.compose_store.proofs.expand_state.Tie as tie
+use Rattle.compose_store.proofs.expand_weighed.Statement.{statement}
+use Rattle.compose_store.proofs.expand_weighed.Tie as tie
 
 expand-from-requires : tie.Need-expand-from-requires
 expand-from-requires c κs =
@@ -36,8 +36,8 @@ returns-2 c =
     let same = (rw (k .1) at (c .before .before .before .before .before .before .before .before .before .before .before .before .before .moves-start .ensures (a .a1 .now) (a .a2 .now))) ∙ ap (stepsAt o) (c .before .before .before .before .before .before .before .before .before .before .before .before .before .before .get-tuple .ensures) in
     c .before .before .before .before .before .before .expand-from .ensures o (sym same)
 
-pub expand-state-spec : {M : Type 1} → statement M
-expand-state-spec =
+pub expand-weighed-spec : {M : Type 1} → statement M
+expand-weighed-spec =
     tie.close
     (tie.spec
     (λ c κs. search needs)

@@ -1,0 +1,84 @@
+-- What the checks 1 to 8 tell of a found state: all that a plan relies on.
+use mathlib.Core.Path.{_≡_, sym, _∙_, ap, subst}
+use mathlib.Core.Bool.{true}
+use mathlib.Core.List.{List}
+use Prim.Native.Nat.{ℕ, _<_, _≤_}
+use Rattle.lists.proofs.Members.{and-left}
+use Rattle.words.specs.Labels.{MAX, good}
+use Rattle.words.specs.Weights.{kindOf}
+use Rattle.words.specs.Matches.{MatchType, inputs, outputs}
+use Rattle.words.specs.Machines.{stateCount, wellFormed}
+use Rattle.words.specs.Sides.{sideOf}
+use Rattle.words.specs.Settings.{Settings, operand1, operand2}
+use Rattle.words.specs.Steps.{Composition, Triple, stepsAt}
+use Rattle.words.proofs.StepRange.{InRange}
+use Rattle.calls.specs.Store.{Memory, Store, tripleAt}
+use Rattle.calls.specs.Checks.{storeOf, entered}
+use Rattle.calls.proofs.ExpandKept.{Sided, sided, entered-is}
+use Rattle.store_records.specs.declared.Used.{Used}
+use Rattle.match_type.specs.Chosen.{sideMeans}
+use Rattle.compose_fst_op.specs.Composing.{optionSettings, lentOf, composing}
+use Rattle.compose_fst_op.specs.declared.ComposeFstOpOptions.{ComposeFstOpOptions}
+use Rattle.list_facts.specs.Facts.{TrueOf}
+use Rattle.list_facts.specs.declared.ListFacts.{ListFacts}
+use Rattle.stored_steps.specs.Storing.{Fits}
+use Rattle.stored_steps.specs.Chains.{Chained}
+use Rattle.stored_steps.proofs.Chains.{form-chained}
+use Rattle.compose_bounds.specs.Serving.{plainDirection}
+use Rattle.compose_plan.specs.Serves.{noSigma, servesOf}
+use Rattle.compose_plan.specs.Planning.{Present}
+use Rattle.compose_plan.proofs.Fitting.{serves-fits}
+use Rattle.compose_store.specs.Meaning.{sessionUnder}
+
+module _ (o : ComposeFstOpOptions) (m1 m2 a1 a2 : List ℕ) (u : Used) (m : Memory)
+    (e : entered (lentOf o m1 m2 a1 a2) (sessionUnder o u) m ≡ good (composing o m1 m2 a1 a2)) where
+  passed : Sided (optionSettings o) (lentOf o m1 m2 a1 a2) (sideMeans (o .side))
+  passed =
+      let h = entered-is (lentOf o m1 m2 a1 a2) (sessionUnder o u) m (composing o m1 m2 a1 a2) e in
+      sided (optionSettings o) (lentOf o m1 m2 a1 a2) (sideMeans (o .side)) (h .rule ∙ ap good (sym (ap (λ (c : Composition). c .side) (h .composition))))
+
+  pub formed1 : wellFormed m1 ≡ true
+  formed1 = passed .formed1
+
+  pub formed2 : wellFormed m2 ≡ true
+  formed2 = passed .formed2
+
+  -- the pair of a found state is in range
+  pub in-range : (n : ℕ) → n < u .states → InRange (stateCount m1) (stateCount m2) (tripleAt (m .states) n)
+  in-range n found = entered-is (lentOf o m1 m2 a1 a2) (sessionUnder o u) m (composing o m1 m2 a1 a2) e .form .state n found .triple
+
+  -- the chains of states stay within the used records
+  pub chained : Chained (storeOf (sessionUnder o u) m)
+  chained = form-chained (storeOf (sessionUnder o u) m) (entered-is (lentOf o m1 m2 a1 a2) (sessionUnder o u) m (composing o m1 m2 a1 a2) e .form)
+
+  -- the allowed lists play no part
+  rule-any : (b1 b2 : List ℕ) → sideOf (operand1 (optionSettings o) (lentOf o m1 m2 b1 b2)) (operand2 (optionSettings o) (lentOf o m1 m2 b1 b2)) ≡ good (sideMeans (o .side))
+  unfolding sideOf
+  rule-any b1 b2 = passed .rule
+
+  pub present : (n : ℕ) → n < u .states → (t : Triple) → t ≡ tripleAt (m .states) n → (f1 f2 : ListFacts)
+      → TrueOf outputs (kindOf (o .kind)) m1 (tripleAt (m .states) n .s1) f1 → TrueOf inputs (kindOf (o .kind)) m2 (tripleAt (m .states) n .s2) f2
+      → (b1 b2 : List ℕ) → Present o m1 m2 b1 b2 t f1 f2
+  present n found t q f1 f2 t1 t2 b1 b2 =
+      subst (λ (s : Triple). Present o m1 m2 b1 b2 s f1 f2) (sym q)
+      (record {
+        formed1 = formed1;
+        formed2 = formed2;
+        rule = rule-any b1 b2;
+        inside1 = in-range n found .s1;
+        inside2 = in-range n found .s2;
+        facts1 = t1;
+        facts2 = t2;
+      })
+
+-- where the bounds serve, no label is sigma
+pub serves-plain : (s : Settings) (on : MatchType) (d : Store) (f1 f2 : ListFacts) → servesOf s on d f1 f2 ≡ true → noSigma s ≡ true
+unfolding servesOf
+serves-plain s on d f1 f2 e = and-left (noSigma s) _ e
+
+-- and every step fits
+pub serves-fit : {o : ComposeFstOpOptions} {m1 m2 : List ℕ} {t : Triple} {f1 f2 : ListFacts} (d : Store) (on : MatchType) → ((a1 a2 : List ℕ) → Present o m1 m2 a1 a2 t f1 f2)
+    → on ≡ plainDirection (sideMeans (o .side)) (f1 .len) (f2 .len) → servesOf (optionSettings o) on d f1 f2 ≡ true → f1 .most ≤ MAX → f2 .most ≤ MAX
+    → (a1 a2 : List ℕ) → Fits d (stepsAt (composing o m1 m2 a1 a2) t)
+serves-fit {o = o} {f1 = f1} {f2 = f2} d on p way e h1 h2 a1 a2 =
+    serves-fits (p a1 a2) d (subst (λ (w : MatchType). servesOf (optionSettings o) w d f1 f2 ≡ true) way e) h1 h2

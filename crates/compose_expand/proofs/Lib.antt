@@ -1,0 +1,3 @@
+-- What the checks tell of a found state, and what its plain expansion leaves.
+pub mod Found
+pub mod PlainLaws

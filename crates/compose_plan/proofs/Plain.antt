@@ -1,0 +1,59 @@
+-- Compositions without sigma: labels, the direction by the facts, the look-up of a label.
+use mathlib.Core.Path.{_≡_, refl, sym, _∙_, ap₂}
+use mathlib.Core.Bool.{Bool, true, false, cond}
+use mathlib.Core.List.{List, [], _∷_, map, List·Memᴰ as In}
+use mathlib.Core.Logic.{_≢_}
+use Prim.Native.Nat.{ℕ, _<_}
+use lib.Dec.{eqb}
+use borrow.Author.Tests.{eqb-true, eq-eqb, ne-eqb}
+use Rattle.lists.proofs.Members.{and-left, and-right}
+use Rattle.words.specs.Labels.{MAX, epsLabel, noLabel, good}
+use Rattle.words.specs.Matches.{MatchType, inputs, outputs, labelOn, Match, own}
+use Rattle.words.specs.Machines.{sideMark, listOf, machineOf, wellFormed}
+use Rattle.words.specs.Sigmas.{Sigma, Operand, isAllowed, sigmaTrs, otherwise, lookup}
+use Rattle.words.specs.Sides.{directionAt}
+use Rattle.words.specs.Settings.{Settings, operand1, operand2}
+use Rattle.words.specs.Steps.{Triple}
+use Rattle.words.proofs.PapersOpened.{listed-form}
+use Rattle.words.proofs.PapersLookup.{owns, lookup-label}
+use Rattle.compose_bounds.specs.Serving.{plainDirection}
+use Rattle.compose_bounds.proofs.Plain.{plain-direction}
+use Rattle.compose_fst_op.specs.Composing.{optionSettings, lentOf, composing}
+use Rattle.compose_fst_op.specs.declared.ComposeFstOpOptions.{ComposeFstOpOptions}
+use Rattle.list_facts.specs.declared.ListFacts.{ListFacts}
+use Rattle.match_type.specs.Chosen.{sideMeans}
+use Rattle.compose_plan.specs.Serves.{noSigma}
+use Rattle.compose_plan.specs.Planning.{Present}
+
+-- a machine's words matched on a side, whatever its sigma
+abbrev pub operandWith : MatchType → List ℕ → Sigma → Operand
+operandWith on m σ = record { machine = machineOf m; on = on; mark = sideMark on m; sigma = σ }
+
+-- no label of a list is MAX
+pub label-below : (on : MatchType) (m : List ℕ) → wellFormed m ≡ true → (s t : ℕ) → In t (listOf m s) → labelOn on (machineOf m) t < MAX
+label-below inputs m w s t i = listed-form m w s t i .input
+label-below outputs m w s t i = listed-form m w s t i .output
+
+-- no sigma label is set on either machine
+pub unset : (s : Settings) → noSigma s ≡ true → (s .sigma1 ≡ noLabel) × (s .sigma2 ≡ noLabel)
+unset s e = (eqb-true _ _ (and-left (eqb (s .sigma1) noLabel) _ e), eqb-true _ _ (and-right (eqb (s .sigma1) noLabel) _ e))
+
+-- so the direction is that of the facts
+pub direction-plain : {o : ComposeFstOpOptions} {m1 m2 a1 a2 : List ℕ} {t : Triple} {f1 f2 : ListFacts} → Present o m1 m2 a1 a2 t f1 f2 → noSigma (optionSettings o) ≡ true
+    → directionAt (sideMeans (o .side)) (operand1 (optionSettings o) (lentOf o m1 m2 a1 a2)) (operand2 (optionSettings o) (lentOf o m1 m2 a1 a2)) (t .s1) (t .s2)
+    ≡ good (plainDirection (sideMeans (o .side)) (f1 .len) (f2 .len))
+direction-plain {o} {m1} {m2} {a1} {a2} {t} p e =
+    let n = unset (optionSettings o) e in
+    plain-direction (composing o m1 m2 a1 a2) t (n .0) (n .1) ∙ ap₂ (λ (i j : ℕ). good (plainDirection (sideMeans (o .side)) i j)) (sym (p .facts1 .len)) (sym (p .facts2 .len))
+
+-- no sigma transition serves as the rest
+no-others : (b : Bool) (ms : List Match) → otherwise ms (cond b [] []) ≡ ms
+no-others true [] = refl
+no-others false [] = refl
+no-others b (m ∷ ms) = refl
+
+-- the look-up of a label gives its own transitions alone
+pub lookup-plain : (o : Operand) (s x : ℕ) → o .sigma .label ≡ noLabel → x ≢ epsLabel → x ≢ noLabel → lookup o s x ≡ good (map own (owns o s x))
+unfolding sigmaTrs
+lookup-plain o s x e nε nm =
+    rw (lookup-label o s x nε nm, ne-eqb x (o .sigma .label) (λ d. nm (d ∙ e)), eq-eqb (o .sigma .label) noLabel e, no-others (isAllowed (o .sigma .allowed) x) (map own (owns o s x)))

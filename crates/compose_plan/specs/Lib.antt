@@ -1,0 +1,2 @@
+pub mod Serves
+pub mod Planning
