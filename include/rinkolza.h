@@ -33,7 +33,8 @@
  *   rinkolza_trusted_final_weights: 2 for each found state). With any other
  *   length the call is refused with 1 and changes nothing (rinkolza_records:
  *   see there).
- * - No call uses more than 16 KiB of stack.
+ * - A run uses at most 128 KiB of stack, an expansion 80 KiB, every other call
+ *   16 KiB.
  *
  * ---------------------------------------------------------------------------
  * A machine in words (const, both machines, lent at every call)
@@ -165,10 +166,10 @@
  * worth lending at once: where a call is refused with 13, lengthen states and
  * trs at their ends and call again (tests/c_grow.c does so). A copy will do, or
  * realloc; the words behind may be anything. To double them keeps the whole
- * cost of copying below that of the last copy taken twice; but give a wide state
- * room for as many records as its two lists have transitions at once, since an
- * expansion that comes to lack room among many new states is slow, by their
- * square. Only an opening that is refused with 13 is made again with more heads
+ * cost of copying below that of the last copy taken twice; a wide state is best
+ * given room for as many records as its two lists have transitions at once, as
+ * each expansion that is refused for lack of room has gone through its moves.
+ * Only an opening that is refused with 13 is made again with more heads
  * and a state record. Slices may be lengthened at any time: every call then
  * answers as it would have, or goes on where it would have been refused with 13,
  * and what was given is given again.

@@ -19,10 +19,10 @@
 //!
 //! [`Machine::readings`] lists the accepting paths of a machine, composed or not.
 //!
-//! [`Composition`] keeps a composition open: it expands states one by one, as they are asked for, which costs about what
-//! a whole run costs, and shows how far a long run has come. A machine, and a composition, has at most [`LARGEST_COUNT`]
-//! states and as many transitions. What a composition may be refused for is a [`Refusal`]; the numbers are those of the
-//! library's header, `include/rinkolza.h`.
+//! [`Composition`] keeps a composition open: it expands states one by one, as they are asked for, which costs two to
+//! three times what a whole run costs where lists are short, and shows how far a long run has come. A machine, and a
+//! composition, has at most [`LARGEST_COUNT`] states and as many transitions. What a composition may be refused for is a
+//! [`Refusal`]; the numbers are those of the library's header, `include/rinkolza.h`.
 
 #![deny(unsafe_code)]
 #![warn(missing_docs)]

@@ -1,4 +1,4 @@
-//! Every call does with a small stack: all ten are made on a thread with 128 KiB of it, on machines that take the checks through all their paths, and answer as on the main thread.
+//! Every call does with a small stack: all ten are made on a thread with 160 KiB of it, on machines that take the checks through all their paths, and answer as on the main thread.
 
 mod common;
 
@@ -8,7 +8,7 @@ use rinkolza::{words, Inputs, Room, Tr};
 use std::thread;
 
 /// The header's bound is lower; the rest is for the test's own frames.
-const STACK: usize = 128 * 1024;
+const STACK: usize = 160 * 1024;
 const FEW: Room = Room {
     heads: 64,
     states: 8,

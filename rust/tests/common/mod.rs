@@ -2,6 +2,8 @@
 
 #![allow(dead_code)]
 
+pub mod choice;
+
 use rinkolza::sys::{self, Memory, Session, TR_WORDS};
 use rinkolza::{words, Composition, Inputs, Room, Tr};
 
