@@ -20,7 +20,7 @@ use Rattle.words.proofs.WalkLaws.{lookup-none}
 use Rattle.calls.specs.Store.{Store, stateRoom, trRoom}
 use Rattle.stored_steps.specs.Storing.{Accepted, All, AllGood, Fits}
 use Rattle.stored_steps.proofs.Rooms.{few-fit}
-use Rattle.compose_bounds.specs.Serving.{Listed, Light, FitWeights, NoSigma, Runs, Walks}
+use Rattle.compose_bounds.specs.Serving.{Listed, Light, weightsFit, NoSigma, Runs, Walks}
 use Rattle.compose_bounds.proofs.Alls.{all-flat, all-map, flat-length}
 use Rattle.compose_bounds.proofs.Weigh.{Small, times-fit}
 use Rattle.compose_bounds.proofs.Lookups.{own-listed, label-listed, matches, matches-listed, lookup-good, lookup-by, matches-few}
@@ -112,7 +112,7 @@ given-small k o s p x l loop i = (one-word k, inr (inl refl))
 given-small k o s p x l (own t) i = tr-small k o s p t l i
 given-small k o s p x l (viaSigma t) i = subst (λ (w : ℕ). (w ≤ MAX) × Small k p w) (sym (sigma-weight k o s x t)) (tr-small k o s p t l i)
 
-module _ (c : Composition) (s : Triple) (p q : ℕ) (light1 : Light (c .kind) (c .operand1) (s .s1) p) (light2 : Light (c .kind) (c .operand2) (s .s2) q) (fit : FitWeights (c .kind) p q) where
+module _ (c : Composition) (s : Triple) (p q : ℕ) (light1 : Light (c .kind) (c .operand1) (s .s1) p) (light2 : Light (c .kind) (c .operand2) (s .s2) q) (fit : weightsFit (c .kind) p q ≡ true) where
   abbrev Both : Move → Type 0
   Both v = Listed (c .operand1 .machine .list (s .s1)) (v .first) × Listed (c .operand2 .machine .list (s .s2)) (v .second)
 

@@ -7,10 +7,10 @@ use Prim.Native.Nat.{ℕ, _+_, _*_, _≤_, _<_}
 use native.Mathlib.Nat.{mul-le-mul, one-mul, mul-one, le-trans}
 use native.Mathlib.Omega.{arith}
 use lib.Dec.{eqb, ltb}
-use borrow.Author.Tests.{eq-eqb, ne-eqb, lt-ltb, le-leb}
+use borrow.Author.Tests.{eq-eqb, ne-eqb, lt-ltb, le-leb, ltb-true, leb-true}
 use Rattle.words.specs.Labels.{MAX}
 use Rattle.words.specs.Weights.{Kind, cost, count, one, zeroOf, times}
-use Rattle.compose_bounds.specs.Serving.{FitWeights}
+use Rattle.compose_bounds.specs.Serving.{weightsFit}
 
 -- zero, one, or at most `most`
 abbrev pub Small : Kind → ℕ → ℕ → Type 0
@@ -44,16 +44,16 @@ count-part w p (inl e) = inr (omega (arith, e))
 count-part w p (inr (inl e)) = inl e
 count-part w p (inr (inr h)) = inr h
 
-pub times-fit : (k : Kind) (a b p q : ℕ) → FitWeights k p q → a ≤ MAX → b ≤ MAX → Small k p a → Small k q b → (w : ℕ) × (times k a b ≡ some w)
+pub times-fit : (k : Kind) (a b p q : ℕ) → weightsFit k p q ≡ true → a ≤ MAX → b ≤ MAX → Small k p a → Small k q b → (w : ℕ) × (times k a b ≡ some w)
 times-fit cost a b p q h ma mb x y = go (cost-part a p x) (cost-part b q y)
   where
     go : (a ≡ MAX) ⊎ (a ≤ p) → (b ≡ MAX) ⊎ (b ≤ q) → (w : ℕ) × (times cost a b ≡ some w)
     go (inl e) y = (MAX, cost-zero a b (inl e))
     go (inr e) (inl f) = (MAX, cost-zero a b (inr f))
-    go (inr e) (inr f) = (a + b, cost-sum a b p q h e f)
+    go (inr e) (inr f) = (a + b, cost-sum a b p q (ltb-true _ _ h) e f)
 times-fit count a b p q h ma mb x y = (a * b, count-product a b (go (count-part a p x) (count-part b q y)))
   where
     go : (a ≡ 1) ⊎ (a ≤ p) → (b ≡ 1) ⊎ (b ≤ q) → a * b ≤ MAX
     go (inl e) y = rw (e, one-mul) mb
     go (inr e) (inl f) = rw (f, mul-one) ma
-    go (inr e) (inr f) = le-trans (mul-le-mul e f) h
+    go (inr e) (inr f) = le-trans (mul-le-mul e f) (leb-true _ _ h)

@@ -1,10 +1,10 @@
 -- Bounds on the two lists of a composed state: where they hold, no refusal stands among its steps, and the steps are few.
 use mathlib.Core.Path.{_≡_}
-use mathlib.Core.Bool.{cond}
+use mathlib.Core.Bool.{Bool, cond}
 use mathlib.Core.List.{List, List·Memᴰ as In}
 use mathlib.Core.Logic.{_≢_, _⊎_}
-use Prim.Native.Nat.{ℕ, _+_, _*_, _≤_, _<_}
-use lib.Dec.{leb}
+use Prim.Native.Nat.{ℕ, _+_, _*_, _≤_}
+use lib.Dec.{ltb, leb}
 use lib.ListN.{length}
 use Rattle.words.specs.Labels.{MAX}
 use Rattle.words.specs.Weights.{Kind, cost, count, zeroOf}
@@ -24,10 +24,10 @@ pub record Light (k : Kind) (o : Operand) (s largest : ℕ) : Type 0 where
   pub word : (t : ℕ) → In t (o .machine .list s) → o .machine .weight t ≤ MAX
   pub most : (t : ℕ) → In t (o .machine .list s) → (o .machine .weight t ≡ zeroOf k) ⊎ (o .machine .weight t ≤ largest)
 
--- no product of a weight up to p and one up to q is too large
-abbrev pub FitWeights : Kind → ℕ → ℕ → Type 0
-FitWeights cost p q = p + q < MAX
-FitWeights count p q = p * q ≤ MAX
+-- no product of a weight up to p and one up to q is too large, so there is no 12
+abbrev pub weightsFit : Kind → ℕ → ℕ → Bool
+weightsFit cost p q = ltb (p + q) MAX
+weightsFit count p q = leb (p * q) MAX
 
 -- no inner label of W's list at sw is M's sigma label
 abbrev pub NoSigma : Operand → ℕ → Operand → Type 0

@@ -1,6 +1,5 @@
 -- The expansion by what its steps leave: the store with the state marked, or a refusal and all as it was.
 use mathlib.Core.Path.{_≡_, sym, _∙_, ap, subst}
-use mathlib.Core.Bool.{true}
 use mathlib.Core.List.{List, [], _∷_}
 use Prim.Native.Nat.{ℕ, _<_}
 use Rattle.words.specs.Labels.{Checked, good, refused, andThen}
@@ -50,6 +49,6 @@ module _ (c : Composition) (s : Session) (m : Memory) (n : ℕ) where
 
 -- where the checks 1 to 8 passed, the steps of a found state are weighed exactly
 pub ready : (l : Lent) (s : Session) (m : Memory) (c : Composition) (n : ℕ) (steps : List (Checked Step)) → entered l s m ≡ good c → n < s .used .states → steps ≡ stepsAt c (tripleAt (m .states) n)
-    → weighOf true (storeOf s m) steps ≡ andThen (storeSteps (storeOf s m) steps) (λ d. good tt)
+    → weighOf (storeOf s m) steps ≡ andThen (storeSteps (storeOf s m) steps) (λ d. good tt)
 ready l s m c n steps e found k =
-    subst (λ x. weighOf true (storeOf s m) x ≡ andThen (storeSteps (storeOf s m) x) (λ d. good tt)) (sym k) (weigh-entered l s m c (entered-is l s m c e) n found)
+    subst (λ x. weighOf (storeOf s m) x ≡ andThen (storeSteps (storeOf s m) x) (λ d. good tt)) (sym k) (weigh-entered l s m c (entered-is l s m c e) n found)

@@ -1,20 +1,17 @@
 -- What the code's types stand for in the definitions of `calls`, and what an expansion leaves.
 use mathlib.Core.Bool.{Bool, true, false}
-use mathlib.Core.List.{List}
-use Prim.Native.Nat.{ℕ}
 use Rattle.words.specs.Labels.{good, refused}
 use Rattle.calls.specs.Store.{Memory, Part}
 use Rattle.calls.specs.Checks.{Session, sideNumber}
-use Rattle.calls.specs.Calls.{Reached as Place, Outcome}
+use Rattle.calls.specs.Calls.{Outcome}
 use Rattle.store_records.specs.declared.Used.{Used}
-use Rattle.store_records.specs.Meaning.{stored, usedMeans}
+use Rattle.store_records.specs.Meaning.{usedMeans}
 use Rattle.tr_lists.specs.Meaning.{partMeans}
 use Rattle.match_type.specs.Chosen.{sideMeans}
 use Rattle.compose_fst_op.specs.Composing.{optionSettings}
 use Rattle.compose_fst_op.specs.declared.ComposeFstOpOptions.{ComposeFstOpOptions}
 use Rattle.compose_moves.specs.declared.NextStep.{NextStep}
 use Rattle.compose_moves.specs.declared.NextStep.the-variants.{Step as AStep, Done, Refused as Stop}
-use Rattle.compose_store.specs.declared.Reached.{Reached}
 use Rattle.compose_store.specs.declared.Expansion.{Expansion}
 use Rattle.compose_store.specs.declared.Expansion.the-variants.{New, Refused}
 pub use Rattle.stored_steps.specs.Storing.{Accepted}
@@ -24,10 +21,6 @@ abbrev pub goesOn : NextStep → Bool
 goesOn (AStep r c) = true
 goesOn Done = false
 goesOn (Stop n) = true
-
--- a state of the table, and the table, in these slices
-abbrev pub reachedMeans : List ℕ → List ℕ → List ℕ → ℕ → Reached → Place
-reachedMeans heads states trs k r = record { store = stored heads states trs (r .used) k; state = r .state .0 }
 
 -- the session of a composition, with these used counts
 abbrev pub sessionUnder : ComposeFstOpOptions → Used → Session

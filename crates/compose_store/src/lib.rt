@@ -2,7 +2,6 @@
 // target that the table lacks becomes a state.
 ghost use mathlib.Core.Path.{_≡_};
 ghost use mathlib.Core.List.{List};
-ghost use mathlib.Core.Bool.{true};
 ghost use Prim.Native.Nat.{ℕ, _+_, _^_, _≤_, _<_};
 ghost use Rattle.words.specs.Labels.{good, andThen};
 ghost use Rattle.words.specs.Steps.{Composition, stepsAt};
@@ -10,13 +9,14 @@ ghost use Rattle.calls.specs.Store.{tripleAt};
 ghost use Rattle.calls.specs.Checks.{entered};
 ghost use Rattle.calls.specs.Calls.{reach as reachOf, nextFor, storeStep, storeSteps, newPart, settle, expansion};
 ghost use Rattle.compose_state_tuple.specs.Meaning.{tupleMeans};
-ghost use Rattle.store_records.specs.Meaning.{stored, memoryOf};
+ghost use Rattle.store_records.specs.Meaning.{stored, storeIn, memoryOf};
+ghost use Rattle.state_table.specs.Meaning.{reachedMeans};
 ghost use Rattle.tr_lists.specs.Meaning.{partMeans};
 ghost use Rattle.compose_fst_op.specs.Composing.{lentOf, composing};
 ghost use Rattle.compose_moves.specs.Moves.{composeTrMeans};
 ghost use Rattle.compose_weigh.specs.Weigh.{weighOf};
-ghost use Rattle.compose_weigh.specs.Meaning.{stepsFrom, storeIn};
-ghost use Rattle.compose_store.specs.Meaning.{Accepted, goesOn, reachedMeans, sessionUnder, leftBy};
+ghost use Rattle.compose_weigh.specs.Meaning.{stepsFrom};
+ghost use Rattle.compose_store.specs.Meaning.{Accepted, goesOn, sessionUnder, leftBy};
 use compose_fst_op::ComposeFstOpOptions;
 use compose_moves::ComposeTr;
 use compose_moves::MoveCursor;
@@ -30,6 +30,7 @@ use compose_weigh::weigh;
 use fst::StateId;
 use fst::Tr;
 use state_table::FoundState;
+use state_table::Reached;
 use state_table::add_state;
 use state_table::find_id;
 use store_records::Used;
@@ -37,12 +38,6 @@ use store_records::get_tuple;
 use store_records::mark_expanded;
 use store_records::push_tr;
 use tr_lists::Part;
-
-// The state of a triple, and how many states are used with it.
-struct Reached {
-    state: StateId,
-    used: u32,
-}
 
 // The new records of a state's list with the used counts after it, or the number of the refusal.
 pub enum Expansion {
@@ -203,7 +198,7 @@ fn expand_from(
     requires { ⌜ (
         let d = storeIn (now heads) (now states) (now trs) used in
         let steps = stepsFrom options (now m1) (now m2) (now a1) (now a2) start in
-        weighOf true d steps ≡ andThen (storeSteps d steps) (λ e. good tt)
+        weighOf d steps ≡ andThen (storeSteps d steps) (λ e. good tt)
         ) ⌝ }
     ensures { λ r. ⌜ (
         (c : Composition) →

@@ -21,6 +21,7 @@ use Rattle.matchers.proofs.Seeks.{with-outside, sought-none, sought-again}
 use Rattle.compose_filters.specs.declared.Filtered.{Filtered}
 use Rattle.compose_filters.specs.declared.Filtered.the-variants.{Kept, Dropped}
 use Rattle.compose_filters.specs.Meaning.{filteredMeans}
+use Rattle.store_records.specs.Meaning.{storeIn}
 use Rattle.compose_moves.specs.Moves.{asTr}
 use Rattle.store_records.specs.declared.Used.{Used}
 use Rattle.sorted_lists.specs.Runs.{rising}
@@ -30,7 +31,6 @@ use Rattle.stored_steps.specs.Chains.{Chained}
 use Rattle.stored_steps.proofs.AllSteps.{all-append, fits-append}
 use Rattle.stored_steps.proofs.Chains.{all-chained}
 use Rattle.compose_walk.specs.declared.Plan.{Plan}
-use Rattle.compose_walk.specs.Meaning.{storeIn}
 use Rattle.compose_walk.specs.Plans.{sideBy, joinedBy, withRecords, withLabelled, epsBy, edgeBy, walkedLabel, recordBy, edgesBy, restBy, planSteps}
 
 -- one step before others: it has its records
@@ -150,7 +150,7 @@ module _ (v : Plan) (mw mm : List ℕ) where
 
   -- a walked record as it is read, in its turn: what it makes fits
   module _ (t : ℕ) (w : Transition) (x : ℕ) (n : t ≡ 0 → ⊥) (h : t ≤ trCount mw) (p : w ≡ trOf (machineOf mw) t) (q : x ≡ walkedLabel (sideBy v) w) where
-    turned : edgesBy v mw mm t ≡ edgeBy v mm w x ++ edgesBy v mw mm (nextOf mw t)
+    pub turned : edgesBy v mw mm t ≡ edgeBy v mm w x ++ edgesBy v mw mm (nextOf mw t)
     turned = edges-turn t n h ∙ ap (λ (l : List (Checked Step)). l ++ edgesBy v mw mm (nextOf mw t)) (sym (record-is t w x p q))
 
     pub edges-first : (d : Store) → Fits d (edgesBy v mw mm t) → Fits d (edgeBy v mm w x)

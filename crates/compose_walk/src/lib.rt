@@ -16,10 +16,9 @@ ghost use Rattle.fst_reads.specs.Places.{recordBase};
 ghost use Rattle.matchers.specs.Cursors.{withLabel};
 ghost use Rattle.sorted_lists.specs.Runs.{rising};
 ghost use Rattle.sorted_lists.specs.Known.{Known};
-ghost use Rattle.store_records.specs.Meaning.{stored};
+ghost use Rattle.store_records.specs.Meaning.{stored, storeIn};
 ghost use Rattle.stored_steps.specs.Storing.{storeAll, endFrom, Fits};
 ghost use Rattle.stored_steps.specs.Chains.{Chained};
-ghost use Rattle.compose_walk.specs.Meaning.{storeIn};
 ghost use Rattle.compose_walk.specs.Plans.{withRecords, epsBy, edgeBy, restBy, walkedLabel, planSteps, Planned};
 use compose_filters::Filtered;
 use fst::EPS_LABEL;
@@ -281,7 +280,7 @@ fn rest_moves(
 }
 
 // The inner label of a walked transition, where the other machine is matched on a side.
-fn walked_label(on: MatchType, edge: Tr) -> Label
+pub fn walked_label(on: MatchType, edge: Tr) -> Label
     ensures { λ r. ⌜ r .0 ≡ walkedLabel (onOf on) (trMeans edge) ⌝ }
 {
     let ilabel = edge.ilabel;

@@ -9,11 +9,11 @@ ghost use Rattle.calls.specs.Store.{find, stateSize, roomOf};
 ghost use Rattle.fst.specs.Meaning.{onOf, trMeans};
 ghost use Rattle.matchers.specs.Meaning.{theLoop};
 ghost use Rattle.compose_state_tuple.specs.Meaning.{tupleMeans};
-ghost use Rattle.store_records.specs.Meaning.{stored};
+ghost use Rattle.store_records.specs.Meaning.{stored, storeIn};
+ghost use Rattle.state_table.specs.Meaning.{reachedMeans};
 ghost use Rattle.compose_moves.specs.Moves.{asTr, composeTrMeans};
 ghost use Rattle.stored_steps.specs.Storing.{place as placeOf, storeOne, Room};
 ghost use Rattle.stored_steps.specs.Chains.{Chained};
-ghost use Rattle.compose_walk.specs.Meaning.{storeIn, reachedMeans};
 ghost use Rattle.compose_walk.specs.Plans.{joinedBy};
 use compose_moves::ComposeTr;
 use compose_state_tuple::ComposeStateTuple;
@@ -24,15 +24,10 @@ use fst::Tr;
 use semirings::Product;
 use semirings::one;
 use semirings::times;
+use state_table::Reached;
 use state_table::find_or_add;
 use store_records::Used;
 use store_records::push_tr;
-
-// The state of a triple, and how many states are used with it.
-struct Reached {
-    state: StateId,
-    used: u32,
-}
 
 // The state found, else a new one, for which there is room.
 fn place(heads: &mut [u32], states: &mut [u32], used: u32, tuple: ComposeStateTuple) -> Reached

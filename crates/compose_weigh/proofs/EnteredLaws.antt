@@ -1,6 +1,5 @@
 -- Where the checks 1 to 8 passed, on any memory: the targets of a found state's steps are in range, so the weighing of its expansion is exact.
 use mathlib.Core.Path.{_≡_, subst}
-use mathlib.Core.Bool.{true}
 use mathlib.Core.List.{List·Memᴰ as In}
 use Prim.Native.Nat.{ℕ, _<_}
 use native.Mathlib.Omega.{arith}
@@ -24,5 +23,5 @@ module _ (l : Lent) (s : Session) (m : Memory) (c : Composition) (h : Entered l 
       steps-in-range (s .settings) l (h .side) (z .formed1) (z .formed2) (z .rule) t (h .form .state n found .triple) st (subst (λ o. In (good st) (stepsAt o t)) (h .composition) i)
 
   pub weigh-entered : (n : ℕ) → n < s .used .states
-      → weighOf true (storeOf s m) (stepsAt c (tripleAt (m .states) n)) ≡ andThen (storeSteps (storeOf s m) (stepsAt c (tripleAt (m .states) n))) (λ e. good tt)
+      → weighOf (storeOf s m) (stepsAt c (tripleAt (m .states) n)) ≡ andThen (storeSteps (storeOf s m) (stepsAt c (tripleAt (m .states) n))) (λ e. good tt)
   weigh-entered n found = weigh-exact (storeOf s m) (stepsAt c (tripleAt (m .states) n)) (h .form) (targets-in-range n found) (omega (arith, found))

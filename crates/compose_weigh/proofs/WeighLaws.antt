@@ -47,7 +47,7 @@ less true true c = refl
 less true false c = refl
 
 pub new-next : (d : Store) (i : ℕ) (all : List (Checked Step)) (s : Step) (others : List (Checked Step)) → Ahead i all (good s ∷ others) → (t : Triple)
-    → isNew true d all (suc i) t ≡ (isNew true d all i t && not (sameTriple (s .to) t))
+    → isNew d all (suc i) t ≡ (isNew d all i t && not (sameTriple (s .to) t))
 unfolding isNew
 new-next d i all s others e t = rw (within-next t i all s others e) (less (missing (find d t)) (reachedWithin t i all) (sameTriple (s .to) t))
 
@@ -58,7 +58,7 @@ record Grown (S1 S2 : ℕ) (d : Store) (all : List (Checked Step)) (last i : ℕ
   tr-room : trRoom (d .memory) ≡ trRoom (e .memory)
   trs : d .used .trs + i ≡ e .used .trs
   any : 0 < e .used .states
-  lacks : (t : Triple) → isNew true d all i t ≡ missing (find e t)
+  lacks : (t : Triple) → isNew d all i t ≡ missing (find e t)
 
 -- a triple is missing after a step just where it was and is not the step's target
 lacks-next : (e f : Store) (to : Triple) (n : ℕ) → find f to ≡ some n → ((t : Triple) → sameTriple to t ≡ false → find f t ≡ find e t) → (t : Triple)
@@ -104,7 +104,7 @@ module _ {S1 S2 : ℕ} (d : Store) (all : List (Checked Step)) (last : ℕ) wher
         (find-added e (g .form) (s .to) more headed) (find-other e (g .form) (s .to) more headed)
 
     abbrev Told : Store → Type 0
-    Told f = weighFrom true d all (i + 1) (f .used .states) others ≡ andThen (storeSteps f others) (λ x. good tt)
+    Told f = weighFrom d all (i + 1) (f .used .states) others ≡ andThen (storeSteps f others) (λ x. good tt)
 
     abbrev rest : Checked Store → Checked (Unit {0})
     rest x = andThen (andThen x (λ f. storeSteps f others)) (λ y. good tt)
@@ -114,14 +114,14 @@ module _ {S1 S2 : ℕ} (d : Store) (all : List (Checked Step)) (last : ℕ) wher
 
     -- a new state has a record, or 13
     by-room : (b : Bool) → leb (stateRoom (e .memory)) (e .used .states) ≡ b → ((f : Store) → Grown S1 S2 d all last (suc i) f → f .used .trs + length others ≡ last → Told f)
-        → andThen (refuseIf b 13 (good (e .used .states + 1))) (λ v. weighFrom true d all (i + 1) v others) ≡ rest (andThen (refuseIf b 13 (good (record { store = add e (s .to); state = e .used .states }))) put)
+        → andThen (refuseIf b 13 (good (e .used .states + 1))) (λ v. weighFrom d all (i + 1) v others) ≡ rest (andThen (refuseIf b 13 (good (record { store = add e (s .to); state = e .used .states }))) put)
     unfolding addWith append
     by-room true p rec = refl
     by-room false p rec = rec (append (add e (s .to)) s (e .used .states) next) (new-grown (leb-false _ _ p)) (omega (arith, h))
 
     -- the target stands in the grown table or not
     by-find : (o : Option ℕ) → find e (s .to) ≡ o → ((f : Store) → Grown S1 S2 d all last (suc i) f → f .used .trs + length others ≡ last → Told f)
-        → andThen (countState (missing o) (stateRoom (e .memory)) (e .used .states)) (λ v. weighFrom true d all (i + 1) v others)
+        → andThen (countState (missing o) (stateRoom (e .memory)) (e .used .states)) (λ v. weighFrom d all (i + 1) v others)
         ≡ rest (andThen (reachedBy e (s .to) o) put)
     unfolding append countState
     by-find (some n) p rec = rec (append e s n next) (found-grown n p) (omega (arith, h))
@@ -130,15 +130,15 @@ module _ {S1 S2 : ℕ} (d : Store) (all : List (Checked Step)) (last : ℕ) wher
   -- its transition record is there, or 13
   by-tr : (i : ℕ) (e : Store) (s : Step) (others : List (Checked Step)) → Grown S1 S2 d all last i e → Ahead i all (good s ∷ others) → InRange S1 S2 (s .to) → e .used .trs + suc (length others) ≡ last
       → (b : Bool) → leb (trRoom (e .memory)) (e .used .trs) ≡ b
-      → ((f : Store) → Grown S1 S2 d all last (suc i) f → f .used .trs + length others ≡ last → weighFrom true d all (i + 1) (f .used .states) others ≡ andThen (storeSteps f others) (λ x. good tt))
-      → refuseIf b 13 (andThen (countState (missing (find e (s .to))) (stateRoom (e .memory)) (e .used .states)) (λ v. weighFrom true d all (i + 1) v others))
+      → ((f : Store) → Grown S1 S2 d all last (suc i) f → f .used .trs + length others ≡ last → weighFrom d all (i + 1) (f .used .states) others ≡ andThen (storeSteps f others) (λ x. good tt))
+      → refuseIf b 13 (andThen (countState (missing (find e (s .to))) (stateRoom (e .memory)) (e .used .states)) (λ v. weighFrom d all (i + 1) v others))
       ≡ andThen (andThen (refuseIf b 13 (andThen (reach e (s .to)) (λ r. good (append (r .store) s (r .state) (nextFor e (nonEmpty others)))))) (λ f. storeSteps f others)) (λ x. good tt)
   unfolding reachWith
   by-tr i e s others g a ok h true p rec = refl
   by-tr i e s others g a ok h false p rec = by-find i e s others g a ok (leb-false _ _ p) h (find e (s .to)) refl rec
 
   told : (i : ℕ) (e : Store) (steps : List (Checked Step)) → Grown S1 S2 d all last i e → Ahead i all steps → ((s : Step) → In (good s) steps → InRange S1 S2 (s .to)) → e .used .trs + length steps ≡ last
-      → weighFrom true d all i (e .used .states) steps ≡ andThen (storeSteps e steps) (λ x. good tt)
+      → weighFrom d all i (e .used .states) steps ≡ andThen (storeSteps e steps) (λ x. good tt)
   unfolding weighFrom storeStepsWith storeStepWith
   told i e [] g a ok h = refl
   told i e (refused n ∷ others) g a ok h = refl
@@ -149,7 +149,7 @@ module _ {S1 S2 : ℕ} (d : Store) (all : List (Checked Step)) (last : ℕ) wher
 
 -- On every store in form, with a state, and for steps whose targets are in range: the weighing's answer is that of storing.
 pub weigh-exact : {S1 S2 : ℕ} (d : Store) (steps : List (Checked Step)) → Form S1 S2 d (d .used .trs) → ((s : Step) → In (good s) steps → InRange S1 S2 (s .to)) → 0 < d .used .states
-    → weighOf true d steps ≡ andThen (storeSteps d steps) (λ e. good tt)
+    → weighOf d steps ≡ andThen (storeSteps d steps) (λ e. good tt)
 unfolding weighOf isNew reachedWithin
 weigh-exact {S1} {S2} d steps form ok any =
     let last = d .used .trs + length steps in

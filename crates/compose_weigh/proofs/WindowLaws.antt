@@ -40,13 +40,13 @@ module _ (d : Store) (all : List (Checked Step)) where
 
   -- one step of a window: it is new (b), and its record is there or not
   by-new : (b : Bool) (i u n j : ℕ) (others rest : List (Checked Step))
-      → ((v : ℕ) → weighFrom true d all (i + 1) v others ≡ afterNew (R - v) n (weighFrom true d all j (v + n) rest))
-      → andThen (countState b R u) (λ v. weighFrom true d all (i + 1) v others) ≡ afterNew (R - u) (one b + n) (weighFrom true d all j (u + (one b + n)) rest)
+      → ((v : ℕ) → weighFrom d all (i + 1) v others ≡ afterNew (R - v) n (weighFrom d all j (v + n) rest))
+      → andThen (countState b R u) (λ v. weighFrom d all (i + 1) v others) ≡ afterNew (R - u) (one b + n) (weighFrom d all j (u + (one b + n)) rest)
   unfolding countState
   by-new false i u n j others rest rec = let z : 0 + n ≡ n = omega arith in rw z (rec u)
   by-new true i u n j others rest rec = go (leb R u) refl
     where
-      go : (b : Bool) → leb R u ≡ b → andThen (refuseIf b 13 (good (u + 1))) (λ v. weighFrom true d all (i + 1) v others) ≡ afterNew (R - u) (1 + n) (weighFrom true d all j (u + (1 + n)) rest)
+      go : (b : Bool) → leb R u ≡ b → andThen (refuseIf b 13 (good (u + 1))) (λ v. weighFrom d all (i + 1) v others) ≡ afterNew (R - u) (1 + n) (weighFrom d all j (u + (1 + n)) rest)
       go true p = let l = leb-true R u p in rw (lt-ltb (R - u) (1 + n) (omega (arith, l)))
       go false p =
           let l = leb-false R u p in
@@ -54,7 +54,7 @@ module _ (d : Store) (all : List (Checked Step)) where
           rw (z, ltb-suc R u n l) (rec (u + 1))
 
   pub weigh-window : (k i u : ℕ) (steps rest : List (Checked Step)) → Ahead i all steps → Ahead k steps rest → (0 < k → d .used .trs + (i + k) ≤ trRoom (d .memory))
-      → weighFrom true d all i u steps ≡ afterNew (R - u) (newWithin (isNew true d all i) k steps) (weighFrom true d all (i + k) (u + newWithin (isNew true d all i) k steps) rest)
+      → weighFrom d all i u steps ≡ afterNew (R - u) (newWithin (isNew d all i) k steps) (weighFrom d all (i + k) (u + newWithin (isNew d all i) k steps) rest)
   unfolding weighFrom newWithin
   weigh-window zero i u steps rest a f room =
       let z : i + 0 ≡ i = omega arith in
@@ -66,17 +66,17 @@ module _ (d : Store) (all : List (Checked Step)) where
       let h = room (omega arith) in
       let z : i + suc k ≡ (i + 1) + k = omega arith in
       let a′ = ahead-next i all s others a in
-      let same = new-same (isNew true d all (i + 1)) (but (isNew true d all i) (s .to)) k others (λ t. rw (add-one i) (new-next d i all s others a t)) in
+      let same = new-same (isNew d all (i + 1)) (but (isNew d all i) (s .to)) k others (λ t. rw (add-one i) (new-next d i all s others a t)) in
       rw (lt-leb (trRoom (d .memory)) (d .used .trs + i) (omega (arith, h)), z)
-      (by-new (isNew true d all i (s .to)) i u (newWithin (but (isNew true d all i) (s .to)) k others) ((i + 1) + k) others rest
+      (by-new (isNew d all i (s .to)) i u (newWithin (but (isNew d all i) (s .to)) k others) ((i + 1) + k) others rest
       (λ v. rw (← same) (weigh-window k (i + 1) v others rest (rw (add-one i) a′) f (λ l. omega (arith, h)))))
 
   abbrev onward : ℕ → List (Checked Step) → ℕ → Checked (Unit {0})
-  onward i others v = weighFrom true d all (i + 1) v others
+  onward i others v = weighFrom d all (i + 1) v others
 
   -- A step with its transition record, where each target that the table lacks has a state's record: the weighing goes on with no more states than the quick one counts.
   pub weigh-passed : (i u g v : ℕ) (s : Step) (others : List (Checked Step)) → d .used .trs + i < trRoom (d .memory) → u ≤ g → good v ≡ countState (missing (find d (s .to))) R g
-      → (w : ℕ) × (w ≤ v) × (weighFrom true d all i u (good s ∷ others) ≡ weighFrom true d all (i + 1) w others)
+      → (w : ℕ) × (w ≤ v) × (weighFrom d all i u (good s ∷ others) ≡ weighFrom d all (i + 1) w others)
   unfolding weighFrom isNew countState
   weigh-passed i u g v s others room h e = rw (lt-leb (trRoom (d .memory)) (d .used .trs + i) room) (by-missing (missing (find d (s .to))) (reachedWithin (s .to) i all) e)
     where
@@ -88,7 +88,7 @@ module _ (d : Store) (all : List (Checked Step)) where
       by-room true r p q = absurd (good≢refused q)
       by-room false r p q = by-earlier r (leb-false R g p) (good-is (sym q))
 
-      by-missing : (m r : Bool) → good v ≡ countState m R g → (w : ℕ) × (w ≤ v) × (andThen (countState (m && not (true && r)) R u) (onward i others) ≡ onward i others w)
+      by-missing : (m r : Bool) → good v ≡ countState m R g → (w : ℕ) × (w ≤ v) × (andThen (countState (m && not r) R u) (onward i others) ≡ onward i others w)
       by-missing false r p = let z : g ≡ v = good-is (sym p) in (u, omega (arith, h, z), refl)
       by-missing true r p = by-room (leb R g) r refl p
 

@@ -1,14 +1,11 @@
 -- What the code's values stand for.
 use mathlib.Core.Path.{_≡_}
-use mathlib.Core.Bool.{true}
 use mathlib.Core.List.{List, _∷_}
 use Prim.Native.Nat.{ℕ, _+_, _^_, _≤_, _<_}
 use Rattle.words.specs.Labels.{Checked, good, refused}
 use Rattle.words.specs.Steps.{Step}
 use Rattle.calls.specs.Store.{Store, trRoom}
 use Rattle.compose_state_tuple.specs.Meaning.{tupleMeans}
-use Rattle.store_records.specs.declared.Used.{Used}
-use Rattle.store_records.specs.Meaning.{stored}
 use Rattle.compose_fst_op.specs.Composing.{optionSettings, lentOf}
 use Rattle.compose_moves.specs.Cursors.{stepsLeft}
 use Rattle.compose_fst_op.specs.declared.ComposeFstOpOptions.{ComposeFstOpOptions}
@@ -27,10 +24,6 @@ use Rattle.compose_weigh.specs.declared.Ending.the-variants.{Ends, Open}
 -- the steps that a cursor has still to give, with these settings, machines and allowed lists
 abbrev pub stepsFrom : ComposeFstOpOptions → (m1 m2 a1 a2 : List ℕ) → MoveCursor → List (Checked Step)
 stepsFrom o m1 m2 a1 a2 c = stepsLeft (optionSettings o) (lentOf o m1 m2 a1 a2) c
-
--- the store in three slices, with these used counts
-abbrev pub storeIn : (heads states trs : List ℕ) → Used → Store
-storeIn heads states trs u = stored heads states trs (u .states) (u .trs)
 
 -- the used states; 13: "a record .. is lacking"
 abbrev pub countedMeans : Counted → Checked ℕ
@@ -56,7 +49,7 @@ Moves k Open = 0 < k
 abbrev pub KeptAt : ComposeFstOpOptions → (m1 m2 a1 a2 : List ℕ) → Store → ℕ → MoveCursor → Kept → Type 0
 KeptAt o m1 m2 a1 a2 d i c (To t after) =
     (s : Step) × (stepsFrom o m1 m2 a1 a2 c ≡ good s ∷ stepsFrom o m1 m2 a1 a2 after) × (s .to ≡ tupleMeans t) × (d .used .trs + i < trRoom (d .memory))
-KeptAt o m1 m2 a1 a2 d i c (KeptEnds w) = (all : List (Checked Step)) (u : ℕ) → weighFrom true d all i u (stepsFrom o m1 m2 a1 a2 c) ≡ weighedMeans w
+KeptAt o m1 m2 a1 a2 d i c (KeptEnds w) = (all : List (Checked Step)) (u : ℕ) → weighFrom d all i u (stepsFrom o m1 m2 a1 a2 c) ≡ weighedMeans w
 
 -- k steps that have transition records, after i steps, up to the step j, with `rest` after them
 pub record Spans (d : Store) (i k : ℕ) (steps rest : List (Checked Step)) (j : ℕ) (e : Ending) : Type 0 where
@@ -64,5 +57,5 @@ pub record Spans (d : Store) (i k : ℕ) (steps rest : List (Checked Step)) (j :
   pub ahead : Ahead k steps rest
   pub recorded : 0 < k → d .used .trs + j ≤ trRoom (d .memory)
   pub small : d .used .trs + j < 2 ^ 32
-  pub told : (all : List (Checked Step)) (u : ℕ) → Tells (weighFrom true d all j u rest) e
+  pub told : (all : List (Checked Step)) (u : ℕ) → Tells (weighFrom d all j u rest) e
   pub moves : Moves k e

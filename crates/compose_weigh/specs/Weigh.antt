@@ -20,23 +20,22 @@ abbrev pub missing : Option ℕ → Bool
 missing none = true
 missing (some n) = false
 
--- t needs a new state when i of all steps are stored: the table lacks it, and none of those steps went to it. Where it is not asked exactly, every target that the table lacks
--- counts as new.
-unfoldable pub isNew : Bool → Store → List (Checked Step) → ℕ → Triple → Bool
-isNew exact d all i t = missing (find d t) && not (exact && reachedWithin t i all)
+-- t needs a new state when i of all steps are stored: the table lacks it, and none of those steps went to it
+unfoldable pub isNew : Store → List (Checked Step) → ℕ → Triple → Bool
+isNew d all i t = missing (find d t) && not (reachedWithin t i all)
 
 -- 13 where a new state's record is lacking, else the used states with it
 unfoldable pub countState : Bool → ℕ → ℕ → Checked ℕ
 countState new room u = refuseIf (new && leb room u) 13 (good (cond new (u + 1) u))
 
 -- "in move order 11 before a walked label's matches, and 12, 13 for each kept move": the steps after the first i of all, which took the used states to u
-unfoldable pub weighFrom : Bool → Store → List (Checked Step) → ℕ → ℕ → List (Checked Step) → Checked (Unit {0})
-weighFrom exact d all i u [] = good tt
-weighFrom exact d all i u (st ∷ others) =
+unfoldable pub weighFrom : Store → List (Checked Step) → ℕ → ℕ → List (Checked Step) → Checked (Unit {0})
+weighFrom d all i u [] = good tt
+weighFrom d all i u (st ∷ others) =
     andThen st (λ s.
     refuseIf (leb (trRoom (d .memory)) (d .used .trs + i)) 13
-    (andThen (countState (isNew exact d all i (s .to)) (stateRoom (d .memory)) u) (λ v. weighFrom exact d all (i + 1) v others)))
+    (andThen (countState (isNew d all i (s .to)) (stateRoom (d .memory)) u) (λ v. weighFrom d all (i + 1) v others)))
 
 -- the first refusal that storing the steps meets, or none
-unfoldable pub weighOf : Bool → Store → List (Checked Step) → Checked (Unit {0})
-weighOf exact d steps = weighFrom exact d steps 0 (d .used .states) steps
+unfoldable pub weighOf : Store → List (Checked Step) → Checked (Unit {0})
+weighOf d steps = weighFrom d steps 0 (d .used .states) steps

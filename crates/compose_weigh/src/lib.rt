@@ -1,16 +1,17 @@
 // The first pass of an expansion (compose_fst_op.rs, `compute_trs`): whether it succeeds, decided without writing.
 ghost use mathlib.Core.Path.{_≡_};
-ghost use mathlib.Core.Bool.{Bool, true, not, _&&_};
+ghost use mathlib.Core.Bool.{Bool, not, _&&_};
 ghost use mathlib.Core.List.{List};
 ghost use Prim.Native.Nat.{ℕ, _+_, _-_, _^_, _≤_, _<_};
 ghost use Rattle.words.specs.Labels.{Checked};
 ghost use Rattle.words.specs.Steps.{Triple, Step};
 ghost use Rattle.calls.specs.Store.{roomOf, stateSize, find};
 ghost use Rattle.compose_state_tuple.specs.Meaning.{tupleMeans};
+ghost use Rattle.store_records.specs.Meaning.{storeIn};
 ghost use Rattle.triple_set.specs.Sets.{setOf, Headed};
 ghost use Rattle.compose_weigh.specs.Weigh.{reachedWithin, missing, isNew, countState, weighOf};
 ghost use Rattle.compose_weigh.specs.Windows.{setRoom, newWithin, Filled};
-ghost use Rattle.compose_weigh.specs.Meaning.{stepsFrom, storeIn, countedMeans, weighedMeans, Tells, KeptAt, Spans};
+ghost use Rattle.compose_weigh.specs.Meaning.{stepsFrom, countedMeans, weighedMeans, Tells, KeptAt, Spans};
 use compose_fst_op::ComposeFstOpOptions;
 use compose_moves::MoveCursor;
 use compose_moves::NextStep;
@@ -22,17 +23,13 @@ use state_table::find_id;
 use store_records::Used;
 use store_records::state_room;
 use store_records::tr_room;
+use triple_set::SET_HEADS;
+use triple_set::SET_WORDS;
 use triple_set::mark;
 use triple_set::take;
 
 // The triples that the set of a window holds at most.
 const SET_ROOM: usize = 2048;
-
-// The words of their records.
-const SET_WORDS: usize = 12288;
-
-// The heads of their chains: a prime number, so that triples on a line do not share a few of them.
-const SET_HEADS: usize = 2039;
 
 // No refusal stands, or the number of the first.
 pub enum Weighed {
@@ -107,7 +104,7 @@ fn kept_step(
 }
 
 // Whether the table lacks a triple.
-fn lacks(heads: &[u32], states: &[u32], used: Used, tuple: ComposeStateTuple) -> bool
+pub fn lacks(heads: &[u32], states: &[u32], used: Used, tuple: ComposeStateTuple) -> bool
     ensures { λ r. ⌜ ((trs : List ℕ) → r ≡ missing (find (storeIn (now (heads .entry)) (now (states .entry)) trs used) (tupleMeans tuple))) ⌝ }
 {
     let found = find_id(heads, states, used.states, tuple);
@@ -144,7 +141,7 @@ fn weigh_quickly(
     ensures { λ r. ⌜ (
         let d = storeIn (now (heads .entry)) (now (states .entry)) (now (trs .entry)) (w .used) in
         let steps = stepsFrom (w .options) (now (m1 .entry)) (now (m2 .entry)) (now (a1 .entry)) (now (a2 .entry)) (w .start) in
-        Tells (weighOf true d steps) r
+        Tells (weighOf d steps) r
         ) ⌝ }
 {
     let used = w.used;
@@ -287,7 +284,7 @@ fn weigh_window(
         let all = stepsFrom (w .options) (now (m1 .entry)) (now (m2 .entry)) (now (a1 .entry)) (now (a2 .entry)) (w .start) in
         let steps = stepsFrom (w .options) (now (m1 .entry)) (now (m2 .entry)) (now (a1 .entry)) (now (a2 .entry)) from in
         let rest = stepsFrom (w .options) (now (m1 .entry)) (now (m2 .entry)) (now (a1 .entry)) (now (a2 .entry)) (r .cursor) in
-        (k : ℕ) × Spans d before k steps rest (r .count) (r .ending) × (r .states ≡ newWithin (isNew true d all before) k steps)
+        (k : ℕ) × Spans d before k steps rest (r .count) (r .ending) × (r .states ≡ newWithin (isNew d all before) k steps)
         ) ⌝ }
 {
     let mut chains = [0u32; SET_HEADS];
@@ -332,7 +329,7 @@ fn weigh_window(
 }
 
 // The records that are not used.
-fn spare(room: u32, used: u32) -> u32
+pub fn spare(room: u32, used: u32) -> u32
     ensures { λ r. ⌜ r ≡ room - used ⌝ }
 {
     if room <= used {
@@ -355,7 +352,7 @@ fn weigh_exactly(
     ensures { λ r. ⌜ (
         let d = storeIn (now (heads .entry)) (now (states .entry)) (now (trs .entry)) (w .used) in
         let steps = stepsFrom (w .options) (now (m1 .entry)) (now (m2 .entry)) (now (a1 .entry)) (now (a2 .entry)) (w .start) in
-        weighedMeans r ≡ weighOf true d steps
+        weighedMeans r ≡ weighOf d steps
         ) ⌝ }
 {
     let used = w.used;
@@ -396,7 +393,7 @@ pub fn weigh(
     ensures { λ r. ⌜ (
         let d = storeIn (now (heads .entry)) (now (states .entry)) (now (trs .entry)) used in
         let steps = stepsFrom options (now (m1 .entry)) (now (m2 .entry)) (now (a1 .entry)) (now (a2 .entry)) start in
-        weighedMeans r ≡ weighOf true d steps
+        weighedMeans r ≡ weighOf d steps
         ) ⌝ }
 {
     let w = Weighing {

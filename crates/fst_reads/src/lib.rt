@@ -17,22 +17,22 @@ use fst::Tr;
 use fst::num_states;
 
 // The words of a state's record by their place.
-pub const FIRST: usize = 0;
+pub const FIRST: usize = fst::FIRST as usize;
 
-pub const FINAL: usize = 1;
+pub const FINAL: usize = fst::FINAL as usize;
 
-pub const FINAL_WEIGHT: usize = 2;
+pub const FINAL_WEIGHT: usize = fst::FINAL_WEIGHT as usize;
 
 // The words of a transition's record by their place.
-pub const INPUT: usize = 0;
+pub const INPUT: usize = fst::INPUT as usize;
 
-pub const OUTPUT: usize = 1;
+pub const OUTPUT: usize = fst::OUTPUT as usize;
 
-pub const WEIGHT: usize = 2;
+pub const WEIGHT: usize = fst::WEIGHT as usize;
 
-pub const TARGET: usize = 3;
+pub const TARGET: usize = fst::TARGET as usize;
 
-pub const NEXT: usize = 4;
+pub const NEXT: usize = fst::NEXT as usize;
 
 // Where record 0 would begin.
 pub fn record_base(m: &[u32]) -> usize

@@ -7,7 +7,7 @@ use native.Mathlib.Omega.{arith}
 use lib.ListN.{length, getD}
 use Rattle.words.specs.Labels.{epsLabel}
 use Rattle.words.specs.Matches.{MatchType, inputs, outputs}
-use Rattle.words.specs.Machines.{listFrom}
+use Rattle.words.specs.Machines.{trWords, listFrom}
 use Rattle.fst.specs.Meaning.{onOf}
 use Rattle.fst_reads.specs.Places.{wordOn}
 use Rattle.fst_reads.proofs.Inside.{size}
@@ -32,7 +32,7 @@ module _ (m : List ℕ) (l : SortedList) (known : Known m l) (row : l .straight 
 
   -- where the labels after the epsilons begin, as the code counts it
   abbrev from : ℕ
-  from = l .base + k + 5 * (l .first + l .eps)
+  from = l .base + k + trWords * (l .first + l .eps)
 
   from-place : from ≡ labelPlace on m (l .first + l .eps)
   unfolding labelPlace
@@ -51,7 +51,7 @@ module _ (m : List ℕ) (l : SortedList) (known : Known m l) (row : l .straight 
       (omega (arith, word, w), omega (arith, known .base, f .states), omega (arith, known .len, r, f .trs))
 
   -- what `seek` requires
-  pub asks : (from + 5 * (l .len - l .eps) ≤ length m + 4) × NoFalls m from (l .len - l .eps)
+  pub asks : (from + trWords * (l .len - l .eps) < length m + trWords) × NoFalls m from (l .len - l .eps)
   asks =
       let few′ : l .eps ≤ length (listFrom m (l .first)) = rw (← known .len) few in
       rw (from-place, known .len) (
@@ -60,21 +60,21 @@ module _ (m : List ℕ) (l : SortedList) (known : Known m l) (row : l .straight 
       )
 
   module _ (x r : ℕ) (some : epsLabel < x) (s : Sought m from (l .len - l .eps) x r) where
-    pub at-end : r ≡ from + 5 * (l .len - l .eps) → 0 ≡ head0 (withLabel on m x (l .first))
+    pub at-end : r ≡ from + trWords * (l .len - l .eps) → 0 ≡ head0 (withLabel on m x (l .first))
     at-end e =
         sym (find-end on m (l .first) (known .first) consecutive (known .sorted) x r some (rw (from-place, known .eps, known .len) at s) (rw (from-place, known .eps, known .len) at e))
 
-    pub at-other : (r ≡ from + 5 * (l .len - l .eps) → ⊥) → (getD m r 0 ≡ x → ⊥) → 0 ≡ head0 (withLabel on m x (l .first))
+    pub at-other : (r ≡ from + trWords * (l .len - l .eps) → ⊥) → (getD m r 0 ≡ x → ⊥) → 0 ≡ head0 (withLabel on m x (l .first))
     at-other e d =
         sym (find-other on m (l .first) (known .first) consecutive (known .sorted) x r some (rw (from-place, known .eps, known .len) at s) (rw (from-place, known .eps, known .len) at e) d)
 
-    pub at-label : (r ≡ from + 5 * (l .len - l .eps) → ⊥) → getD m r 0 ≡ x → (r - (l .base + k)) / 5 ≡ head0 (withLabel on m x (l .first))
+    pub at-label : (r ≡ from + trWords * (l .len - l .eps) → ⊥) → getD m r 0 ≡ x → (r - (l .base + k)) / trWords ≡ head0 (withLabel on m x (l .first))
     at-label e d =
         rw (known .base, word)
         (sym (find-label on m (l .first) (known .first) consecutive (known .sorted) x r some (rw (from-place, known .eps, known .len) at s) (rw (from-place, known .eps, known .len) at e) d))
 
     -- a place before the end is in range
-    pub in-range : (r ≡ from + 5 * (l .len - l .eps) → ⊥) → r < length m
+    pub in-range : (r ≡ from + trWords * (l .len - l .eps) → ⊥) → r < length m
     in-range e = omega (arith, e, asks .0, s .place, s .within)
 
     -- and its record has a number

@@ -13,7 +13,7 @@ use Rattle.lists.specs.Lists.{putIf, keepIf, every, interval}
 use Rattle.lists.proofs.Members.{and-left, and-right, or-cases, of-interval}
 use Rattle.lists.proofs.Totals.{length-interval}
 use Rattle.words.specs.Matches.{MatchType, inputs, outputs, labelOn}
-use Rattle.words.specs.Machines.{stateCount, trCount, trWord, nextOf, listFrom, machineOf, noFall}
+use Rattle.words.specs.Machines.{headerWords, stateWords, trWords, stateCount, trCount, trWord, nextOf, listFrom, machineOf, noFall}
 use Rattle.words.proofs.ListLaws.{link, list-end, list-turn}
 use Rattle.fst_reads.specs.Places.{recordBase, wordOn}
 use Rattle.matchers.specs.Cursors.{recordsFrom, withLabel, head0}
@@ -77,14 +77,14 @@ keep-length P (u ∷ us) = go (P u) (keep-length P us)
     go true h = omega arith
     go false h = omega arith
 
--- the labels of consecutive records stand five words apart
+-- the labels of consecutive records stand as many words apart as a record has
 pub place-label : (on : MatchType) (m : List ℕ) (a i : ℕ) → labelAt m (labelPlace on m a) i ≡ labelOn on (machineOf m) (a + i)
 unfolding labelPlace trWord
-place-label inputs m a i = let z : recordBase m + 5 * a + 0 + 5 * i ≡ recordBase m + 5 * (a + i) + 0 = omega arith in ap (λ (k : ℕ). getD m k 0) z
-place-label outputs m a i = let z : recordBase m + 5 * a + 1 + 5 * i ≡ recordBase m + 5 * (a + i) + 1 = omega arith in ap (λ (k : ℕ). getD m k 0) z
+place-label inputs m a i = let z : recordBase m + trWords * a + 0 + trWords * i ≡ recordBase m + trWords * (a + i) + 0 = omega arith in ap (λ (k : ℕ). getD m k 0) z
+place-label outputs m a i = let z : recordBase m + trWords * a + 1 + trWords * i ≡ recordBase m + trWords * (a + i) + 1 = omega arith in ap (λ (k : ℕ). getD m k 0) z
 
 -- the record of a place
-pub place-number : (on : MatchType) (m : List ℕ) (a n r : ℕ) → r ≡ labelPlace on m a + 5 * n → a + n ≡ (r - (recordBase m + wordOn on)) / 5
+pub place-number : (on : MatchType) (m : List ℕ) (a n r : ℕ) → r ≡ labelPlace on m a + trWords * n → a + n ≡ (r - (recordBase m + wordOn on)) / trWords
 unfolding labelPlace
 place-number inputs m a n r e = omega (arith, e)
 place-number outputs m a n r e = omega (arith, e)
@@ -160,11 +160,11 @@ module _ (on : MatchType) (m : List ℕ) (t : ℕ) (inside : t ≤ trCount m) (r
       omega (arith, p, y, z, place-label on m (t + eps) i, place-label on m (t + eps) j)
 
   -- and where the machine has as many words as its counts say, the room
-  pub straight-place : (eps : ℕ) → eps ≤ len → length m ≡ 6 + 3 * stateCount m + 5 * trCount m → labelPlace on m (t + eps) + 5 * (len - eps) ≤ length m + 4
+  pub straight-place : (eps : ℕ) → eps ≤ len → length m ≡ headerWords + stateWords * stateCount m + trWords * trCount m → labelPlace on m (t + eps) + trWords * (len - eps) < length m + trWords
   unfolding labelPlace
   straight-place eps h size = go on
     where
-      go : (on : MatchType) → recordBase m + 5 * (t + eps) + wordOn on + 5 * (len - eps) ≤ length m + 4
+      go : (on : MatchType) → recordBase m + trWords * (t + eps) + wordOn on + trWords * (len - eps) < length m + trWords
       go inputs = let r = straight-room m t inside row in omega (arith, r, size, h)
       go outputs = let r = straight-room m t inside row in omega (arith, r, size, h)
 
@@ -207,16 +207,16 @@ module _ (on : MatchType) (m : List ℕ) (t : ℕ) (inside : t ≤ trCount m) (r
     word-at = ap (λ (k : ℕ). getD m k 0) (s .place) ∙ (place-label on m (t + eps) (s .number) ∙ ap label (omega arith))
 
     -- the three ends of the search: past the last record; at another label; at the label
-    pub find-end : r ≡ labelPlace on m (t + eps) + 5 * (len - eps) → head0 (withLabel on m x t) ≡ 0
+    pub find-end : r ≡ labelPlace on m (t + eps) + trWords * (len - eps) → head0 (withLabel on m x t) ≡ 0
     find-end e = ap head0 (kept x ∙ found-none label x t len past past-few past-below (omega (arith, s .place, s .within, eps-few, e)))
 
-    pub find-other : (r ≡ labelPlace on m (t + eps) + 5 * (len - eps) → ⊥) → (getD m r 0 ≡ x → ⊥) → head0 (withLabel on m x t) ≡ 0
+    pub find-other : (r ≡ labelPlace on m (t + eps) + trWords * (len - eps) → ⊥) → (getD m r 0 ≡ x → ⊥) → head0 (withLabel on m x t) ≡ 0
     find-other e d =
         let l : past < len = omega (arith, s .place, s .within, eps-few, e) in
         let b : x < label (t + past) = omega (arith, rest-above past (omega arith) l, word-at, d) in
         ap head0 (kept x ∙ found-other label x t len past past-few past-below (λ i h k. let q = interval-falls label 0 t len falls past i h k in omega (arith, q, b)))
 
-    pub find-label : (r ≡ labelPlace on m (t + eps) + 5 * (len - eps) → ⊥) → getD m r 0 ≡ x → head0 (withLabel on m x t) ≡ (r - (recordBase m + wordOn on)) / 5
+    pub find-label : (r ≡ labelPlace on m (t + eps) + trWords * (len - eps) → ⊥) → getD m r 0 ≡ x → head0 (withLabel on m x t) ≡ (r - (recordBase m + wordOn on)) / trWords
     find-label e d =
         let l : past < len = omega (arith, s .place, s .within, eps-few, e) in
         ap head0 (kept x) ∙ (found-label label x t len past past-few past-below l (sym word-at ∙ d) ∙ (omega arith ∙ place-number on m (t + eps) (s .number) r (s .place)))

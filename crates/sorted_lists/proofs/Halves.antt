@@ -4,12 +4,13 @@ use mathlib.Core.List.{List}
 use Prim.Native.Nat.{ℕ, _+_, _-_, _*_, _/_, _≤_, _<_}
 use native.Mathlib.Omega.{arith}
 use lib.ListN.{getD}
+use Rattle.words.specs.Machines.{trWords}
 use Rattle.sorted_lists.specs.Seeks.{labelAt, NoFalls, Sought}
 
 -- the labels before place p are below x, and those after the n records from there on are not
 pub record Left (m : List ℕ) (from count x p n : ℕ) : Type 0 where
   pub number : ℕ
-  pub place : p ≡ from + 5 * number
+  pub place : p ≡ from + trWords * number
   pub within : number + n ≤ count
   pub before : (i : ℕ) → i < number → labelAt m from i < x
   pub after : (i : ℕ) → number + n ≤ i → i < count → x ≤ labelAt m from i
@@ -21,12 +22,12 @@ pub none-left : (m : List ℕ) (from count x p n : ℕ) → n ≤ 0 → Left m f
 none-left m from count x p n z l = record { number = l .number; within = omega (arith, l .within); place = l .place; before = l .before; after = λ i h k. l .after i (omega arith) k }
 
 -- the label in the middle, as a record's
-mid-label : (m : List ℕ) (from p number half : ℕ) → p ≡ from + 5 * number → getD m (p + 5 * half) 0 ≡ labelAt m from (number + half)
-mid-label m from p number half e = let z : p + 5 * half ≡ from + 5 * (number + half) = omega arith in ap (λ (i : ℕ). getD m i 0) z
+mid-label : (m : List ℕ) (from p number half : ℕ) → p ≡ from + trWords * number → getD m (p + trWords * half) 0 ≡ labelAt m from (number + half)
+mid-label m from p number half e = let z : p + trWords * half ≡ from + trWords * (number + half) = omega arith in ap (λ (i : ℕ). getD m i 0) z
 
 module _ (m : List ℕ) (from count x p n : ℕ) (sorted : NoFalls m from count) (any : 0 < n) (l : Left m from count x p n) where
   -- a label below x: what comes after it is left
-  pub up : getD m (p + 5 * (n / 2)) 0 < x → Left m from count x (p + 5 * (n / 2) + 5) (n - n / 2 - 1)
+  pub up : getD m (p + trWords * (n / 2)) 0 < x → Left m from count x (p + trWords * (n / 2) + trWords) (n - n / 2 - 1)
   up h =
       let low : labelAt m from (l .number + n / 2) < x = subst (λ (y : ℕ). y < x) (mid-label m from p (l .number) (n / 2) (l .place)) h in
       record {
@@ -38,7 +39,7 @@ module _ (m : List ℕ) (from count x p n : ℕ) (sorted : NoFalls m from count)
       }
 
   -- a label that is not: what comes before it is left
-  pub down : x ≤ getD m (p + 5 * (n / 2)) 0 → Left m from count x p (n / 2)
+  pub down : x ≤ getD m (p + trWords * (n / 2)) 0 → Left m from count x p (n / 2)
   down h =
       let high : x ≤ labelAt m from (l .number + n / 2) = subst (λ (y : ℕ). x ≤ y) (mid-label m from p (l .number) (n / 2) (l .place)) h in
       record {

@@ -1,42 +1,27 @@
 -- No label of a list in which none falls stands more often than the longest run.
 use mathlib.Core.Path.{_≡_, refl, ap, subst}
-use mathlib.Core.Bool.{Bool, true, false}
+use mathlib.Core.Bool.{Bool, true, false, cond}
 use mathlib.Core.List.{List, [], _∷_, map}
-use Prim.Native.Nat.{ℕ, _+_, _≤_}
+use Prim.Native.Nat.{ℕ, _+_, _≤_, max}
 use native.Mathlib.Omega.{arith}
-use lib.Dec.{eqb, ltb}
+use lib.Dec.{eqb}
 use lib.ListN.{length}
-use borrow.Author.Tests.{eqb-true, eqb-false, ltb-true, ltb-false}
+use borrow.Author.Tests.{eqb-true, eqb-false}
 use Rattle.lists.specs.Lists.{putIf, keepIf}
 use Rattle.papers.specs.Machine.{Machine}
 use Rattle.words.specs.Matches.{MatchType, labelOn, labelled}
 use Rattle.words.specs.Machines.{noFall}
-use Rattle.sorted_lists.specs.Longest.{pick, larger, longest}
+use Rattle.sorted_lists.specs.Longest.{longest}
 use Rattle.sorted_lists.proofs.Falls.{fall-turn, none-above}
-
-larger-first : (a b : ℕ) → a ≤ larger a b
-larger-first a b = go (ltb a b) refl
-  where
-    go : (t : Bool) → ltb a b ≡ t → a ≤ pick t b a
-    go true e = let h = ltb-true a b e in omega (arith, h)
-    go false e = omega arith
-
-larger-second : (a b : ℕ) → b ≤ larger a b
-larger-second a b = go (ltb a b) refl
-  where
-    go : (t : Bool) → ltb a b ≡ t → b ≤ pick t b a
-    go true e = omega arith
-    go false e = let h = ltb-false a b e in omega (arith, h)
 
 module _ (f : ℕ → ℕ) where
   longest-grows : (last same run : ℕ) (l : List ℕ) → run ≤ longest f last same run l
   unfolding longest
   longest-grows last same run [] = omega arith
   longest-grows last same run (u ∷ us) =
-      let s = pick (eqb (f u) last) (same + 1) 1 in
-      let p = larger-first run s in
-      let q = longest-grows (f u) s (larger run s) us in
-      omega (arith, p, q)
+      let s = cond (eqb (f u) last) (same + 1) 1 in
+      let q = longest-grows (f u) s (max run s) us in
+      omega (arith, q)
 
   abbrev times : ℕ → List ℕ → ℕ
   times x l = length (keepIf (λ u. eqb (f u) x) l)
@@ -49,27 +34,26 @@ module _ (f : ℕ → ℕ) where
     where
       go : (t : Bool) → eqb (f u) last ≡ t → (last ≤ f u) × (noFall (f u) (map f us) ≡ true)
           → ((l s r : ℕ) → noFall l (map f us) ≡ true → s ≤ r → s + times l us ≤ longest f l s r us)
-          → same + length (putIf t u (keepIf (λ v. eqb (f v) last) us)) ≤ longest f (f u) (pick t (same + 1) 1) (larger run (pick t (same + 1) 1)) us
+          → same + length (putIf t u (keepIf (λ v. eqb (f v) last) us)) ≤ longest f (f u) (cond t (same + 1) 1) (max run (cond t (same + 1) 1)) us
       go true t p rec =
           let z = eqb-true (f u) last t in
-          let q = subst (λ (y : ℕ). same + 1 + times y us ≤ longest f (f u) (same + 1) (larger run (same + 1)) us) z (rec (f u) (same + 1) (larger run (same + 1)) (p .1) (larger-second run (same + 1))) in
+          let q = subst (λ (y : ℕ). same + 1 + times y us ≤ longest f (f u) (same + 1) (max run (same + 1)) us) z (rec (f u) (same + 1) (max run (same + 1)) (p .1) (omega arith)) in
           omega (arith, q)
       go false t p rec =
           let d = eqb-false (f u) last t in
           let z = ap length (none-above f last (f u) us (omega (arith, d, p .0)) (p .1)) in
-          let a = larger-first run 1 in
-          let q = longest-grows (f u) 1 (larger run 1) us in
-          omega (arith, z, a, q, h)
+          let q = longest-grows (f u) 1 (max run 1) us in
+          omega (arith, z, q, h)
 
   -- every label
   pub run-bounds : (x last same run : ℕ) (l : List ℕ) → noFall last (map f l) ≡ true → same ≤ run → times x l ≤ longest f last same run l
   unfolding longest keepIf
   run-bounds x last same run [] e h = omega arith
   run-bounds x last same run (u ∷ us) e h =
-      let s = pick (eqb (f u) last) (same + 1) 1 in
-      go (eqb (f u) x) refl s (larger run s) (larger-second run s) (one (eqb (f u) last)) (fall-turn last (f u) (map f us) e .1) (run-bounds x (f u) s (larger run s) us (fall-turn last (f u) (map f us) e .1) (larger-second run s))
+      let s = cond (eqb (f u) last) (same + 1) 1 in
+      go (eqb (f u) x) refl s (max run s) (omega arith) (one (eqb (f u) last)) (fall-turn last (f u) (map f us) e .1) (run-bounds x (f u) s (max run s) us (fall-turn last (f u) (map f us) e .1) (omega arith))
     where
-      one : (t : Bool) → 1 ≤ pick t (same + 1) 1
+      one : (t : Bool) → 1 ≤ cond t (same + 1) 1
       one true = omega arith
       one false = omega arith
 
@@ -81,7 +65,7 @@ module _ (f : ℕ → ℕ) where
           omega (arith, q, o)
       go false t s r k o n rec = rec
 
-  first-one : (b : Bool) → pick b (0 + 1) 1 ≡ 1
+  first-one : (b : Bool) → cond b (0 + 1) 1 ≡ 1
   first-one true = refl
   first-one false = refl
 

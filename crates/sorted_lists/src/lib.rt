@@ -1,9 +1,10 @@
 // The look-up of a label in a list in which no label falls: a binary search where the records are consecutive, else a scan that stops at the first larger label.
 ghost use mathlib.Core.Path.{_≡_};
 ghost use mathlib.Core.Bool.{true};
-ghost use Prim.Native.Nat.{_+_, _*_, _<_, _≤_};
+ghost use Prim.Native.Nat.{_+_, _*_, _<_};
 ghost use lib.ListN.{length};
 ghost use Rattle.words.specs.Labels.{epsLabel};
+ghost use Rattle.words.specs.Machines.{trWords};
 ghost use Rattle.fst.specs.Meaning.{onOf};
 ghost use Rattle.matchers.specs.Cursors.{withLabel, head0};
 ghost use Rattle.sorted_lists.specs.Seeks.{NoFalls, Sought};
@@ -30,9 +31,9 @@ pub struct SortedList {
     pub straight: bool,
 }
 
-// The place of the first of `count` records, in steps of five words from `from` on, whose label is not below x; the place after them: none.
+// The place of the first of `count` records, in steps of a record's words from `from` on, whose label is not below x; the place after them: none.
 fn seek(m: &[u32], from: usize, count: u32, x: u32) -> usize
-    requires { ⌜ (from + 5 * count ≤ length (now m) + 4) × NoFalls (now m) from count ⌝ }
+    requires { ⌜ (from + trWords * count < length (now m) + trWords) × NoFalls (now m) from count ⌝ }
     ensures { λ r. ⌜ Sought (now (m .entry)) from count x r ⌝ }
 {
     let mut p = from;

@@ -25,6 +25,12 @@ pub enum FoundState {
     Missing,
 }
 
+// The state of a triple, and how many states are used with it.
+pub struct Reached {
+    pub state: StateId,
+    pub used: u32,
+}
+
 // The place of the head at which the chain of a triple starts. Without heads nothing stands at any place.
 fn slot(heads: &[u32], tuple: ComposeStateTuple) -> usize
     ensures { λ r. ⌜ r ≡ slotOf (now (heads .entry)) (tupleMeans tuple) ⌝ }

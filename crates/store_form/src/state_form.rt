@@ -19,10 +19,10 @@ use store_records::STATE_S2;
 use store_records::STATE_SIZE;
 use store_records::Used;
 
-// The record that begins at word `at`: the pair in range, f at most 2.
-fn tuple_ok(states: &[u32], at: usize, s1: u32, s2: u32) -> bool
-    requires { ⌜ at + stateSize ≤ length (now states) ⌝ }
-    ensures { λ r. ⌜ ((n : ℕ) → at ≡ stateSize * n → r ≡ tripleOk s1 s2 (now (states .entry)) n) ⌝ }
+// The record of state n, which begins at word `at`: the pair in range, f at most 2.
+fn tuple_ok(states: &[u32], at: usize, n: u32, s1: u32, s2: u32) -> bool
+    requires { ⌜ (at ≡ stateSize * n) × (at + stateSize ≤ length (now states)) ⌝ }
+    ensures { λ r. ⌜ r ≡ tripleOk s1 s2 (now (states .entry)) n ⌝ }
 {
     if s1 <= states[at + STATE_S1] {
         return false;
@@ -41,7 +41,7 @@ fn tuples_ok(states: &[u32], count: u32, s1: u32, s2: u32) -> bool
     let mut n: u32 = 0;
     let mut at: usize = 0;
     while n < count {
-        if !tuple_ok(states, at, s1, s2) {
+        if !tuple_ok(states, at, n, s1, s2) {
             return false;
         }
         n += 1;

@@ -14,6 +14,10 @@ stepMeans r to = record { input = r .ilabel .0; output = r .olabel .0; weight = 
 abbrev pub stored : List ℕ → List ℕ → List ℕ → ℕ → ℕ → Store
 stored heads states trs n k = record { memory = record { heads = heads; states = states; trs = trs }; used = record { states = n; trs = k } }
 
+-- the same with the used counts as the code holds them
+abbrev pub storeIn : (heads states trs : List ℕ) → Used → Store
+storeIn heads states trs u = stored heads states trs (u .states) (u .trs)
+
 -- the "used counts"
 abbrev pub usedMeans : Used → Counts
 usedMeans u = record { states = u .states; trs = u .trs }

@@ -20,6 +20,7 @@ pub record Headed (d : Store) : Type 0 where
   pub chained : Chained d
   pub headed : 0 < length (d .memory .heads)
 
+-- a record was found
 abbrev pub isFound : Option ℕ → Bool
 isFound none = false
 isFound (some n) = true
@@ -28,14 +29,16 @@ isFound (some n) = true
 unfoldable pub holds : Store → Triple → Bool
 holds d t = isFound (find d t)
 
+-- what the code answers and leaves: whether there was no room, and the set
 abbrev pub takenMeans : Taken → (heads records : List ℕ) → Bool × Store
 takenMeans r heads records = (r .full, setOf heads records (r .held))
 
--- no room: full, and nothing is written
+-- t is taken in, or there is no room: then nothing is written
 abbrev pub withRoom : Bool → Store → Triple → Bool × Store
 withRoom true d t = (true, d)
 withRoom false d t = (false, add d t)
 
+-- where t is to be taken in
 abbrev pub takeIf : Bool → Store → Triple → Bool × Store
 takeIf true d t = withRoom (leb (stateRoom (d .memory)) (d .used .states)) d t
 takeIf false d t = (false, d)
@@ -44,10 +47,12 @@ takeIf false d t = (false, d)
 unfoldable pub takeOf : Bool → Store → Triple → Bool × Store
 takeOf wanted d t = takeIf (wanted && not (holds d t)) d t
 
+-- mark n, where it was 0: 1, and the marks with it
 abbrev pub markIf : Bool → List ℕ → ℕ → ℕ × List ℕ
 markIf true marks n = (1, set marks n 1)
 markIf false marks n = (0, marks)
 
+-- the mark of a record that was found; none: nothing is marked
 abbrev pub markAt : Option ℕ → List ℕ → ℕ × List ℕ
 markAt none marks = (0, marks)
 markAt (some n) marks = markIf (eqb (getD marks n 0) 0) marks n

@@ -10,6 +10,12 @@ use state_table::find_id;
 use store_records::state_room;
 use store_records::store;
 
+// The words of the records of a set that holds 2048 triples.
+pub const SET_WORDS: usize = 12288;
+
+// The heads of their chains: a prime number, so that triples on a line do not share a few of them.
+pub const SET_HEADS: usize = 2039;
+
 // How many triples are held after one was offered; full: there was no room for it.
 pub struct Taken {
     pub full: bool,

@@ -1,6 +1,5 @@
 -- A refusal of the weighing is the expansion's; a clear one lets the steps be stored, and the state is marked.
 use mathlib.Core.Path.{sym, _∙_, ap}
-use mathlib.Core.Bool.{true}
 use Rattle.calls.specs.Calls.{storeSteps}
 use Rattle.calls.proofs.StepsStay.{steps-stay}
 use Rattle.store_records.specs.Meaning.{stored, memoryOf}
@@ -20,7 +19,7 @@ store-steps-requires c κs =
     let p = c .before .before .before .before .before .before .before .before .before .before .before .before .before .before .before .before .pre in
     let d = stored (a .heads .now) (a .states .now) (a .trs .now) (a .used .states) (a .used .trs) in
     let l = stepsLeft (optionSettings (a .options)) (lentOf (a .options) (a .m1 .now) (a .m2 .now) (a .a1 .now) (a .a2 .now)) (a .start) in
-    clear-accepted (storeSteps d l) (_∙_ {b = weighOf true d l} (rw (c .before .before .before .enum-told .given .1) at (c .before .before .before .before .before .weigh .ensures)) p)
+    clear-accepted (storeSteps d l) (_∙_ {b = weighOf d l} (rw (c .before .before .before .enum-told .given .1) at (c .before .before .before .before .before .weigh .ensures)) p)
 
 new-part-requires : tie.Need-new-part-requires
 new-part-requires c κs =
@@ -39,7 +38,7 @@ returns c =
     let l = stepsLeft (optionSettings (a .options)) (lentOf (a .options) (a .m1 .now) (a .m2 .now) (a .a1 .now) (a .a2 .now)) (a .start) in
     let k = c .before .weighed .given in
     λ o e. sym (expanded-refused o (sessionUnder (a .options) (a .used)) (memoryOf (a .heads .now) (a .states .now) (a .trs .now)) (a .n .0) (k .0 .0)
-    (ap (storeSteps d) e ∙ refused-same (storeSteps d l) (k .0 .0) (_∙_ {b = weighOf true d l} (rw (k .1) at (c .before .before .before .weigh .ensures)) p)))
+    (ap (storeSteps d) e ∙ refused-same (storeSteps d l) (k .0 .0) (_∙_ {b = weighOf d l} (rw (k .1) at (c .before .before .before .weigh .ensures)) p)))
 
 returns-2 : tie.Need-returns-2
 returns-2 c =

@@ -7,8 +7,8 @@ use Rattle.calls.specs.Calls.{nextFor}
 use Rattle.calls.proofs.RecordLaws.{room-words}
 use Rattle.compose_state_tuple.specs.Meaning.{tupleMeans}
 use Rattle.store_records.specs.Meaning.{stored}
+use Rattle.state_table.specs.Meaning.{reachedMeans}
 use Rattle.compose_moves.specs.Moves.{composeTrMeans}
-use Rattle.compose_store.specs.Meaning.{reachedMeans}
 use Rattle.stored_steps.proofs.OneStep.{step-room}
 use Rattle.compose_store.proofs.StoreLaws.{reach-any, step-is}
 use borrow.Author.Needs.{needs}

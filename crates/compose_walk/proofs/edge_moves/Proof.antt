@@ -5,8 +5,8 @@ use native.Mathlib.Omega.{arith}
 use Rattle.words.specs.Weights.{kindOf}
 use Rattle.fst.specs.Meaning.{trMeans}
 use Rattle.matchers.specs.Cursors.{withLabel}
+use Rattle.store_records.specs.Meaning.{storeIn}
 use Rattle.stored_steps.specs.Storing.{Fits}
-use Rattle.compose_walk.specs.Meaning.{storeIn}
 use Rattle.compose_walk.specs.Plans.{sideBy, withRecords, epsBy, edgeBy}
 use Rattle.compose_walk.proofs.Edges.{none-stored, as-steps, no-records, from-inside, from-none, from-rising, edge-eps, edge-label, edge-from}
 use borrow.Author.Needs.{needs}

@@ -8,10 +8,10 @@ use Rattle.words.specs.Labels.{epsLabel}
 use Rattle.words.specs.Weights.{kindOf}
 use Rattle.fst.specs.Meaning.{trMeans}
 use Rattle.compose_filters.specs.Meaning.{filteredMeans}
+use Rattle.store_records.specs.Meaning.{storeIn}
 use Rattle.compose_moves.specs.Moves.{composeTrMeans}
 use Rattle.stored_steps.specs.Storing.{storeAll, Fits}
 use Rattle.stored_steps.proofs.AllSteps.{fits-append}
-use Rattle.compose_walk.specs.Meaning.{storeIn}
 use Rattle.compose_walk.specs.Plans.{sideBy, withLabelled}
 use Rattle.compose_walk.proofs.Turns.{fits-product}
 use Rattle.compose_walk.proofs.Edges.{first-room, one-stored, none-stored, as-steps, then-fits, then-chained, then-stored, same-store, no-pairs, aloneBy, bothBy, alone-is, alone-none, both-is}

@@ -4,8 +4,8 @@ use mathlib.Core.Option.{some}
 use Rattle.words.specs.Labels.{epsLabel}
 use Rattle.fst.specs.Meaning.{trMeans}
 use Rattle.compose_filters.specs.Meaning.{filteredMeans}
+use Rattle.store_records.specs.Meaning.{storeIn}
 use Rattle.stored_steps.specs.Storing.{Fits}
-use Rattle.compose_walk.specs.Meaning.{storeIn}
 use Rattle.compose_walk.specs.Plans.{withLabelled, restBy}
 use Rattle.compose_walk.proofs.Edges.{none-stored, as-steps, no-length, no-records, no-pairs, rest-is}
 use borrow.Author.Needs.{needs}

@@ -6,9 +6,9 @@ use lib.ListN.{length}
 use Rattle.words.specs.Machines.{trCount, listFrom}
 use Rattle.words.proofs.ListLaws.{link, first-inside, list-turn}
 use Rattle.fst.specs.Meaning.{trMeans}
+use Rattle.store_records.specs.Meaning.{storeIn}
 use Rattle.stored_steps.specs.Storing.{storeAll, Fits}
 use Rattle.stored_steps.specs.Chains.{Chained}
-use Rattle.compose_walk.specs.Meaning.{storeIn}
 use Rattle.compose_walk.specs.Plans.{edgeBy, edgesBy, restBy}
 use Rattle.compose_walk.proofs.Edges.{none-stored, then-chained, edges-end, edges-first, edges-next, plan-rest, plan-left, plan-stored}
 use borrow.Author.Needs.{needs}

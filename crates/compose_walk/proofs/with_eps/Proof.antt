@@ -10,8 +10,8 @@ use Rattle.words.specs.Matches.{labelOn}
 use Rattle.words.specs.Machines.{machineOf}
 use Rattle.fst.specs.Meaning.{onOf, trMeans}
 use Rattle.matchers.specs.Cursors.{withLabel}
+use Rattle.store_records.specs.Meaning.{storeIn}
 use Rattle.sorted_lists.proofs.Along.{with-here}
-use Rattle.compose_walk.specs.Meaning.{storeIn}
 use Rattle.compose_walk.specs.Plans.{withRecords}
 use Rattle.compose_walk.proofs.Turns.{left-all, some-here, Stands, at-end, at-product, at-room, at-turn}
 use borrow.Author.Needs.{needs}

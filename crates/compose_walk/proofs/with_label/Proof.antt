@@ -11,9 +11,9 @@ use Rattle.words.proofs.ListLaws.{list-turn}
 use Rattle.fst.specs.Meaning.{onOf, trMeans}
 use Rattle.matchers.specs.Cursors.{withLabel}
 use Rattle.matchers.proofs.Seeks.{with-end}
+use Rattle.store_records.specs.Meaning.{storeIn}
 use Rattle.sorted_lists.proofs.Along.{label-word, with-stops}
 use Rattle.sorted_lists.proofs.Ends.{word-small}
-use Rattle.compose_walk.specs.Meaning.{storeIn}
 use Rattle.compose_walk.specs.Plans.{withRecords}
 use Rattle.compose_walk.proofs.Turns.{left-all, Stands, at-end, at-product, at-room, at-turn}
 use borrow.Author.Needs.{needs}

@@ -5,7 +5,6 @@ use Rattle.store_records.specs.Meaning.{stored}
 use Rattle.compose_fst_op.specs.Composing.{optionSettings, lentOf}
 use Rattle.compose_moves.specs.Cursors.{stepsLeft}
 use Rattle.compose_moves.specs.Moves.{composeTrMeans}
-use mathlib.Core.Bool.{true}
 use Rattle.compose_weigh.proofs.AskedLaws.{step-left}
 use Rattle.compose_weigh.proofs.WeighTurns.{weigh-none, weigh-refused, weigh-lacking}
 use borrow.Author.Needs.{needs}
@@ -19,7 +18,7 @@ returns c = λ heads states all u.
     let n = c .before .before .before .before .next2 .given in
     let S = optionSettings (a .w .options) in
     let L = lentOf (a .w .options) (a .m1 .now) (a .m2 .now) (a .a1 .now) (a .a2 .now) in
-    weigh-lacking true (stored heads states (a .trs .now) (a .w .used .states) (a .w .used .trs)) all (a .count) u (stepsLeft S L (a .cursor))
+    weigh-lacking (stored heads states (a .trs .now) (a .w .used .states) (a .w .used .trs)) all (a .count) u (stepsLeft S L (a .cursor))
     (composeTrMeans (n .0 .0)) (stepsLeft S L (n .0 .1 .0)) (rw (n .1) at (c .before .before .before .before .before .before .next-step .ensures)) (rw (c .before .before .tr-room .ensures) at (c .if1 .taken))
 
 returns-2 : tie.Need-returns-2
@@ -27,7 +26,7 @@ returns-2 c = λ heads states all u.
     let a = c .before .before .before .before .before .before .before .before .before .before .args in
     let S = optionSettings (a .w .options) in
     let L = lentOf (a .w .options) (a .m1 .now) (a .m2 .now) (a .a1 .now) (a .a2 .now) in
-    weigh-none true (stored heads states (a .trs .now) (a .w .used .states) (a .w .used .trs)) all (a .count) u (stepsLeft S L (a .cursor))
+    weigh-none (stored heads states (a .trs .now) (a .w .used .states) (a .w .used .trs)) all (a .count) u (stepsLeft S L (a .cursor))
     (rw (c .enum-told .given .1) at (c .before .before .next-step .ensures))
 
 returns-3 : tie.Need-returns-3
@@ -36,7 +35,7 @@ returns-3 c = λ heads states all u.
     let n = c .before .next .given in
     let S = optionSettings (a .w .options) in
     let L = lentOf (a .w .options) (a .m1 .now) (a .m2 .now) (a .a1 .now) (a .a2 .now) in
-    weigh-refused true (stored heads states (a .trs .now) (a .w .used .states) (a .w .used .trs)) all (a .count) u (stepsLeft S L (a .cursor)) (n .0 .0)
+    weigh-refused (stored heads states (a .trs .now) (a .w .used .states) (a .w .used .trs)) all (a .count) u (stepsLeft S L (a .cursor)) (n .0 .0)
     (rw (n .1) at (c .before .before .before .next-step .ensures))
 
 returns-4 : tie.Need-returns-4

@@ -1,6 +1,5 @@
--- The exact weighing from here on, with no more states than are counted, answers what all of it does.
+-- The weighing from here on, with no more states than are counted, answers what all of it does.
 use mathlib.Core.Path.{_≡_, refl, sym, _∙_, ap}
-use mathlib.Core.Bool.{true}
 use Prim.Native.Nat.{ℕ, _+_, _-_, _^_, _≤_, _<_}
 use native.Mathlib.Omega.{arith}
 use Rattle.calls.specs.Store.{stateRoomWith}
@@ -16,8 +15,8 @@ use Rattle.compose_weigh.proofs.weigh_quickly.Tie as tie
 abbrev Inv-loop : tie.InvT-loop
 Inv-loop m1 m2 a1 a2 heads states trs w used cursor₀ count₀ grown₀ cursor count grown =
     (grown < 2 ^ 32) × (w .used .trs + count < 2 ^ 32)
-    × ((u : ℕ) × (u ≤ grown) × (weighFrom true (stored heads states trs (w .used .states) (w .used .trs)) (stepsLeft (optionSettings (w .options)) (lentOf (w .options) m1 m2 a1 a2) (w .start)) count u (stepsLeft (optionSettings (w .options)) (lentOf (w .options) m1 m2 a1 a2) cursor)
-    ≡ weighOf true (stored heads states trs (w .used .states) (w .used .trs)) (stepsLeft (optionSettings (w .options)) (lentOf (w .options) m1 m2 a1 a2) (w .start))))
+    × ((u : ℕ) × (u ≤ grown) × (weighFrom (stored heads states trs (w .used .states) (w .used .trs)) (stepsLeft (optionSettings (w .options)) (lentOf (w .options) m1 m2 a1 a2) (w .start)) count u (stepsLeft (optionSettings (w .options)) (lentOf (w .options) m1 m2 a1 a2) cursor)
+    ≡ weighOf (stored heads states trs (w .used .states) (w .used .trs)) (stepsLeft (optionSettings (w .options)) (lentOf (w .options) m1 m2 a1 a2) (w .start))))
 
 abbrev μ-loop : tie.MeasureT-loop
 μ-loop m1 m2 a1 a2 heads states trs w used cursor₀ count₀ grown₀ cursor count grown = 2 ^ 32 - (w .used .trs + count)
@@ -63,7 +62,7 @@ loop-again c =
     let f = few-records d (a .w .used .trs + l .count) (k .3) in
     let p = weigh-passed d (stepsLeft S L (a .w .start)) (l .count) (l .inv .2 .0) (l .grown) (n .0 .0) (k .0) _ (k .3) (l .inv .2 .1)
     (rw (n .1, c .before .before .before .before .before .lacks .ensures (a .trs .now), c .before .before .before .before .state-room .ensures, ← k .2) at (c .before .before .before .count-state .ensures)) in
-    (search needs, omega (arith, f), (p .0, p .1, sym (p .2) ∙ (ap (weighFrom true d (stepsLeft S L (a .w .start)) (l .count) (l .inv .2 .0)) (sym (k .1)) ∙ l .inv .2 .2)))
+    (search needs, omega (arith, f), (p .0, p .1, sym (p .2) ∙ (ap (weighFrom d (stepsLeft S L (a .w .start)) (l .count) (l .inv .2 .0)) (sym (k .1)) ∙ l .inv .2 .2)))
 
 pub weigh-quickly-spec : {M : Type 1} → statement M
 weigh-quickly-spec =

@@ -4,8 +4,9 @@ use native.Mathlib.Omega.{arith}
 use Rattle.calls.specs.Store.{trSize, chainWith, findWith, stateRoomWith, trRoomWith}
 use Rattle.calls.proofs.RecordLaws.{room-words}
 use Rattle.compose_state_tuple.specs.Meaning.{tupleMeans}
+use Rattle.store_records.specs.Meaning.{storeIn}
+use Rattle.state_table.specs.Meaning.{reachedMeans}
 use Rattle.compose_moves.specs.Moves.{composeTrMeans}
-use Rattle.compose_walk.specs.Meaning.{storeIn, reachedMeans}
 use Rattle.compose_walk.proofs.Stores.{one-is}
 use borrow.Author.Needs.{needs}
 use Rattle.compose_walk.proofs.pairs.push.Statement.{statement}

@@ -8,15 +8,15 @@ use Rattle.store_form.proofs.state_form.tuple_ok.Tie as tie
 
 returns : tie.Need-returns
 unfolding tripleOkWith tripleAt fieldOf
-returns c = λ n e. rw (← e, le-ltb _ _ (c .if1 .taken))
+returns c = rw (← c .before .before .pre .0, le-ltb _ _ (c .if1 .taken))
 
 returns-2 : tie.Need-returns-2
 unfolding tripleOkWith tripleAt fieldOf
-returns-2 c = λ n e. rw (← e, lt-ltb _ _ (c .before .before .if1 .left), le-ltb _ _ (c .if2 .taken))
+returns-2 c = rw (← c .before .before .before .before .pre .0, lt-ltb _ _ (c .before .before .if1 .left), le-ltb _ _ (c .if2 .taken))
 
 returns-3 : tie.Need-returns-3
 unfolding tripleOkWith tripleAt fieldOf
-returns-3 c = λ n e. rw (← e, lt-ltb _ _ (c .before .before .before .if1 .left), lt-ltb _ _ (c .before .if2 .left))
+returns-3 c = rw (← c .before .before .before .before .before .pre .0, lt-ltb _ _ (c .before .before .before .if1 .left), lt-ltb _ _ (c .before .if2 .left))
 
 pub tuple-ok-spec : {M : Type 1} → statement M
 tuple-ok-spec =

@@ -22,15 +22,15 @@ loop-holds : tie.Need-loop-holds Inv-loop μ-loop
 loop-holds c = (omega arith, omega arith, rw sub-zero)
 
 tuple-ok-requires : tie.Need-tuple-ok-requires Inv-loop μ-loop
-tuple-ok-requires c κs = let l = c .before .loop .inv in omega (arith, l .1, c .loop-test .taken)
+tuple-ok-requires c κs = let l = c .before .loop .inv in (l .1, omega (arith, l .1, c .loop-test .taken))
 
 returns : tie.Need-returns Inv-loop μ-loop
 returns c = let l = c .before .before .before .loop .inv in
-    rw (run-turn (tripleOk _ _ _) _ _ _ (c .before .before .loop-test .taken), fails (c .before .tuple-ok .ensures _ (l .1)) (c .if1 .taken)) at (l .2)
+    rw (run-turn (tripleOk _ _ _) _ _ _ (c .before .before .loop-test .taken), fails (c .before .tuple-ok .ensures) (c .if1 .taken)) at (l .2)
 
 loop-again : tie.Need-loop-again Inv-loop μ-loop
 loop-again c = let l = c .before .before .before .loop .inv in
-    (omega arith, omega (arith, l .1), rw (run-turn (tripleOk _ _ _) _ _ _ (c .before .before .loop-test .taken), holds (c .before .tuple-ok .ensures _ (l .1)) (c .if1 .left)) at (l .2))
+    (omega arith, omega (arith, l .1), rw (run-turn (tripleOk _ _ _) _ _ _ (c .before .before .loop-test .taken), holds (c .before .tuple-ok .ensures) (c .if1 .left)) at (l .2))
 
 returns-2 : tie.Need-returns-2 Inv-loop μ-loop
 returns-2 c = let l = c .before .loop .inv in sym (run-end _ _ _ _ (c .loop-test .left)) ∙ l .2
