@@ -7,3 +7,4 @@ pub mod Fitting
 pub mod Walked
 pub mod Planned
 pub mod Ready
+pub mod Verdicts

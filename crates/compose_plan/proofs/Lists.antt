@@ -11,11 +11,12 @@ use Rattle.matchers.specs.Cursors.{withLabel}
 use Rattle.matchers.proofs.Seeks.{with-first}
 use Rattle.list_facts.specs.declared.ListFacts.{ListFacts}
 use Rattle.list_facts.specs.Facts.{TrueOf}
+use Rattle.list_facts.proofs.FactLaws.{len-is, eps-is}
 
 module _ {on : MatchType} {k : Kind} {m : List ℕ} {s : ℕ} {r : ListFacts} (f : TrueOf on k m s r) where
   pub len-from : r .len ≡ length (listFrom m (firstOf m s))
   unfolding listOf
-  len-from = f .len
+  len-from = len-is f
 
   pub eps-from : r .eps ≡ length (withLabel on m epsLabel (firstOf m s))
-  eps-from = f .eps ∙ ap length (sym (with-first on m epsLabel s))
+  eps-from = eps-is f ∙ ap length (sym (with-first on m epsLabel s))

@@ -21,6 +21,7 @@ use Rattle.compose_bounds.proofs.Plain.{plain-direction}
 use Rattle.compose_fst_op.specs.Composing.{optionSettings, lentOf, composing}
 use Rattle.compose_fst_op.specs.declared.ComposeFstOpOptions.{ComposeFstOpOptions}
 use Rattle.list_facts.specs.declared.ListFacts.{ListFacts}
+use Rattle.list_facts.proofs.FactLaws.{len-is}
 use Rattle.match_type.specs.Chosen.{sideMeans}
 use Rattle.compose_plan.specs.Serves.{noSigma}
 use Rattle.compose_plan.specs.Planning.{Present}
@@ -44,7 +45,7 @@ pub direction-plain : {o : ComposeFstOpOptions} {m1 m2 a1 a2 : List ℕ} {t : Tr
     ≡ good (plainDirection (sideMeans (o .side)) (f1 .len) (f2 .len))
 direction-plain {o} {m1} {m2} {a1} {a2} {t} p e =
     let n = unset (optionSettings o) e in
-    plain-direction (composing o m1 m2 a1 a2) t (n .0) (n .1) ∙ ap₂ (λ (i j : ℕ). good (plainDirection (sideMeans (o .side)) i j)) (sym (p .facts1 .len)) (sym (p .facts2 .len))
+    plain-direction (composing o m1 m2 a1 a2) t (n .0) (n .1) ∙ ap₂ (λ (i j : ℕ). good (plainDirection (sideMeans (o .side)) i j)) (sym (len-is (p .facts1))) (sym (len-is (p .facts2)))
 
 -- no sigma transition serves as the rest
 no-others : (b : Bool) (ms : List Match) → otherwise ms (cond b [] []) ≡ ms

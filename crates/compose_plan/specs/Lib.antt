@@ -1,2 +1,3 @@
 pub mod Serves
 pub mod Planning
+pub mod Storing

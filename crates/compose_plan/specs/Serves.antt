@@ -1,22 +1,18 @@
 -- When no refusal can stand at a composed state, by the facts of its two lists: no label is sigma, no product is too large, and there are records for every move that could be kept.
 use mathlib.Core.Bool.{Bool, _&&_}
 use Prim.Native.Nat.{ℕ, _+_, _*_}
-use lib.Dec.{eqb, ltb, leb}
-use Rattle.words.specs.Labels.{MAX, noLabel}
-use Rattle.words.specs.Weights.{Kind, cost, count, kindOf}
+use lib.Dec.{eqb, leb}
+use Rattle.words.specs.Labels.{noLabel}
+use Rattle.words.specs.Weights.{kindOf}
 use Rattle.words.specs.Matches.{MatchType, inputs, outputs}
 use Rattle.words.specs.Settings.{Settings}
 use Rattle.calls.specs.Store.{Store, stateRoom, trRoom}
+use Rattle.compose_bounds.specs.Serving.{weightsFit}
 use Rattle.list_facts.specs.declared.ListFacts.{ListFacts}
 
 -- "Sigma label MAX means none.": none on either machine, so there is no 10 and no 11
 abbrev pub noSigma : Settings → Bool
 noSigma s = eqb (s .sigma1) noLabel && eqb (s .sigma2) noLabel
-
--- the largest weights p and q make no product that is too large, so there is no 12
-abbrev pub weightsFit : Kind → ℕ → ℕ → Bool
-weightsFit cost p q = ltb (p + q) MAX
-weightsFit count p q = leb (p * q) MAX
 
 -- The most moves of a state: each epsilon of the looked-up list alone, and for each walked transition the lone move and the longest run of one label.
 abbrev pub mostMoves : ListFacts → ListFacts → ℕ

@@ -6,8 +6,9 @@ ghost use lib.Dec.{leb};
 ghost use Rattle.words.specs.Weights.{kindOf};
 ghost use Rattle.fst.specs.Meaning.{onOf};
 ghost use Rattle.store_records.specs.Meaning.{stored};
+ghost use Rattle.compose_bounds.specs.Serving.{weightsFit};
 ghost use Rattle.compose_fst_op.specs.Composing.{optionSettings};
-ghost use Rattle.compose_plan.specs.Serves.{noSigma, weightsFit, mostMoves, mostBy, roomFor, servesOf};
+ghost use Rattle.compose_plan.specs.Serves.{noSigma, mostMoves, mostBy, roomFor, servesOf};
 use compose_fst_op::ComposeFstOpOptions;
 use fst::MatchType;
 use fst::NO_LABEL;
@@ -33,7 +34,7 @@ pub fn no_sigma(options: ComposeFstOpOptions) -> bool
 }
 
 // No product of a weight up to a and one up to b is too large.
-fn weights_fit(kind: u32, a: u32, b: u32) -> bool
+pub fn weights_fit(kind: u32, a: u32, b: u32) -> bool
     ensures { λ r. ⌜ r ≡ weightsFit (kindOf kind) a b ⌝ }
 {
     if kind == 0 {

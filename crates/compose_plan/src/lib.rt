@@ -1,4 +1,4 @@
-// What the facts of the two lists of a composed state tell: whether no refusal can stand, and how its moves are gone through as plain loops.
+// What the facts of the two lists of a composed state tell: whether no refusal can stand, and how its moves are gone through as plain loops, counted before where room alone may lack.
 mod bounds;
 
 ghost use mathlib.Core.Path.{_≡_};
@@ -15,17 +15,22 @@ ghost use Rattle.fst.specs.Meaning.{onOf, asOperand};
 ghost use Rattle.match_type.specs.Chosen.{sideMeans};
 ghost use Rattle.compose_state_tuple.specs.Meaning.{tupleMeans};
 ghost use Rattle.compose_filters.specs.Meaning.{factsMean};
+ghost use Rattle.store_records.specs.Meaning.{storeIn};
 ghost use Rattle.compose_fst_op.specs.Composing.{optionSettings, composing};
 ghost use Rattle.stored_steps.specs.Storing.{storeAll, Fits};
 ghost use Rattle.stored_steps.specs.Chains.{Chained};
 ghost use Rattle.compose_bounds.specs.Serving.{plainDirection};
 ghost use Rattle.sorted_lists.specs.Known.{Known};
+ghost use Rattle.compose_walk.specs.Plans.{planSteps, Planned};
 ghost use Rattle.list_facts.specs.Facts.{TrueOf};
-ghost use Rattle.compose_walk.specs.Meaning.{storeIn};
 ghost use Rattle.compose_plan.specs.Serves.{noSigma};
 ghost use Rattle.compose_plan.specs.Planning.{allBy, Present, PlanOf};
+ghost use Rattle.compose_plan.specs.Storing.{StoredIs, Weighable};
 pub use bounds::no_sigma;
 pub use bounds::serves;
+pub use bounds::weights_fit;
+use compose_count::Room;
+use compose_count::weigh_plain;
 use compose_filters::Facts;
 use compose_filters::MoveKind;
 use compose_filters::filter_tr;
@@ -185,6 +190,90 @@ pub fn store_plain(
             let list = looked_up(m1, MatchType::MatchOutput, s1, facts1);
             let plan = plan_of(options, facts, tuple, list);
             walk_list(m2, m1, heads, states, trs, plan, used)
+        }
+    }
+}
+
+// What became of the steps of a composed state: stored, with the used counts after them; 13, for lack of room; or nothing, and nothing is told.
+pub enum Stored {
+    After(Used),
+    Lacks,
+    Unknown,
+}
+
+// The steps of a plan, none of which is a refusal: counted where their room is not sure, and stored where it suffices.
+fn count_and_walk(
+    mw: &[u32],
+    mm: &[u32],
+    heads: &mut [u32],
+    states: &mut [u32],
+    trs: &mut [u32],
+    plan: Plan,
+    used: Used,
+    sure: bool,
+) -> Stored
+    requires { ⌜ (
+        let d = storeIn (now heads) (now states) (now trs) used in
+        let steps = planSteps plan (now mw) (now mm) in
+        Planned plan (now mw) (now mm) × Weighable d sure steps
+        ) ⌝ }
+    ensures { λ r. ⌜ (
+        let d = storeIn (now (heads .entry)) (now (states .entry)) (now (trs .entry)) used in
+        StoredIs d used (planSteps plan (now (mw .entry)) (now (mm .entry))) (now (heads .exit)) (now (states .exit)) (now (trs .exit)) r
+        ) ⌝ }
+{
+    if sure {
+        return Stored::After(walk_list(mw, mm, heads, states, trs, plan, used));
+    }
+    let room = weigh_plain(mw, mm, heads, states, trs, plan, used);
+    match room {
+        Room::Suffices => Stored::After(walk_list(mw, mm, heads, states, trs, plan, used)),
+        Room::Lacks => Stored::Lacks,
+        Room::Unknown => Stored::Unknown,
+    }
+}
+
+// The same of a composed state. It stands beside `store_plain`, so that a run has that one to itself.
+pub fn store_tight(
+    m1: &[u32],
+    m2: &[u32],
+    options: ComposeFstOpOptions,
+    heads: &mut [u32],
+    states: &mut [u32],
+    trs: &mut [u32],
+    used: Used,
+    on: MatchType,
+    tuple: ComposeStateTuple,
+    facts1: ListFacts,
+    facts2: ListFacts,
+    sure: bool,
+) -> Stored
+    requires { ⌜ (
+        let d = storeIn (now heads) (now states) (now trs) used in
+        (noSigma (optionSettings options) ≡ true) × (onOf on ≡ plainDirection (sideMeans (options .side)) (facts1 .len) (facts2 .len))
+        × ((a1 a2 : List ℕ) → Present options (now m1) (now m2) a1 a2 (tupleMeans tuple) facts1 facts2)
+        × ((a1 : List ℕ) × (a2 : List ℕ) × Weighable d sure (stepsAt (composing options (now m1) (now m2) a1 a2) (tupleMeans tuple)))
+        ) ⌝ }
+    ensures { λ r. ⌜ (
+        (a1 a2 : List ℕ) →
+        let d = storeIn (now (heads .entry)) (now (states .entry)) (now (trs .entry)) used in
+        let steps = stepsAt (composing options (now (m1 .entry)) (now (m2 .entry)) a1 a2) (tupleMeans tuple) in
+        StoredIs d used steps (now (heads .exit)) (now (states .exit)) (now (trs .exit)) r
+        ) ⌝ }
+{
+    let s1 = tuple.s1;
+    let s2 = tuple.s2;
+    let facts = seen(m1, m2, s1, s2, facts1, facts2);
+    match on {
+        MatchType::MatchInput => {
+            let list = looked_up(m2, MatchType::MatchInput, s2, facts2);
+            let plan = plan_of(options, facts, tuple, list);
+            count_and_walk(m1, m2, heads, states, trs, plan, used, sure)
+        }
+        MatchType::MatchOutput => {
+            let list = looked_up(m1, MatchType::MatchOutput, s1, facts1);
+            let plan = plan_of(options, facts, tuple, list);
+            count_and_walk(m2, m1, heads, states, trs, plan, used, sure)
         }
     }
 }

@@ -3,6 +3,7 @@ use mathlib.Core.Path.{refl}
 use borrow.Author.Needs.{needs}
 use Rattle.words.proofs.ListLaws.{first-inside}
 use Rattle.sorted_lists.proofs.Along.{sorted-rising}
+use Rattle.list_facts.proofs.FactLaws.{straight-is}
 use Rattle.compose_plan.proofs.Lists.{len-from, eps-from}
 use Rattle.compose_plan.proofs.looked_up.Statement.{statement}
 use Rattle.compose_plan.proofs.looked_up.Tie as tie
@@ -19,7 +20,7 @@ returns c =
         len = len-from f;
         eps = eps-from f;
         sorted = sorted-rising _ _ _ (p .2) (p .1);
-        straight = f .straight;
+        straight = straight-is f;
       },
       refl,
       refl,

@@ -7,8 +7,8 @@ use Rattle.fst.specs.Meaning.{onOf}
 use Rattle.fst.specs.declared.MatchType.{MatchType as Side}
 use Rattle.fst.specs.declared.MatchType.the-variants.{MatchInput, MatchOutput}
 use Rattle.compose_filters.specs.Meaning.{factsMean}
+use Rattle.store_records.specs.Meaning.{storeIn}
 use Rattle.stored_steps.specs.Storing.{storeAll, Fits}
-use Rattle.compose_walk.specs.Meaning.{storeIn}
 use Rattle.compose_plan.proofs.Ready.{sorted-way, planned, planned-steps}
 use borrow.Author.Needs.{needs}
 use Rattle.compose_plan.proofs.store_plain.Statement.{statement}
