@@ -13,22 +13,29 @@ use borrow.Author.Tests.{eq-eqb}
 use Rattle.lists.specs.Lists.{At, interval}
 use Rattle.lists.proofs.Places.{at-place}
 use Rattle.words.specs.Labels.{Checked, good, refused}
-use Rattle.words.specs.Settings.{Settings, Lent}
+use Rattle.words.specs.Weights.{Kind, kindOf}
+use Rattle.words.specs.Matches.{inputs, outputs}
+use Rattle.words.specs.Settings.{Settings, Lent, compositionOf}
+use Rattle.words.specs.Steps.{Composition}
 use Rattle.calls.specs.Store.{Memory, Part}
 use Rattle.calls.specs.Calls.{Outcome, openOf}
 use Rattle.calls.specs.Sequences.{World, Call, expand, Said, accepted, part, weight, saidOf, after}
 use Rattle.calls.specs.Listing.{settingsOf}
 use Rattle.calls.specs.Owned.{finalWeightsOf}
+use Rattle.calls.proofs.ExpandKept.{entered-is}
+use Rattle.list_facts.specs.Memo.{Remembers}
+use Rattle.list_facts.proofs.Entries.{nothing-remembered}
 use Rattle.final_weights.specs.Weights.{weightWords, weightsWords}
 use Rattle.readings.specs.Worlds.{worldOf, expandIn, Accepted, OpeningsRefused}
 use Rattle.readings.specs.Owned.{InScope, pieceIn, nextIn, upTo, PieceIs, WeightsAre, Later, at-once, by-calls, by-piece}
+use Rattle.readings.proofs.InScope.{scope-side, scope-kept}
 use Rattle.readings.proofs.Owned.{owned}
 use Rattle.rinkolza.specs.Exported.{sessionWords, sessionAt, six, nine, Left, leaves, numberOf, answerOf, inWords, ifSized, openWords, expandWords, finalWeightWords}
 use Rattle.rinkolza.specs.Trusted.{pieceWords, finalWeightsWords}
 use Rattle.rinkolza.specs.Caller.{CallMade, CallerHolds, heldAfter}
 use Rattle.rinkolza.proofs.Numbers.{Numbered, open-numbered, expand-numbered}
 use Rattle.rinkolza.proofs.CallerLaws.{held-after}
-use Rattle.c_readings.specs.Trusted.{holdsOf, worldHeld, leftTo, callsOf, heldFrom, Required, expandMade, expandsMade, pieceFrom, PieceLeaves, WeightsLeave, OwnsInWords}
+use Rattle.c_readings.specs.Trusted.{holdsOf, worldHeld, leftTo, callsOf, heldFrom, Required, ServeAlso, expandMade, expandsMade, pieceFrom, PieceLeaves, WeightsLeave, OwnsInWords}
 
 -- a refusal's number is not 0: so 0 says that the call is accepted
 zero-accepts : {A : Type 0} (say : A → Said) (x : Checked A) → Numbered x → numberOf (saidOf say x) ≡ 0 → (a : A) × (x ≡ good a)
@@ -156,17 +163,33 @@ weights-same s l w r old h = rw (eq-eqb (length old) (2 * w .session .used .stat
     }
     go (refused k) e = let twelve = are .stops k e .0 in record { each = λ z. absurd (omega arith); stops = λ z. (twelve, refl) }
 
+-- A world of demand 3 has the kind of its opening, so that what is remembered under the one session is so under the other.
+scope-kind : (s : Settings) (l : Lent) (w : World) → InScope s l w → kindOf (w .session .settings .kind) ≡ kindOf (s .kind)
+scope-kind s l w r =
+    let side = scope-side s l w r in
+    let sound = scope-kept s l w r (side .0) (side .1) .sound in
+    sym (ap (λ (c : Composition). c .kind) (entered-is l (w .session) (w .memory) (compositionOf s l (side .0)) (sound .enters) .composition))
+
+serve-also : (s : Settings) (l : Lent) (w u : World) → InScope s l w → InScope s l u → ServeAlso l (holdsOf w) (holdsOf u)
+serve-also s l w u r q = λ memo1 memo2 h e.
+    subst (λ (k : Kind). Remembers outputs k (l .m1) memo1 × Remembers inputs k (l .m2) memo2) (scope-kind s l w r ∙ sym (scope-kind s l u q)) (h refl)
+
 -- Whole: the checks pass in every world of demand 3, and whatever such a caller does, it comes to such a world again.
 pub owned-in-words : (s : Settings) (l : Lent) (w : World) → InScope s l w → OwnsInWords l w
 unfolding pieceWords
 owned-in-words s l w r =
     let owns = owned s l w r in
     let later : (u : World) → Later l u w → Required l (holdsOf u) = λ u x e. owned s l u (owns .later u x .0) .passes in
+    let also : (u : World) → Later l u w → ServeAlso l (holdsOf w) (holdsOf u) = λ u x. serve-also s l w u r (owns .later u x .0) in
     record {
       required = λ e. owns .passes;
       later = later;
       calls = λ ds refuses. subst (Required l) (sym (held-after l (w .session) (w .memory) ds)) (later _ (by-calls w (callsOf ds) refuses (at-once _ refl)));
       pieces = λ n k a b. later _ (by-piece w n k (at-once _ refl));
+      zeros = λ e. (nothing-remembered _ _ _, nothing-remembered _ _ _);
+      memos-later = also;
+      memos-calls = λ ds refuses. subst (ServeAlso l (holdsOf w)) (sym (held-after l (w .session) (w .memory) ds)) (also _ (by-calls w (callsOf ds) refuses (at-once _ refl)));
+      memos-pieces = λ n k a b. also _ (by-piece w n k (at-once _ refl));
       piece = trusted-same s l w r;
       weights = weights-same s l w r;
     }

@@ -4,7 +4,7 @@ use mathlib.Core.Bool.{true}
 use mathlib.Core.List.{List, [], _∷_, map}
 use mathlib.Core.Logic.{_≢_, _⊎_, _↔_}
 use Prim.Native.Nat.{ℕ, _+_, _-_, _*_, _≤_, _<_}
-use lib.ListN.{length, getD}
+use lib.ListN.{length, getD, replicate}
 use Rattle.lists.specs.Lists.{interval}
 use Rattle.words.specs.Settings.{Lent}
 use Rattle.calls.specs.Checks.{Passes}
@@ -12,7 +12,8 @@ use Rattle.calls.specs.Sequences.{World, Call, expand}
 use Rattle.readings.specs.Worlds.{Accepted, OpeningsRefused, UsedState}
 use Rattle.readings.specs.Owned.{pieceIn, nextIn, Later}
 use Rattle.rinkolza.specs.Exported.{sessionWords, sessionAt, nine, Left, expandWords, finalWeightWords}
-use Rattle.rinkolza.specs.Trusted.{pieceWords, finalWeightsWords}
+use Rattle.list_facts.specs.Memo.{memoWords}
+use Rattle.rinkolza.specs.Trusted.{pieceWords, finalWeightsWords, Memos}
 use Rattle.rinkolza.specs.Caller.{CallMade, CallerHolds, heldAfter}
 
 -- a world in words, and the world that words say
@@ -36,6 +37,10 @@ heldFrom l w ds = heldAfter l (sessionWords (w .session)) (w .memory) ds
 -- what each function that does not check requires: of a session of nine words, the checks 1 to 8 pass
 abbrev pub Required : Lent → CallerHolds → Type 0
 Required l h = nine (h .session) ≡ true → Passes l (sessionAt (h .session)) (h .memory)
+
+-- two memos that serve with what a caller holds serve with what it holds elsewhere
+abbrev pub ServeAlso : Lent → CallerHolds → CallerHolds → Type 0
+ServeAlso l h g = (memo1 memo2 : List ℕ) → Memos l (h .session) memo1 memo2 → Memos l (g .session) memo1 memo2
 
 -- an expansion, with a and b in the answer's words before; and those of n and the states after it, one by one, before state j
 abbrev pub expandMade : ℕ → ℕ → ℕ → CallMade
@@ -79,6 +84,11 @@ pub record OwnsInWords (l : Lent) (w : World) : Type 0 where
   pub later : (u : World) → Later l u w → Required l (holdsOf u)
   pub calls : (ds : List CallMade) → OpeningsRefused l w (callsOf ds) → Required l (heldFrom l w ds)
   pub pieces : (n k a b : ℕ) → Required l (leftTo (pieceFrom l w n k a b))
+  -- The memos of those that expand: zeros serve, and what serves here serves in all those places. That what such a call leaves in the memos serves after it is its own promise.
+  pub zeros : Memos l (sessionWords (w .session)) (replicate memoWords 0) (replicate memoWords 0)
+  pub memos-later : (u : World) → Later l u w → ServeAlso l (holdsOf w) (holdsOf u)
+  pub memos-calls : (ds : List CallMade) → OpeningsRefused l w (callsOf ds) → ServeAlso l (holdsOf w) (heldFrom l w ds)
+  pub memos-pieces : (n k a b : ℕ) → ServeAlso l (holdsOf w) (leftTo (pieceFrom l w n k a b))
   -- a piece is a list of exported calls
   pub piece : (n k a b : ℕ) → PieceLeaves l w n k (pieceFrom l w n k a b)
   -- all final weights in one go, into two words for each found state, are the exported ones

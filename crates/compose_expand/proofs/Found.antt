@@ -1,10 +1,10 @@
 -- What the checks 1 to 8 tell of a found state: all that a plan relies on.
 use mathlib.Core.Path.{_≡_, sym, _∙_, ap, subst}
-use mathlib.Core.Bool.{true}
+use mathlib.Core.Bool.{Bool, true}
 use mathlib.Core.List.{List}
 use Prim.Native.Nat.{ℕ, _<_, _≤_}
 use Rattle.lists.proofs.Members.{and-left}
-use Rattle.words.specs.Labels.{MAX, good}
+use Rattle.words.specs.Labels.{MAX, good, andThen}
 use Rattle.words.specs.Weights.{kindOf}
 use Rattle.words.specs.Matches.{MatchType, inputs, outputs}
 use Rattle.words.specs.Machines.{stateCount, wellFormed}
@@ -14,6 +14,7 @@ use Rattle.words.specs.Steps.{Composition, Triple, stepsAt}
 use Rattle.words.proofs.StepRange.{InRange}
 use Rattle.calls.specs.Store.{Memory, Store, tripleAt}
 use Rattle.calls.specs.Checks.{storeOf, entered}
+use Rattle.calls.specs.Calls.{storeSteps}
 use Rattle.calls.proofs.ExpandKept.{Sided, sided, entered-is}
 use Rattle.store_records.specs.declared.Used.{Used}
 use Rattle.match_type.specs.Chosen.{sideMeans}
@@ -24,10 +25,13 @@ use Rattle.list_facts.specs.declared.ListFacts.{ListFacts}
 use Rattle.stored_steps.specs.Storing.{Fits}
 use Rattle.stored_steps.specs.Chains.{Chained}
 use Rattle.stored_steps.proofs.Chains.{form-chained}
-use Rattle.compose_bounds.specs.Serving.{plainDirection}
+use Rattle.compose_bounds.specs.Serving.{weightsFit, plainDirection}
+use Rattle.compose_weigh.specs.Weigh.{weighOf}
+use Rattle.compose_weigh.proofs.EnteredLaws.{weigh-entered}
 use Rattle.compose_plan.specs.Serves.{noSigma, servesOf}
 use Rattle.compose_plan.specs.Planning.{Present}
-use Rattle.compose_plan.proofs.Fitting.{serves-fits}
+use Rattle.compose_plan.specs.Storing.{Weighable}
+use Rattle.compose_plan.proofs.Fitting.{good-steps, serves-fits}
 use Rattle.compose_store.specs.Meaning.{sessionUnder}
 
 module _ (o : ComposeFstOpOptions) (m1 m2 a1 a2 : List ℕ) (u : Used) (m : Memory)
@@ -82,3 +86,23 @@ pub serves-fit : {o : ComposeFstOpOptions} {m1 m2 : List ℕ} {t : Triple} {f1 f
     → (a1 a2 : List ℕ) → Fits d (stepsAt (composing o m1 m2 a1 a2) t)
 serves-fit {o = o} {f1 = f1} {f2 = f2} d on p way e h1 h2 a1 a2 =
     serves-fits (p a1 a2) d (subst (λ (w : MatchType). servesOf (optionSettings o) w d f1 f2 ≡ true) way e) h1 h2
+
+-- where the largest weights fit, the steps of a found state may be weighed and stored
+pub weighable : (o : ComposeFstOpOptions) (m1 m2 a1 a2 : List ℕ) (u : Used) (m : Memory) → entered (lentOf o m1 m2 a1 a2) (sessionUnder o u) m ≡ good (composing o m1 m2 a1 a2)
+    → (n : ℕ) → n < u .states → (t : Triple) → t ≡ tripleAt (m .states) n → (f1 f2 : ListFacts)
+    → TrueOf outputs (kindOf (o .kind)) m1 (tripleAt (m .states) n .s1) f1 → TrueOf inputs (kindOf (o .kind)) m2 (tripleAt (m .states) n .s2) f2
+    → noSigma (optionSettings o) ≡ true → weightsFit (kindOf (o .kind)) (f1 .most) (f2 .most) ≡ true → f1 .most ≤ MAX → f2 .most ≤ MAX
+    → (on : MatchType) → on ≡ plainDirection (sideMeans (o .side)) (f1 .len) (f2 .len) → (sure : Bool) → sure ≡ servesOf (optionSettings o) on (storeOf (sessionUnder o u) m) f1 f2
+    → Weighable (storeOf (sessionUnder o u) m) sure (stepsAt (composing o m1 m2 a1 a2) t)
+weighable o m1 m2 a1 a2 u m e n found t q f1 f2 t1 t2 plain fit h1 h2 on way sure serves =
+    let p = present o m1 m2 a1 a2 u m e n found t q f1 f2 t1 t2 in
+    let l = lentOf o m1 m2 a1 a2 in
+    let s = sessionUnder o u in
+    let c = composing o m1 m2 a1 a2 in
+    let d = storeOf s m in
+    record {
+      good-steps = good-steps (p a1 a2) plain fit h1 h2;
+      chained = chained o m1 m2 a1 a2 u m e;
+      fit = λ z. serves-fit d on p way (sym serves ∙ z) h1 h2 a1 a2;
+      exact = subst (λ (x : Triple). weighOf d (stepsAt c x) ≡ andThen (storeSteps d (stepsAt c x)) (λ y. good tt)) (sym q) (weigh-entered l s m c (entered-is l s m c e) n found);
+    }

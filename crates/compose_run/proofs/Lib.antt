@@ -1,1 +1,3 @@
 pub mod RunTurns
+pub mod MemoTurns
+pub mod OneTurn

@@ -27,11 +27,11 @@ use Rattle.compose_run.specs.declared.Ran.the-variants.{Done, Refused}
 use Rattle.compose_run.specs.Meaning.{ranLeft, turned, turnOf}
 
 -- what the answer of a turn says of the expansion's
-accepted : (a : Checked Part) → good tt ≡ turned a → (p : Part) × (a ≡ good p)
+pub accepted : (a : Checked Part) → good tt ≡ turned a → (p : Part) × (a ≡ good p)
 accepted (good p) e = (p, refl)
 accepted (refused n) e = absurd (good≢refused e)
 
-stopped : (a : Checked Part) (j : ℕ) → refused j ≡ turned a → a ≡ refused j
+pub stopped : (a : Checked Part) (j : ℕ) → refused j ≡ turned a → a ≡ refused j
 stopped (good p) j e = absurd (good≢refused (sym e))
 stopped (refused n) j e = ap refused (sym (refused-is e))
 
@@ -102,7 +102,7 @@ module _ (l : Lent) where
     next = expandOf l (sessionUnder o u) m n
 
     -- an accepted turn leaves what the expansion leaves
-    same : (u′ : Used) → r ≡ Done u′ → ranLeft o m′ (Done u′) ≡ turnOf next
+    pub same : (u′ : Used) → r ≡ Done u′ → ranLeft o m′ (Done u′) ≡ turnOf next
     same u′ h = ap (ranLeft o m′) (sym h) ∙ q
 
     -- the checks 1 to 8 pass again after an accepted expansion

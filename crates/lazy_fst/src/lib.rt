@@ -122,7 +122,7 @@ impl Session {
         match entered {
             Chosen::Refused(k) => PartAnswer::Refused(k, self),
             Chosen::By(_) => {
-                self.trusted_expand(m1, m2, allowed1, allowed2, listed, heads, states, trs, n)
+                self.expand_alone(m1, m2, allowed1, allowed2, listed, heads, states, trs, n)
             }
         }
     }

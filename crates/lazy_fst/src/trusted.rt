@@ -1,11 +1,14 @@
 // The calls without their checks 1 to 8, for a caller that knows that they pass: after an accepted opening, while nobody else writes, they do. Each answers just what the call with its
-// checks answers, and 9 as well; a run is made in pieces.
+// checks answers, and 9 as well; a run is made in pieces. Those that expand are lent a memo for each machine, in which what is remembered of its lists is true and stays so.
 ghost use mathlib.Core.Path.{_≡_};
 ghost use Prim.Native.Nat.{_+_, _*_};
+ghost use Rattle.words.specs.Matches.{inputs, outputs};
 ghost use Rattle.calls.specs.Checks.{Passes};
 ghost use Rattle.calls.specs.Calls.{expandOf, finalWeightOf, runFrom, recordsOf, recordsPlace};
 ghost use Rattle.calls.specs.Owned.{stopFrom};
 ghost use Rattle.store_records.specs.Meaning.{memoryOf};
+ghost use Rattle.compose_expand.specs.Memos.{Remembered};
+ghost use Rattle.compose_run.specs.Memos.{memoAt, memoFrom};
 ghost use Rattle.lazy_fst.specs.Meaning.{lentWith, sessionMeans, left, partLeft, weightLeft};
 use crate::AllowedLists;
 use crate::PartAnswer;
@@ -17,9 +20,11 @@ use crate::answers::options_of;
 use crate::answers::part_answer;
 use crate::answers::run_answer;
 use compose_run::compute_from;
+use compose_run::expand_alone;
 use compose_run::expand_found;
 use fst::REFUSED_NOT_FOUND;
 use fst::StateId;
+use list_facts::MEMO_WORDS;
 use session_checks::side_of;
 use store_records::is_expanded;
 use tr_lists::part_of;
@@ -28,6 +33,67 @@ use tr_lists::tr_part;
 impl Session {
     // Expands state n; an expanded one is answered as stored.
     pub fn trusted_expand(
+        self,
+        m1: &[u32],
+        m2: &[u32],
+        allowed1: &[u32],
+        allowed2: &[u32],
+        listed: AllowedLists,
+        heads: &mut [u32],
+        states: &mut [u32],
+        trs: &mut [u32],
+        memo1: &mut [u32; MEMO_WORDS],
+        memo2: &mut [u32; MEMO_WORDS],
+        n: StateId,
+    ) -> PartAnswer
+        requires { ⌜ (
+            let l = lentWith (now m1) (now m2) (now allowed1) (now allowed2) listed in
+            let m = memoryOf (now heads) (now states) (now trs) in
+            let s = sessionMeans self in
+            Passes l s m × Remembered outputs l s (now memo1) × Remembered inputs l s (now memo2)
+            ) ⌝ }
+        ensures { λ r. ⌜ (
+            let l = lentWith (now (m1 .entry)) (now (m2 .entry)) (now (allowed1 .entry)) (now (allowed2 .entry)) listed in
+            let m = memoryOf (now (heads .entry)) (now (states .entry)) (now (trs .entry)) in
+            let m′ = memoryOf (now (heads .exit)) (now (states .exit)) (now (trs .exit)) in
+            partLeft r m′ ≡ expandOf l (sessionMeans self) m (n .0)
+            ) ⌝ }
+        ensures asked { λ _. ⌜ (
+            let l = lentWith (now (m1 .entry)) (now (m2 .entry)) (now (allowed1 .entry)) (now (allowed2 .entry)) listed in
+            let m = memoryOf (now (heads .entry)) (now (states .entry)) (now (trs .entry)) in
+            let s = sessionMeans self in
+            (now (memo1 .exit) ≡ memoAt outputs l s m (n .0) (now (memo1 .entry))) × (now (memo2 .exit) ≡ memoAt inputs l s m (n .0) (now (memo2 .entry)))
+            ) ⌝ }
+        ensures remembered { λ _. ⌜ (
+            let l = lentWith (now (m1 .entry)) (now (m2 .entry)) (now (allowed1 .entry)) (now (allowed2 .entry)) listed in
+            let s = sessionMeans self in
+            Remembered outputs l s (now (memo1 .exit)) × Remembered inputs l s (now (memo2 .exit))
+            ) ⌝ }
+    {
+        let used = self.used;
+        if used.states <= n.0 {
+            return PartAnswer::Refused(REFUSED_NOT_FOUND, self);
+        }
+        let options = options_of(self.settings, listed, side_of(self.side));
+        let expanded = expand_found(
+            m1,
+            m2,
+            allowed1,
+            allowed2,
+            options,
+            heads,
+            states,
+            trs,
+            memo1,
+            memo2,
+            used,
+            n,
+        );
+        part_answer(self, expanded)
+    }
+
+    // The same where no memo is lent.
+    pub fn expand_alone(
         self,
         m1: &[u32],
         m2: &[u32],
@@ -56,7 +122,7 @@ impl Session {
             return PartAnswer::Refused(REFUSED_NOT_FOUND, self);
         }
         let options = options_of(self.settings, listed, side_of(self.side));
-        let expanded = expand_found(
+        let expanded = expand_alone(
             m1,
             m2,
             allowed1,
@@ -114,13 +180,16 @@ impl Session {
         heads: &mut [u32],
         states: &mut [u32],
         trs: &mut [u32],
+        memo1: &mut [u32; MEMO_WORDS],
+        memo2: &mut [u32; MEMO_WORDS],
         from: StateId,
         count: u32,
     ) -> PieceAnswer
         requires { ⌜ (
             let l = lentWith (now m1) (now m2) (now allowed1) (now allowed2) listed in
             let m = memoryOf (now heads) (now states) (now trs) in
-            Passes l (sessionMeans self) m
+            let s = sessionMeans self in
+            Passes l s m × Remembered outputs l s (now memo1) × Remembered inputs l s (now memo2)
             ) ⌝ }
         ensures { λ r. ⌜ (
             let l = lentWith (now (m1 .entry)) (now (m2 .entry)) (now (allowed1 .entry)) (now (allowed2 .entry)) listed in
@@ -133,6 +202,18 @@ impl Session {
             let m = memoryOf (now (heads .entry)) (now (states .entry)) (now (trs .entry)) in
             r .next .0 ≡ stopFrom l count (from .0) (sessionMeans self) m
             ) ⌝ }
+        ensures asked { λ _. ⌜ (
+            let l = lentWith (now (m1 .entry)) (now (m2 .entry)) (now (allowed1 .entry)) (now (allowed2 .entry)) listed in
+            let m = memoryOf (now (heads .entry)) (now (states .entry)) (now (trs .entry)) in
+            let s = sessionMeans self in
+            (now (memo1 .exit) ≡ memoFrom outputs l count (from .0) s m (now (memo1 .entry)))
+            × (now (memo2 .exit) ≡ memoFrom inputs l count (from .0) s m (now (memo2 .entry)))
+            ) ⌝ }
+        ensures remembered { λ _. ⌜ (
+            let l = lentWith (now (m1 .entry)) (now (m2 .entry)) (now (allowed1 .entry)) (now (allowed2 .entry)) listed in
+            let s = sessionMeans self in
+            Remembered outputs l s (now (memo1 .exit)) × Remembered inputs l s (now (memo2 .exit))
+            ) ⌝ }
     {
         let options = options_of(self.settings, listed, side_of(self.side));
         let stopped = compute_from(
@@ -144,6 +225,8 @@ impl Session {
             heads,
             states,
             trs,
+            memo1,
+            memo2,
             self.used,
             from,
             count,

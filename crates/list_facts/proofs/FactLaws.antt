@@ -18,6 +18,8 @@ use Rattle.words.specs.Filters.{noneAt, allAt}
 use Rattle.words.proofs.ListLaws.{list-length}
 use Rattle.words.proofs.FormLaws.{form}
 use Rattle.fst.specs.Meaning.{asOperand}
+use Rattle.sorted_lists.specs.Runs.{straight}
+use Rattle.sorted_lists.specs.Longest.{longest}
 use Rattle.list_facts.specs.declared.ListFacts.{ListFacts}
 use Rattle.list_facts.specs.Facts.{heaviest, TrueOf}
 
@@ -69,20 +71,36 @@ module _ {A : Type 0} (P : A → Bool) where
       go false e = let h = keep-length xs in sym (ne-eqb (length (keepIf P xs)) (length (x ∷ xs)) (λ z. omega (arith, h, z)))
 
 module _ {on : MatchType} {k : Kind} {m : List ℕ} {s : ℕ} {r : ListFacts} (f : TrueOf on k m s r) where
+  -- one by one
+  pub len-is : r .len ≡ length (listOf m s)
+  len-is = ap (λ (x : ListFacts). x .len) (f .is)
+
+  pub eps-is : r .eps ≡ length (labelled on (machineOf m) s epsLabel)
+  eps-is = ap (λ (x : ListFacts). x .eps) (f .is)
+
+  pub straight-is : r .straight ≡ straight m (firstOf m s)
+  straight-is = ap (λ (x : ListFacts). x .straight) (f .is)
+
+  pub most-is : r .most ≡ heaviest k (machineOf m .weight) (listOf m s)
+  most-is = ap (λ (x : ListFacts). x .most) (f .is)
+
+  pub run-is : r .run ≡ longest (labelOn on (machineOf m)) noLabel 0 0 (listOf m s)
+  run-is = ap (λ (x : ListFacts). x .run) (f .is)
+
   -- the list has no more epsilons than records, and no more records than the machine
   pub eps-few : r .eps ≤ r .len
   unfolding labelled
-  eps-few = let h = keep-length (λ (t : ℕ). eqb (labelOn on (machineOf m) t) epsLabel) (listOf m s) in omega (arith, f .eps, f .len, h)
+  eps-few = let h = keep-length (λ (t : ℕ). eqb (labelOn on (machineOf m) t) epsLabel) (listOf m s) in omega (arith, eps-is, len-is, h)
 
   pub len-few : wellFormed m ≡ true → r .len ≤ 16777215
   unfolding listOf
-  len-few e = let h = form m e .trs in let l = list-length m (firstOf m s) in omega (arith, f .len, h, l)
+  len-few e = let h = form m e .trs in let l = list-length m (firstOf m s) in omega (arith, len-is, h, l)
 
   -- "none" and "all" of a filter, from the counts
   pub none-is : noneAt (asOperand on m noLabel) s ≡ eqb (r .eps) 0
   unfolding noneAt noEpsilon labelled
-  none-is = rw (f .eps) (kept-none (λ (t : ℕ). eqb (labelOn on (machineOf m) t) epsLabel) (listOf m s))
+  none-is = rw eps-is (kept-none (λ (t : ℕ). eqb (labelOn on (machineOf m) t) epsLabel) (listOf m s))
 
   pub all-is : allAt (asOperand on m noLabel) s ≡ eqb (r .eps) (r .len) && not (machineOf m .isFinal s)
   unfolding allAt onlyEpsilons labelled
-  all-is = rw (f .eps, f .len) (ap (λ (b : Bool). b && not (machineOf m .isFinal s)) (kept-all (λ (t : ℕ). eqb (labelOn on (machineOf m) t) epsLabel) (listOf m s)))
+  all-is = rw (eps-is, len-is) (ap (λ (b : Bool). b && not (machineOf m .isFinal s)) (kept-all (λ (t : ℕ). eqb (labelOn on (machineOf m) t) epsLabel) (listOf m s)))

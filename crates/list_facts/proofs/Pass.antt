@@ -9,18 +9,18 @@ use lib.ListN.{length}
 use Rattle.lists.specs.Lists.{putIf, keepIf, every}
 use Rattle.words.specs.Labels.{epsLabel, noLabel}
 use Rattle.words.specs.Weights.{Kind, isZero}
-use Rattle.sorted_lists.specs.Longest.{pick, larger, longest}
+use Rattle.sorted_lists.specs.Longest.{longest}
 use Rattle.list_facts.specs.Facts.{heaviest}
 
-one-eps : (b : Bool) (t : ℕ) (l : List ℕ) → length (putIf b t l) ≡ pick b 1 0 + length l
+one-eps : (b : Bool) (t : ℕ) (l : List ℕ) → length (putIf b t l) ≡ cond b 1 0 + length l
 one-eps true t l = omega arith
 one-eps false t l = omega arith
 
-pub eps-within : (b : Bool) (a c : ℕ) → a ≤ c → a + pick b 1 0 ≤ c + 1
+pub eps-within : (b : Bool) (a c : ℕ) → a ≤ c → a + cond b 1 0 ≤ c + 1
 eps-within true a c h = omega (arith, h)
 eps-within false a c h = omega (arith, h)
 
-same-within : (b : Bool) (a c : ℕ) → a ≤ c → pick b (a + 1) 1 ≤ c + 1
+same-within : (b : Bool) (a c : ℕ) → a ≤ c → cond b (a + 1) 1 ≤ c + 1
 same-within true a c h = omega (arith, h)
 same-within false a c h = omega (arith, h)
 
@@ -52,8 +52,8 @@ module _ (label weight : ℕ → ℕ) (k : Kind) (on : ℕ → Bool) (all : List
 
   -- a turn
   pub noted : (t : ℕ) (left : List ℕ) (len eps : ℕ) (straight : Bool) (most run same last : ℕ) → Found (t ∷ left) len eps straight most run same last
-      → let row = pick (eqb (label t) last) (same + 1) 1 in
-      Found left (len + 1) (eps + pick (eqb (label t) epsLabel) 1 0) (straight && on t) (max most (cond (isZero k (weight t)) 0 (weight t))) (larger run row) row (label t)
+      → let row = cond (eqb (label t) last) (same + 1) 1 in
+      Found left (len + 1) (eps + cond (eqb (label t) epsLabel) 1 0) (straight && on t) (max most (cond (isZero k (weight t)) 0 (weight t))) (max run row) row (label t)
   unfolding keepIf every heaviest longest
   noted t left len eps straight most run same last f =
       record {

@@ -13,7 +13,7 @@ use Rattle.fst_reads.specs.Places.{wordOn}
 use Rattle.sorted_lists.specs.Runs.{straight}
 use Rattle.sorted_lists.specs.Longest.{longest}
 use Rattle.list_facts.specs.declared.ListFacts.{ListFacts}
-use Rattle.list_facts.specs.Facts.{heaviest, TrueOf}
+use Rattle.list_facts.specs.Facts.{heaviest, factsOf, TrueOf}
 use Rattle.list_facts.proofs.Pass.{Found}
 
 -- the record after t is consecutive, or there is none
@@ -30,10 +30,8 @@ pub told : (on : MatchType) (k : Kind) (m : List ℕ) (s : ℕ) (r : ListFacts) 
 unfolding labelled keepIf every heaviest longest straight listOf
 told on k m s r same last e =
     let f = subst (λ (g : ℕ → ℕ). Found g (λ u. trWord m u 2) k (goesOn m) (listOf m s) [] (r .len) (r .eps) (r .straight) (r .most) (r .run) same last) (labels on m) e in
-    record {
-      len = omega (arith, f .lens);
-      eps = omega (arith, f .epss);
-      straight = sym (and-true (r .straight)) ∙ f .straights;
-      most = omega (arith, f .mosts);
-      run = f .runs;
-    }
+    let len : r .len ≡ factsOf on k m s .len = omega (arith, f .lens) in
+    let eps : r .eps ≡ factsOf on k m s .eps = omega (arith, f .epss) in
+    let most : r .most ≡ factsOf on k m s .most = omega (arith, f .mosts) in
+    let plain : r .straight ≡ factsOf on k m s .straight = sym (and-true (r .straight)) ∙ f .straights in
+    record { is = rw (← len, ← eps, ← most, ← plain, ← f .runs) }

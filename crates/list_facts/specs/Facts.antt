@@ -17,14 +17,20 @@ unfoldable pub heaviest : Kind → (ℕ → ℕ) → List ℕ → ℕ
 heaviest k weight [] = 0
 heaviest k weight (t ∷ ts) = max (cond (isZero k (weight t)) 0 (weight t)) (heaviest k weight ts)
 
--- what r says of the list of state s in the words m, which are matched on a side, is so
-pub record TrueOf (on : MatchType) (k : Kind) (m : List ℕ) (s : ℕ) (r : ListFacts) : Type 0 where
+-- the facts of the list of state s in the words m, which are matched on a side
+abbrev pub factsOf : MatchType → Kind → List ℕ → ℕ → ListFacts
+factsOf on k m s = record {
   -- how many records the list has, and how many of them are epsilons
-  pub len : r .len ≡ length (listOf m s)
-  pub eps : r .eps ≡ length (labelled on (machineOf m) s epsLabel)
+  len = length (listOf m s);
+  eps = length (labelled on (machineOf m) s epsLabel);
   -- whether its records are consecutive
-  pub straight : r .straight ≡ straight m (firstOf m s)
+  straight = straight m (firstOf m s);
   -- the largest weight that is not the kind's zero
-  pub most : r .most ≡ heaviest k (machineOf m .weight) (listOf m s)
+  most = heaviest k (machineOf m .weight) (listOf m s);
   -- the longest run of one label
-  pub run : r .run ≡ longest (labelOn on (machineOf m)) noLabel 0 0 (listOf m s)
+  run = longest (labelOn on (machineOf m)) noLabel 0 0 (listOf m s);
+}
+
+-- what r says of that list is so
+pub record TrueOf (on : MatchType) (k : Kind) (m : List ℕ) (s : ℕ) (r : ListFacts) : Type 0 where
+  pub is : r ≡ factsOf on k m s

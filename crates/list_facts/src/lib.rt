@@ -9,7 +9,6 @@ ghost use Rattle.words.specs.Labels.{epsLabel};
 ghost use Rattle.words.specs.Weights.{kindOf};
 ghost use Rattle.words.specs.Machines.{stateCount, wellFormed};
 ghost use Rattle.fst.specs.Meaning.{onOf};
-ghost use Rattle.sorted_lists.specs.Longest.{pick, larger as largerOf};
 ghost use Rattle.list_facts.specs.Facts.{TrueOf};
 use fst::EPS_LABEL;
 use fst::MatchType;
@@ -39,7 +38,7 @@ pub struct ListFacts {
 
 // 1 for an epsilon.
 fn eps_of(x: u32) -> u32
-    ensures { λ r. ⌜ r ≡ pick (eqb x epsLabel) 1 0 ⌝ }
+    ensures { λ r. ⌜ r ≡ cond (eqb x epsLabel) 1 0 ⌝ }
 {
     if x == EPS_LABEL.0 { 1 } else { 0 }
 }
@@ -47,13 +46,13 @@ fn eps_of(x: u32) -> u32
 // How often the label x has come in a row, where `last` came `same` times.
 fn in_a_row(x: u32, last: u32, same: u32) -> u32
     requires { ⌜ same + 1 < 2 ^ 32 ⌝ }
-    ensures { λ r. ⌜ r ≡ pick (eqb x last) (same + 1) 1 ⌝ }
+    ensures { λ r. ⌜ r ≡ cond (eqb x last) (same + 1) 1 ⌝ }
 {
     if x == last { same + 1 } else { 1 }
 }
 
 fn larger(run: u32, same: u32) -> u32
-    ensures { λ r. ⌜ r ≡ largerOf run same ⌝ }
+    ensures { λ r. ⌜ r ≡ max run same ⌝ }
 {
     if run < same { same } else { run }
 }

@@ -1,11 +1,13 @@
 // The calls without their checks 1 to 8, for a caller that owns its memory: after an accepted opening, while nobody else writes, the checks pass (`include/rinkolza.h` says what such a
-// caller owes). Lengths are still looked at, 1 (of a session that has not nine words nothing is asked), and 9 to 13 answered. A run is made in pieces.
+// caller owes). Lengths are still looked at, 1 (of a session that has not nine words nothing is asked), and 9 to 13 answered. A run is made in pieces. The two that expand are lent a memo for
+// each machine, in which what is remembered of its lists is true and stays so.
 ghost use mathlib.Core.Path.{_≡_};
 ghost use mathlib.Core.Bool.{true};
+ghost use Rattle.words.specs.Matches.{inputs, outputs};
 ghost use Rattle.calls.specs.Checks.{Passes};
 ghost use Rattle.store_records.specs.Meaning.{memoryOf};
 ghost use Rattle.rinkolza.specs.Exported.{sessionAt, nine, lentWords, leaves, expandWords, finalWeightWords, recordsWords};
-ghost use Rattle.rinkolza.specs.Trusted.{pieceWords, finalWeightsWords};
+ghost use Rattle.rinkolza.specs.Trusted.{pieceWords, finalWeightsWords, Memos, expandMemo, pieceMemo};
 use crate::answers::leave_handed;
 use crate::answers::leave_part;
 use crate::answers::leave_piece;
@@ -21,6 +23,7 @@ use final_weights::found;
 use final_weights::write_weights;
 use fst::REFUSED_SETTINGS;
 use fst::StateId;
+use list_facts::MEMO_WORDS;
 
 // Expands state n.
 #[no_mangle]
@@ -35,18 +38,31 @@ pub extern "C" fn rinkolza_trusted_expand(
     heads: &mut [u32],
     states: &mut [u32],
     trs: &mut [u32],
+    memo1: &mut [u32; MEMO_WORDS],
+    memo2: &mut [u32; MEMO_WORDS],
     n: u32,
     answer: &mut [u32],
 ) -> u32
     requires { ⌜ (
         let l = lentWords (now m1) (now m2) (now allowed1) has1 (now allowed2) has2 in
-        nine (now session) ≡ true → Passes l (sessionAt (now session)) (memoryOf (now heads) (now states) (now trs))
+        (nine (now session) ≡ true → Passes l (sessionAt (now session)) (memoryOf (now heads) (now states) (now trs)))
+        × Memos l (now session) (now memo1) (now memo2)
         ) ⌝ }
     ensures { λ r. ⌜ (
         let l = lentWords (now (m1 .entry)) (now (m2 .entry)) (now (allowed1 .entry)) has1 (now (allowed2 .entry)) has2 in
         let m = memoryOf (now (heads .entry)) (now (states .entry)) (now (trs .entry)) in
         let m′ = memoryOf (now (heads .exit)) (now (states .exit)) (now (trs .exit)) in
         leaves r (now (session .exit)) (now (answer .exit)) m′ ≡ expandWords l (now (session .entry)) (now (answer .entry)) m n
+        ) ⌝ }
+    ensures asked { λ _. ⌜ (
+        let l = lentWords (now (m1 .entry)) (now (m2 .entry)) (now (allowed1 .entry)) has1 (now (allowed2 .entry)) has2 in
+        let m = memoryOf (now (heads .entry)) (now (states .entry)) (now (trs .entry)) in
+        (now (memo1 .exit) ≡ expandMemo outputs l (now (session .entry)) (now (answer .entry)) m n (now (memo1 .entry)))
+        × (now (memo2 .exit) ≡ expandMemo inputs l (now (session .entry)) (now (answer .entry)) m n (now (memo2 .entry)))
+        ) ⌝ }
+    ensures remembered { λ _. ⌜ (
+        let l = lentWords (now (m1 .entry)) (now (m2 .entry)) (now (allowed1 .entry)) has1 (now (allowed2 .entry)) has2 in
+        Memos l (now (session .entry)) (now (memo1 .exit)) (now (memo2 .exit))
         ) ⌝ }
 {
     if !sized(session, answer) {
@@ -63,6 +79,8 @@ pub extern "C" fn rinkolza_trusted_expand(
         heads,
         states,
         trs,
+        memo1,
+        memo2,
         StateId(n),
     );
     leave_part(session, answer, done)
@@ -178,19 +196,32 @@ pub extern "C" fn rinkolza_trusted_run(
     heads: &mut [u32],
     states: &mut [u32],
     trs: &mut [u32],
+    memo1: &mut [u32; MEMO_WORDS],
+    memo2: &mut [u32; MEMO_WORDS],
     n: u32,
     k: u32,
     answer: &mut [u32],
 ) -> u32
     requires { ⌜ (
         let l = lentWords (now m1) (now m2) (now allowed1) has1 (now allowed2) has2 in
-        nine (now session) ≡ true → Passes l (sessionAt (now session)) (memoryOf (now heads) (now states) (now trs))
+        (nine (now session) ≡ true → Passes l (sessionAt (now session)) (memoryOf (now heads) (now states) (now trs)))
+        × Memos l (now session) (now memo1) (now memo2)
         ) ⌝ }
     ensures { λ r. ⌜ (
         let l = lentWords (now (m1 .entry)) (now (m2 .entry)) (now (allowed1 .entry)) has1 (now (allowed2 .entry)) has2 in
         let m = memoryOf (now (heads .entry)) (now (states .entry)) (now (trs .entry)) in
         let m′ = memoryOf (now (heads .exit)) (now (states .exit)) (now (trs .exit)) in
         leaves r (now (session .exit)) (now (answer .exit)) m′ ≡ pieceWords l (now (session .entry)) (now (answer .entry)) m n k
+        ) ⌝ }
+    ensures asked { λ _. ⌜ (
+        let l = lentWords (now (m1 .entry)) (now (m2 .entry)) (now (allowed1 .entry)) has1 (now (allowed2 .entry)) has2 in
+        let m = memoryOf (now (heads .entry)) (now (states .entry)) (now (trs .entry)) in
+        (now (memo1 .exit) ≡ pieceMemo outputs l (now (session .entry)) (now (answer .entry)) m n k (now (memo1 .entry)))
+        × (now (memo2 .exit) ≡ pieceMemo inputs l (now (session .entry)) (now (answer .entry)) m n k (now (memo2 .entry)))
+        ) ⌝ }
+    ensures remembered { λ _. ⌜ (
+        let l = lentWords (now (m1 .entry)) (now (m2 .entry)) (now (allowed1 .entry)) has1 (now (allowed2 .entry)) has2 in
+        Memos l (now (session .entry)) (now (memo1 .exit)) (now (memo2 .exit))
         ) ⌝ }
 {
     if !sized(session, answer) {
@@ -207,6 +238,8 @@ pub extern "C" fn rinkolza_trusted_run(
         heads,
         states,
         trs,
+        memo1,
+        memo2,
         StateId(n),
         k,
     );

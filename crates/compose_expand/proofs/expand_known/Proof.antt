@@ -1,4 +1,4 @@
--- Where the bounds serve, what the plain expansion asks is known; else the weighed one asks less.
+-- Where the bounds serve, what the plain expansion asks is known; else the other one asks less.
 use Rattle.fst.proofs.Tests.{holds}
 use borrow.Author.Needs.{needs}
 use Rattle.compose_expand.proofs.expand_known.Statement.{statement}
@@ -6,9 +6,9 @@ use Rattle.compose_expand.proofs.expand_known.Tie as tie
 
 expand-plain-requires : tie.Need-expand-plain-requires
 expand-plain-requires c κs =
-    let s = c .before .before .before .before .before .before .before .before .before .before .before .before .before .before .before .before .before in
+    let s = c .before .before .before .before .before .before .before .before .before .before .before .before .before .before .before in
     let p = s .pre in
-    (p .0, p .1, c .before .before .before .get-tuple .ensures, p .2, p .3, c .before .before .before .before .before .before .before .before .before .direction .ensures, holds (c .before .before .before .before .before .before .serves .ensures (s .args .heads .now)) (c .before .before .before .before .before .if1 .left))
+    (p .0, p .1, p .2, p .4, p .5, c .before .before .before .before .before .before .before .direction .ensures, holds (c .before .before .before .before .serves .ensures (s .args .heads .now)) (c .before .before .before .if1 .left))
 
 pub expand-known-spec : {M : Type 1} → statement M
 expand-known-spec =
@@ -16,12 +16,11 @@ expand-known-spec =
     (tie.spec
     (λ c κs. search needs)
     (λ c κs. search needs)
-    (λ c κs. search needs)
+    (λ c κs. let p = c .before .before .before .before .before .before .before .before .before .before .before .before .before .before .before .pre in (p .0, p .1, p .3))
     (λ c. search needs)
     (λ c. search needs)
     (λ c. search needs)
     (λ c. search needs)
-    (λ c κs. search needs)
     expand-plain-requires
     (λ c. search needs)
     (λ c. search needs)

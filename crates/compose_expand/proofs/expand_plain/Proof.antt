@@ -6,11 +6,10 @@ use native.Mathlib.Omega.{arith}
 use Rattle.words.specs.Steps.{Triple, stepsAt}
 use Rattle.fst.specs.Meaning.{onOf}
 use Rattle.compose_state_tuple.specs.Meaning.{tupleMeans}
-use Rattle.store_records.specs.Meaning.{stored, memoryOf}
+use Rattle.store_records.specs.Meaning.{stored, storeIn, memoryOf}
 use Rattle.tr_lists.specs.Meaning.{partMeans}
 use Rattle.compose_fst_op.specs.Composing.{optionSettings, composing}
 use Rattle.stored_steps.specs.Storing.{storeAll, Fits}
-use Rattle.compose_walk.specs.Meaning.{storeIn}
 use Rattle.compose_plan.specs.Planning.{Present}
 use Rattle.compose_store.specs.Meaning.{sessionUnder}
 use Rattle.compose_expand.proofs.Found.{chained, present, serves-plain, serves-fit}

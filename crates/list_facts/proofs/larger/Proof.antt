@@ -1,13 +1,13 @@
--- By the test.
-use borrow.Author.Tests.{lt-ltb, le-ltb}
+-- The larger of two is the maximum.
+use native.Mathlib.Omega.{arith}
 use Rattle.list_facts.proofs.larger.Statement.{statement}
 use Rattle.list_facts.proofs.larger.Tie as tie
 
 returns : tie.Need-returns
-returns c = rw (lt-ltb _ _ (c .if1 .taken))
+returns c = omega (arith, c .if1 .taken)
 
 returns-2 : tie.Need-returns-2
-returns-2 c = rw (le-ltb _ _ (c .if1 .left))
+returns-2 c = omega (arith, c .if1 .left)
 
 pub larger-spec : {M : Type 1} → statement M
 larger-spec = tie.close (tie.spec returns returns-2)

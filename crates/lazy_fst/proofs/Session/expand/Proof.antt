@@ -9,8 +9,8 @@ use borrow.Author.Needs.{needs}
 use Rattle.lazy_fst.proofs.Session.expand.Statement.{statement}
 use Rattle.lazy_fst.proofs.Session.expand.Tie as tie
 
-trusted-expand-requires : tie.Need-trusted-expand-requires
-trusted-expand-requires c κs =
+expand-alone-requires : tie.Need-expand-alone-requires
+expand-alone-requires c κs =
     let x = c .before .before .before .before .before .before .before .before .before .before .before .before .before .before .before .before .args in
     let l = lentWith (now (x .m1)) (now (x .m2)) (now (x .allowed1)) (now (x .allowed2)) (x .listed) in
     let m = memoryOf (now (x .heads)) (now (x .states)) (now (x .trs)) in
@@ -30,7 +30,7 @@ expand-spec =
     (λ c κs. search needs)
     (λ c. search needs)
     (λ c. search needs)
-    trusted-expand-requires
+    expand-alone-requires
     (λ c. search needs)
     (λ c. search needs)
     (λ c. search needs)
