@@ -14,7 +14,8 @@
  * - All words are uint32_t. A slice is a pointer and then its length, counted
  *   in words (not in bytes). The pointer must point to that many words, placed
  *   as uint32_t are; where the length is 0 nothing is read or written through
- *   it, and it may be NULL.
+ *   it, and it may be NULL. A memo is a pointer without a length, to
+ *   RINKOLZA_MEMO_WORDS words; it counts as a slice that is not const.
  * - A slice that is not const must not overlap any other slice of the same
  *   call. Slices that are const may overlap each other.
  * - The five functions that check ask nothing else of a caller: any words in
@@ -28,12 +29,14 @@
  *   (RINKOLZA_REFUSED_..., 1 to 13). A refused call changes no word of any
  *   slice. The exceptions are rinkolza_run and rinkolza_trusted_run: refused
  *   at a state, they keep the expansions before it, with the session that
- *   belongs to them. The two for records return no number.
+ *   belongs to them; and the memos, which may change in any call that is lent
+ *   them. The two for records return no number.
  * - Lengths: settings has 6 words, session 9, answer 2 (the answer of
  *   rinkolza_trusted_final_weights: 2 for each found state). With any other
  *   length the call is refused with 1 and changes nothing (rinkolza_records:
  *   see there).
- * - A run uses at most 128 KiB of stack, an expansion 80 KiB, every other call
+ * - rinkolza_run uses at most 128 KiB of stack, rinkolza_expand,
+ *   rinkolza_trusted_expand and rinkolza_trusted_run 80 KiB, every other call
  *   16 KiB.
  *
  * ---------------------------------------------------------------------------
@@ -190,10 +193,9 @@
  *
  * A call that checks goes through both machines and all used memory, whatever
  * it is asked for. The functions rinkolza_trusted_... answer the same without
- * the checks 1 to 8, so that states may be expanded one by one at the cost of a
- * run. They ask that these checks pass. That is proved (OwnedClaim in
- * crates/readings/specs/Owned.antt) for a caller that after an accepted
- * rinkolza_open keeps to this:
+ * the checks 1 to 8. They ask that these checks pass. That is proved
+ * (OwnedClaim in crates/readings/specs/Owned.antt) for a caller that after an
+ * accepted rinkolza_open keeps to this:
  *
  * - every call, of whatever sort, accepted or refused, gets the machines and the
  *   allowed lists, with has1 and has2, that this opening got; but a further
@@ -201,6 +203,25 @@
  * - it gets the session, the heads, the states and the trs as the call before
  *   left them, or the states and trs lengthened at their ends;
  * - nobody but these calls writes to any of them.
+ *
+ * The two that expand, rinkolza_trusted_expand and rinkolza_trusted_run, are
+ * lent two memos beside memory: memo1 for machine 1, memo2 for machine 2, each of
+ * exactly RINKOLZA_MEMO_WORDS words. A memo holds what a pass over a state's
+ * list told (its length, its epsilons, whether its records are consecutive, its
+ * largest weight, its longest run of one label), for up to 1024 states of the
+ * machine, so that not every expansion walks it again. To expand all states one
+ * by one then costs about a third more than a run where they are many; where they
+ * are few, a call's own cost tells. Of the memos such a caller owes this:
+ *
+ * - a memo belongs to one accepted opening and to one machine: before the first
+ *   call after that opening which is lent it, it is all zeros;
+ * - from then on only these two calls, of that opening, write to it, and it is
+ *   lent as memo1 each time, or as memo2 each time; but it may be put back to
+ *   zeros at any time, and then knows nothing.
+ *
+ * What the words of a memo mean is the library's own. No answer depends on them.
+ * A call that is refused may have written to them too. The calls that check take
+ * no memo, nor do the other three that do not.
  *
  * The words count, not where they stand: copies will do. Anything else is
  * undefined behaviour, and words outside of the slices may be read and written.
@@ -244,6 +265,7 @@ extern "C" {
 #define RINKOLZA_ANSWER_WORDS 2
 #define RINKOLZA_STATE_WORDS 6
 #define RINKOLZA_TR_WORDS 5
+#define RINKOLZA_MEMO_WORDS 5120
 
 /* Marks of a machine's side. */
 #define RINKOLZA_MARK_UNKNOWN UINT32_C(0)
@@ -397,7 +419,8 @@ void rinkolza_records(const uint32_t *session, size_t session_len,
                       uint32_t *answer, size_t answer_len);
 
 /*
- * As rinkolza_expand, without the checks 1 to 8, which must pass.
+ * As rinkolza_expand, without the checks 1 to 8, which must pass. The memos are
+ * read and written: zeros after the opening, then as these calls leave them.
  * Refusals: 1 for a length, 9 to 13.
  */
 uint32_t rinkolza_trusted_expand(uint32_t *session, size_t session_len,
@@ -408,6 +431,7 @@ uint32_t rinkolza_trusted_expand(uint32_t *session, size_t session_len,
                                  uint32_t *heads, size_t heads_len,
                                  uint32_t *states, size_t states_len,
                                  uint32_t *trs, size_t trs_len,
+                                 uint32_t *memo1, uint32_t *memo2,
                                  uint32_t n,
                                  uint32_t *answer, size_t answer_len);
 
@@ -468,7 +492,8 @@ uint32_t rinkolza_trusted_final_weights(const uint32_t *session, size_t session_
  * goes on, the refused one or the one after the last that was passed, and
  * answer[1] how many found states there are from it on; 0: none is left. From
  * n = 0 with k = RINKOLZA_MAX it is a whole run. Where n is not below the used
- * states nothing is done, and the answer is n and 0.
+ * states nothing is done, and the answer is n and 0. The memos are read and
+ * written as by rinkolza_trusted_expand, which may be lent the same ones.
  * Refusals: 1 for a length, and then nothing changes; 10 to 13.
  */
 uint32_t rinkolza_trusted_run(uint32_t *session, size_t session_len,
@@ -479,6 +504,7 @@ uint32_t rinkolza_trusted_run(uint32_t *session, size_t session_len,
                               uint32_t *heads, size_t heads_len,
                               uint32_t *states, size_t states_len,
                               uint32_t *trs, size_t trs_len,
+                              uint32_t *memo1, uint32_t *memo2,
                               uint32_t n,
                               uint32_t k,
                               uint32_t *answer, size_t answer_len);

@@ -1,5 +1,6 @@
 /* Calls the library from C: document 01's case 1, listed and compared with 01's listing by tests/c_example.sh; then slices of every short length and damaged words, where it checks that a
- * refused call changes nothing. Where the checks 1 to 8 pass, it makes the call that does not check too, on a copy of the same words, and compares all that the two leave.
+ * refused call changes nothing. Where the checks 1 to 8 pass, it makes the call that does not check too, on a copy of the same words, and compares all that the two leave. Memos are lent
+ * from call to call of an opening, and now and then put back to zeros; so too in compositions of drawn machines, state by state.
  * It prints the listing, then what it counted; it ends with 1 at the first thing that is wrong. */
 #define _DEFAULT_SOURCE
 #include <stdio.h>
@@ -81,12 +82,13 @@ typedef struct {
 } slice;
 
 #define SLICES 9
+#define LENDINGS (2 * SLICES + 2)
 #define PAGES 8
 
-/* Slice `which`, or a second one of the sort at SLICES + `which`: `held` words of `from`, then others. */
+/* Slice `which`, a second one of the sort at SLICES + `which`, or a memo at 2 * SLICES and behind: `held` words of `from`, then others. */
 static slice lend(int which, const uint32_t *from, size_t n, size_t held) {
-    static unsigned char *ends[2 * SLICES];
-    static uint32_t olds[2 * SLICES][RINKOLZA_STATE_WORDS * RECORDS];
+    static unsigned char *ends[LENDINGS];
+    static uint32_t olds[LENDINGS][RINKOLZA_STATE_WORDS * RECORDS];
     slice s;
     size_t i;
     if (ends[which] == NULL) {
@@ -114,7 +116,7 @@ static uint32_t draw(void) {
     return seed >> 8;
 }
 
-static unsigned long calls, refused, trusted;
+static unsigned long calls, refused, trusted, recalled, expanded;
 
 /* What a call after the opening is lent, the slices in the order of `all` below; without the session, and with it. */
 #define REST(x) (x)[2].w, (x)[2].n, (x)[3].w, (x)[3].n, (x)[8].w, (x)[8].n, has, (x)[8].w, (x)[8].n, has, (x)[4].w, (x)[4].n, (x)[5].w, (x)[5].n, (x)[6].w, (x)[6].n
@@ -143,6 +145,35 @@ static void weigh(const slice *x, uint32_t has, uint32_t used) {
     need(rinkolza_trusted_final_weights(LENT(x), all, 2 * used + 1) == 1, "all final weights: length");
 }
 
+/* What the calls that do not check have remembered of m1 and m2 since `open_it`, and zeros. */
+static uint32_t memos[2][RINKOLZA_MEMO_WORDS];
+static const uint32_t zeros[RINKOLZA_MEMO_WORDS];
+
+static uint32_t open_anew(void) {
+    memset(memos, 0, sizeof memos);
+    return open_it();
+}
+
+/* Whether machines, settings and side are those of the opening. */
+static int as_opened(const slice *x) {
+    return x[1].n == 9 && memcmp(x[1].w, session, 7 * sizeof(uint32_t)) == 0 && memcmp(x[2].w, m1, sizeof m1) == 0 && memcmp(x[3].w, m2, sizeof m2) == 0;
+}
+
+/* Expands or runs (calls 1 and 3) without checks and with memos: those of the opening, where the words are its own; else zeros, which know nothing of any machine. */
+static uint32_t remember(int call, const slice *y, uint32_t n, uint32_t has, uint32_t *next) {
+    int i, own = as_opened(y), knows;
+    uint32_t r;
+    slice memo[2];
+    if (draw() % 64 == 0) memset(memos[draw() % 2], 0, sizeof memos[0]);
+    knows = own && memcmp(memos[0], zeros, sizeof zeros) != 0 && memcmp(memos[1], zeros, sizeof zeros) != 0;
+    for (i = 0; i < 2; i++) memo[i] = lend(2 * SLICES + i, own ? memos[i] : zeros, RINKOLZA_MEMO_WORDS, RINKOLZA_MEMO_WORDS);
+    if (call == 1) r = rinkolza_trusted_expand(LENT(y), memo[0].w, memo[1].w, n, y[7].w, y[7].n);
+    else r = rinkolza_trusted_run(LENT(y), memo[0].w, memo[1].w, 0, RINKOLZA_MAX, next, 2);
+    for (i = 0; own && i < 2; i++) memcpy(memos[i], memo[i].w, sizeof memos[i]);
+    recalled += knows && !same(y[5]);
+    return r;
+}
+
 /* The call that does not check, on copies of the words that `x` had at the call's entry: it leaves what the call that checks left in `x`, and returns the same. */
 static void trust(int call, const slice *x, uint32_t n, uint32_t has, uint32_t r) {
     slice y[SLICES];
@@ -151,9 +182,9 @@ static void trust(int call, const slice *x, uint32_t n, uint32_t has, uint32_t r
     for (i = 0; i < SLICES; i++) y[i] = lend(SLICES + i, x[i].old, x[i].n, x[i].n);
     if (!passes(y, has)) return;
     switch (call) {
-    case 1: got = rinkolza_trusted_expand(LENT(y), n, y[7].w, y[7].n); break;
     case 2: got = rinkolza_trusted_final_weight(LENT(y), n, y[7].w, y[7].n); break;
-    case 3: got = rinkolza_trusted_run(LENT(y), 0, RINKOLZA_MAX, next, 2); break;
+    case 1:
+    case 3: got = remember(call, y, n, has, next); break;
     default: rinkolza_trusted_records(LENT(y), n, y[7].w, y[7].n); break;
     }
     trusted++;
@@ -205,6 +236,53 @@ static void all_calls(size_t settings_len, size_t session_len, size_t answer_len
     }
 }
 
+#define STATES 40
+#define MOST 4
+
+/* A drawn machine whose lists, of up to MOST records, rise in word `inner`; the records of a list stand one after the other or STATES apart. */
+static void draw_machine(uint32_t *m, uint32_t inner) {
+    uint32_t s, k, apart = draw() % 2, *state = m + 6, *tr = state + 3 * STATES;
+    const uint32_t header[6] = {STATES, STATES * MOST, 1, 0, 0, 0};
+    memcpy(m, header, sizeof header);
+    m[3 + inner] = draw() % 2;
+    for (s = 0; s < STATES; s++) {
+        uint32_t count = draw() % (MOST + 1), label = draw() % 3, first = apart ? s + 1 : MOST * s + 1, step = apart ? STATES : 1;
+        uint32_t record[3] = {count ? first : 0, draw() % 2, 0};
+        memcpy(state + 3 * s, record, sizeof record);
+        for (k = 0; k < MOST; k++) {
+            uint32_t own = first + k * step, *to = tr + 5 * (own - 1);
+            label += draw() % 2;
+            to[inner] = label, to[1 - inner] = draw() % 3, to[2] = draw() % 9, to[3] = draw() % STATES, to[4] = k + 1 < count ? own + step : 0;
+        }
+    }
+}
+
+/* What is lent for a composition of drawn machines: `side` 0 for the calls that check, 1 for those that do not. */
+#define DRAWN(side) nine[side], 9, drawn[0], LEN(drawn[0]), drawn[1], LEN(drawn[1]), NULL, 0, 0, NULL, 0, 0, h[side], HEADS, st[side], LEN(st[side]), t[side], LEN(t[side])
+
+/* All states one by one, with checks and without; the memos are lent all along, and now and then one is put back to zeros. Then the rest by a run. */
+static void one_by_one(void) {
+    static uint32_t drawn[2][6 + 3 * STATES + 5 * STATES * MOST], nine[2][9], h[2][HEADS], st[2][RINKOLZA_STATE_WORDS * RECORDS], t[2][RINKOLZA_TR_WORDS * RECORDS];
+    uint32_t kind = draw() % 2, filter = draw() % 3, n, r, got, two[2], other[2];
+    const uint32_t six[6] = {kind, filter, RINKOLZA_NO_LABEL, 0, RINKOLZA_NO_LABEL, 0};
+    draw_machine(drawn[0], 1);
+    draw_machine(drawn[1], 0);
+    need(rinkolza_open(six, 6, DRAWN(0)) == 0 && rinkolza_open(six, 6, DRAWN(1)) == 0, "an opening of drawn machines");
+    memset(memos, 0, sizeof memos);
+    for (n = 0; n < nine[0][RINKOLZA_SESSION_USED_STATES] && n < RECORDS / 2; n++) {
+        two[0] = two[1] = other[0] = other[1] = 77;
+        if (draw() % 64 == 0) memset(memos[draw() % 2], 0, sizeof memos[0]);
+        r = rinkolza_expand(DRAWN(0), n, two, 2);
+        got = rinkolza_trusted_expand(DRAWN(1), memos[0], memos[1], n, other, 2);
+        need(got == r && memcmp(two, other, sizeof two) == 0 && memcmp(nine[0], nine[1], sizeof nine[0]) == 0, "one by one: another answer");
+        expanded += r == 0;
+    }
+    r = rinkolza_run(DRAWN(0));
+    got = rinkolza_trusted_run(DRAWN(1), memos[0], memos[1], 0, RINKOLZA_MAX, other, 2);
+    need(got == r && memcmp(nine[0], nine[1], sizeof nine[0]) == 0 && memcmp(h[0], h[1], sizeof h[0]) == 0, "one by one: the run");
+    need(memcmp(st[0], st[1], sizeof st[0]) == 0 && memcmp(t[0], t[1], sizeof t[0]) == 0, "one by one: other records");
+}
+
 int main(void) {
     size_t n;
     int round;
@@ -223,7 +301,7 @@ int main(void) {
         all_calls(6, 9, 2, HEADS, n, LEN(trs), 0);
         all_calls(6, 9, 2, HEADS, LEN(states), n, 0);
     }
-    need(open_it() == 0 && expand_it(0) == 0, "half a run");
+    need(open_anew() == 0 && expand_it(0) == 0, "half a run");
     for (n = 0; n <= 24; n++) {
         all_calls(6, 9, 2, HEADS, n, LEN(trs), 0);
         all_calls(6, 9, 2, HEADS, LEN(states), n, 0);
@@ -232,6 +310,8 @@ int main(void) {
         all_calls(6, 9, 2, 1 + draw() % 4, draw() % 48, draw() % 40, (int)(draw() % 4));
     }
     need(trusted > 10000, "few calls that do not check");
-    fprintf(stderr, "%lu calls, %lu refused, %lu made without checks too\n", calls, refused, trusted);
+    for (round = 0; round < 400; round++) one_by_one();
+    need(recalled > 1000 && expanded > 10000, "few expansions with memos that know something");
+    fprintf(stderr, "%lu calls, %lu refused, %lu made without checks too, %lu of them expanded by memos of calls before; %lu expansions of drawn machines\n", calls, refused, trusted, recalled, expanded);
     return 0;
 }

@@ -15,6 +15,8 @@ static const uint32_t m1[] = {3, 2, 1, 0, 0, 0, 1, 0, 0, 2, 0, 0, 0, 1, 0, 1, 0,
 static const uint32_t m2[] = {3, 2, 1, 0, 0, 0, 1, 0, 0, 2, 0, 0, 0, 1, 3, 0, 7, 4, 1, 0, 5, 8, 1, 2, 0};
 static const char *const sides[3] = {"input", "output", "both"};
 static uint32_t heads[16384], session[9], *states, *trs, *weights;
+/* Zeros, as they must be after the one opening; from then on the library's own. */
+static uint32_t memo1[RINKOLZA_MEMO_WORDS], memo2[RINKOLZA_MEMO_WORDS];
 static size_t room; /* records of each sort */
 
 static void lengthen(size_t more) {
@@ -31,7 +33,7 @@ int main(void) {
     refused = rinkolza_open(settings, 6, session, 9, LENT);
     /* A run in pieces of two states: next[0] is the state to go on with, next[1] how many are left. */
     while (!refused && next[1] > 0) {
-        refused = rinkolza_trusted_run(session, 9, LENT, next[0], 2, next, 2);
+        refused = rinkolza_trusted_run(session, 9, LENT, memo1, memo2, next[0], 2, next, 2);
         if (refused != RINKOLZA_REFUSED_NO_ROOM || room >= RINKOLZA_LIMIT) continue;
         fprintf(stderr, "refused 13 with room for %lu\n", (unsigned long)room);
         lengthen(2 * room), refused = 0;

@@ -20,6 +20,7 @@ static const uint32_t settings[6] = {RINKOLZA_COST, RINKOLZA_SEQUENCE, RINKOLZA_
 /* Two states, inputs marked sorted, so that machine 1 is walked: the first takes the labels 1 to 3, the second 1 and 3. */
 static const uint32_t m2[6 + 3 * 2 + 5 * 5] = {2, 5, 1, 1, 0, 0, 1, 1, 4, 4, 1, 0, 1, 11, 1, 1, 2, 2, 12, 2, 0, 3, 3, 13, 3, 1, 0, 1, 21, 1, 0, 5, 3, 23, 2, 1, 0};
 static uint32_t *m1, session[9], *heads, *states, *trs, *weights, *plain_states, *plain_trs, *plain_heads;
+static uint32_t memo1[RINKOLZA_MEMO_WORDS], memo2[RINKOLZA_MEMO_WORDS];
 static size_t state_room, tr_room, plain_found, plain_stored;
 static double begun;
 
@@ -126,9 +127,12 @@ static double run(void) {
     seconds();
     need(rinkolza_open(settings, 6, session, 9, LENT) == 0, "the opening");
     need(session[RINKOLZA_SESSION_SIDE] == RINKOLZA_SIDE_INPUT, "the side");
+    /* What they know of the machines of another opening is not true of these. */
+    memset(memo1, 0, sizeof memo1);
+    memset(memo2, 0, sizeof memo2);
     opened = seconds();
     while (next[1] > 0) {
-        refused = rinkolza_trusted_run(session, 9, LENT, next[0], RINKOLZA_MAX, next, 2);
+        refused = rinkolza_trusted_run(session, 9, LENT, memo1, memo2, next[0], RINKOLZA_MAX, next, 2);
         need(refused == 0 || (refused == RINKOLZA_REFUSED_NO_ROOM && next[1] > 0), "the run");
         if (refused) lengthen();
     }

@@ -11,6 +11,7 @@
 use crate::error::{reserve, Error, Refusal};
 use crate::prepare::Inputs;
 use crate::settings::Room;
+use std::fmt;
 
 /// What is lent at every call: the machines' words and the allowed lists.
 #[derive(Clone, Copy, Debug)]
@@ -30,6 +31,9 @@ pub struct Lent<'a> {
 pub const STATE_WORDS: usize = 6;
 /// The words of a transition record: input, output, weight, target, next.
 pub const TR_WORDS: usize = crate::words::TR;
+
+/// The words of a memo, one of which is lent for each machine to the calls that expand without checks.
+const MEMO_WORDS: usize = 5120;
 
 /// The three slices in which a composition is stored.
 #[derive(Clone, Debug, Default, PartialEq, Eq)]
@@ -248,11 +252,47 @@ pub fn records<'m>(lent: &Lent<'_>, session: &Session, memory: &'m Memory, n: u3
 /// the session and memory as the call before left them, or with words added behind the states and the transitions; and
 /// it holds here by construction: the one way to a value is an accepted opening (or a copy of a value, word for word),
 /// the fields are private, nothing hands out a way to write them, and only the calls and [`Owned::lengthen`] do.
-#[derive(Clone, Debug, PartialEq, Eq)]
+///
+/// Those of them that expand are lent two memos of what the machines' lists are like. They ask that the memos are zeros
+/// after the opening and are written by these calls alone: so they are here. Two values are equal where inputs, session
+/// and memory are; answers do not depend on the memos.
+#[derive(Clone, Debug)]
 pub struct Owned {
     inputs: Inputs,
     session: Session,
     memory: Memory,
+    memo1: Memo,
+    memo2: Memo,
+}
+
+impl PartialEq for Owned {
+    fn eq(&self, other: &Owned) -> bool {
+        self.inputs == other.inputs && self.session == other.session && self.memory == other.memory
+    }
+}
+
+impl Eq for Owned {}
+
+/// What is remembered of a machine's lists; its words are the library's own.
+#[derive(Clone)]
+struct Memo(Box<[u32; MEMO_WORDS]>);
+
+impl Memo {
+    /// One that knows nothing.
+    fn new() -> Result<Memo, Error> {
+        let words = zeros(MEMO_WORDS)?;
+        Ok(Memo(words.try_into().expect("as many words as a memo has")))
+    }
+
+    fn as_mut_ptr(&mut self) -> *mut u32 {
+        self.0.as_mut_ptr()
+    }
+}
+
+impl fmt::Debug for Memo {
+    fn fmt(&self, f: &mut fmt::Formatter<'_>) -> fmt::Result {
+        f.write_str("Memo(..)")
+    }
 }
 
 /// How far a piece of a run came.
@@ -270,7 +310,7 @@ pub struct Piece {
 macro_rules! trusted {
     ($name:ident, $ptr:ident, $own:expr, [$($after:expr),*]) => {{
         let lent = $own.inputs.lent();
-        // SAFETY: beside what `call!` says, the checks 1 to 8 pass, see `Owned`.
+        // SAFETY: beside what `call!` says, the checks 1 to 8 pass and the memos are as they must be, see `Owned`.
         call!($name, $ptr, [], $own.session, lent, $own.memory, [$($after),*])
     }};
 }
@@ -284,6 +324,7 @@ impl Owned {
     pub fn open(inputs: Inputs, room: Room) -> Result<Owned, Error> {
         let mut session = Session::default();
         let mut memory = Memory::new(room.within(Room::LARGEST))?;
+        let (memo1, memo2) = (Memo::new()?, Memo::new()?);
         let number = open(&inputs.settings, &inputs.lent(), &mut session, &mut memory);
         // Refused, nothing is handed out.
         match number {
@@ -291,6 +332,8 @@ impl Owned {
                 inputs,
                 session,
                 memory,
+                memo1,
+                memo2,
             }),
             refused => Err(Error::refused(Refusal::known(refused))),
         }
@@ -322,7 +365,13 @@ impl Owned {
             rinkolza_trusted_expand,
             as_mut_ptr,
             self,
-            [n, answer.as_mut_ptr(), answer.len()]
+            [
+                self.memo1.as_mut_ptr(),
+                self.memo2.as_mut_ptr(),
+                n,
+                answer.as_mut_ptr(),
+                answer.len()
+            ]
         ) {
             0 => Ok((answer[0], answer[1])),
             refused => Err(refused),
@@ -381,7 +430,14 @@ impl Owned {
             rinkolza_trusted_run,
             as_mut_ptr,
             self,
-            [n, k, answer.as_mut_ptr(), answer.len()]
+            [
+                self.memo1.as_mut_ptr(),
+                self.memo2.as_mut_ptr(),
+                n,
+                k,
+                answer.as_mut_ptr(),
+                answer.len()
+            ]
         );
         Piece {
             refused: (number != 0).then_some(number),
@@ -570,6 +626,8 @@ extern "C" {
         states_len: usize,
         trs: *mut u32,
         trs_len: usize,
+        memo1: *mut u32,
+        memo2: *mut u32,
         n: u32,
         answer: *mut u32,
         answer_len: usize,
@@ -665,6 +723,8 @@ extern "C" {
         states_len: usize,
         trs: *mut u32,
         trs_len: usize,
+        memo1: *mut u32,
+        memo2: *mut u32,
         n: u32,
         k: u32,
         answer: *mut u32,

@@ -1,12 +1,12 @@
-//! What costs about the same: state by state and a run, a shared tail and lists of their own. Were each call to check all that is used, the first would cost
-//! thirty times as much here; were the tail walked for each state, the second would cost ten thousand times as much. The bounds are far from both, and each
-//! time is the best of several, so that a busy machine does not matter.
+//! What costs about the same: state by state and a run, a shared tail and lists of their own. Were each call to check all that is used, or to forget what it
+//! has seen of the lists, the first would cost over a hundred times as much here; were the tail walked for each state, the second would cost ten thousand
+//! times as much. The bounds are far from all, and each time is the best of several, so that a busy machine does not matter.
 
 mod common;
 
 use common::{grid, LARGE};
 use rinkolza::sys::{self, Memory, Session};
-use rinkolza::{Composition, Inputs};
+use rinkolza::{Composition, Inputs, Machine, Options, Tr};
 use std::time::{Duration, Instant};
 
 /// The best of several times of what is done with a fresh composition, or with fresh memory.
@@ -20,9 +20,20 @@ fn best<T: Clone>(fresh: &T, mut work: impl FnMut(&mut T)) -> Duration {
     std::iter::repeat_with(time).take(7).min().unwrap()
 }
 
+/// A word of 2000 letters against a state with 6000: each expansion looks up one letter in the long list.
+fn letters() -> Inputs {
+    let one = |place| (place, Tr::new(1, 1 + 7 * place % 6000, 0, place + 1));
+    let word: Vec<_> = (0..2000).map(one).collect();
+    let known = |letter| (0, Tr::new(letter, 1, 0, 0));
+    let all: Vec<_> = (1..=6000).map(known).collect();
+    let word = Machine::from_lists(Some(0), &word, &[]).unwrap();
+    let all = Machine::from_lists(Some(0), &all, &[]).unwrap();
+    Inputs::of(&word, &all, &Options::default())
+}
+
 #[test]
 fn one_by_one_costs_about_a_run() {
-    let open = Composition::open_words(grid(71), LARGE, LARGE).unwrap();
+    let open = Composition::open_words(letters(), LARGE, LARGE).unwrap();
     let whole = best(&open, |composition| composition.run().unwrap());
     let single = best(&open, |composition| {
         let mut n = 0;
@@ -30,7 +41,7 @@ fn one_by_one_costs_about_a_run() {
             composition.expand(n).unwrap();
             n += 1;
         }
-        assert!(n > 5000, "{n}");
+        assert_eq!(n, 2001);
     });
     assert!(single <= 6 * whole, "{single:?} against {whole:?}");
 }

@@ -115,6 +115,8 @@ fn the_limit_and_the_records_are_as_in_the_header() {
     assert_eq!(defined(&header, "LIMIT"), LARGEST_COUNT);
     assert_eq!(defined(&header, "STATE_WORDS"), sys::STATE_WORDS);
     assert_eq!(defined(&header, "TR_WORDS"), sys::TR_WORDS);
+    let memo = format!("MEMO_WORDS: usize = {};", defined(&header, "MEMO_WORDS"));
+    assert!(include_str!("../src/sys.rs").contains(&memo));
     let room = format!(
         "states_len / {} and trs_len / {}",
         sys::STATE_WORDS,

@@ -1,12 +1,13 @@
-//! A run remembers what it has seen of the machines' lists; an expansion by itself remembers nothing. Both must answer
-//! and leave the same, in drawn compositions with room and without, and with machines of more states than it remembers.
+//! A run remembers what it has seen of the machines' lists, and so do expansions without checks, from call to call; an
+//! expansion that checks remembers nothing. All must answer and leave the same, in drawn compositions with room and
+//! without, and with machines of more states than are remembered.
 
 mod common;
 
-use common::choice::{inputs, records_of, Met, INNER, MAX, WEIGHT};
+use common::choice::{inputs, list, records_of, words, Met, Words, INNER, MAX, WEIGHT};
 use common::{Draw, Fixed, World};
-use rinkolza::sys::{Owned, STATE_WORDS};
-use rinkolza::Room;
+use rinkolza::sys::{self, Owned};
+use rinkolza::{Inputs, Room};
 
 /// How many states of a machine are remembered at once: s and s + 1024 share an entry.
 const REMEMBERED: usize = 1024;
@@ -95,17 +96,52 @@ fn weigh_down(draw: &mut Draw, heavy: (&mut [u32], usize), other: (&mut [u32], u
     }
 }
 
-/// How often a run asks for the list of a machine's state while its entry is that of another state.
-fn replaced(owned: &Owned, machine: usize) -> usize {
+/// The states of a machine whose lists are asked for, where composed states are expanded in this order: with a sigma
+/// label none.
+fn asked(words: Words<'_>, order: impl Iterator<Item = u32>, machine: usize) -> Vec<u32> {
+    let [_, _, sigma1, _, sigma2, _] = words.0.settings;
+    let of = |n| words.2.state(n).expect("the state is found")[machine];
+    match (sigma1, sigma2) {
+        (MAX, MAX) => order.map(of).collect(),
+        _ => Vec::new(),
+    }
+}
+
+/// How often the entry of a state that is asked for is that of another state.
+fn replaced(asked: &[u32]) -> usize {
     let mut entries = vec![MAX; REMEMBERED];
-    let records = owned.memory().states.chunks_exact(STATE_WORDS);
-    let asked = records.take(owned.session().used_states() as usize);
-    let other = asked.filter(|record| {
-        let state = record[machine];
+    let other = asked.iter().filter(|&&state| {
         let held = std::mem::replace(&mut entries[state as usize % REMEMBERED], state);
         held != MAX && held != state
     });
     other.count()
+}
+
+/// Whether the records of a state's list are not consecutive.
+fn is_scattered(words: &[u32], state: u32) -> bool {
+    let nexts = list(words, state).into_iter().map(|record| record[4]);
+    let first = words[6 + 3 * state as usize];
+    let own: Vec<u32> = std::iter::once(first).chain(nexts).collect();
+    own.windows(2).any(|pair| pair[1] > pair[0] + 1)
+}
+
+const PLENTY: Room = Room {
+    heads: 16384,
+    states: 28_000,
+    trs: 100_000,
+};
+
+/// Two machines, one of them with up to three times as many states as are remembered.
+fn large_inputs(draw: &mut Draw, round: usize) -> Inputs {
+    let (states1, states2) = [(3000, 3), (3, 3000)][round % 2];
+    let mut drawn = inputs(draw, states1, states2);
+    let first = (&mut drawn.first[..], INNER[0]);
+    let second = (&mut drawn.second[..], INNER[1]);
+    match round % 2 {
+        0 => weigh_down(draw, first, second),
+        _ => weigh_down(draw, second, first),
+    }
+    drawn
 }
 
 #[test]
@@ -113,23 +149,13 @@ fn runs_that_forget() {
     let (mut draw, mut met) = (Draw(89), Met::default());
     let mut forgot = [0; 2];
     for round in 0..30 {
-        let (states1, states2) = [(3000, 3), (3, 3000)][round % 2];
-        let mut drawn = inputs(&mut draw, states1, states2);
-        let first = (&mut drawn.first[..], INNER[0]);
-        let second = (&mut drawn.second[..], INNER[1]);
-        match round % 2 {
-            0 => weigh_down(&mut draw, first, second),
-            _ => weigh_down(&mut draw, second, first),
-        }
-        let room = Room {
-            heads: 16384,
-            states: 28_000,
-            trs: 100_000,
-        };
-        let opened = Owned::open(drawn, room).unwrap();
+        let opened = Owned::open(large_inputs(&mut draw, round), PLENTY).unwrap();
         let found = run_and_expand(&mut draw, &mut met, &opened);
-        forgot[0] += replaced(&found, 0);
-        forgot[1] += replaced(&found, 1);
+        let words = (found.inputs(), found.session(), found.memory());
+        let states = 0..found.session().used_states();
+        for (machine, forgot) in forgot.iter_mut().enumerate() {
+            *forgot += replaced(&asked(words, states.clone(), machine));
+        }
     }
     println!("{forgot:?} entries replaced");
     assert!(forgot.iter().all(|&count| count > 1000));
@@ -139,4 +165,46 @@ fn runs_that_forget() {
         too_large: 0,
         no_room: 0,
     });
+}
+
+/// Expands up to 1500 states, one by one in a drawn order, without checks and with them; the first go on from copies now
+/// and then. Answers the order, and what is left.
+fn expand_both(draw: &mut Draw, inputs: Inputs) -> (Vec<u32>, Fixed) {
+    let mut owned = Owned::open(inputs.clone(), PLENTY).unwrap();
+    let mut checked = Fixed::open(inputs, PLENTY).unwrap();
+    let (mut order, mut waiting) = (Vec::new(), vec![0]);
+    while order.len() < 1500 && !waiting.is_empty() {
+        let n = waiting.swap_remove(draw.below(waiting.len() as u32) as usize);
+        let found = checked.found();
+        let lent = checked.inputs.lent();
+        let expanded = sys::expand(&lent, &mut checked.session, &mut checked.memory, n);
+        assert_eq!(owned.expand(n), expanded, "{n} of {:?}", checked.inputs);
+        if draw.one_in(100) {
+            owned = owned.clone();
+        }
+        waiting.extend(found..checked.found());
+        order.push(n);
+    }
+    let same = *owned.session() == checked.session && *owned.memory() == checked.memory;
+    assert!(same, "{:?}", checked.inputs);
+    (order, checked)
+}
+
+#[test]
+fn expansions_that_forget() {
+    let mut draw = Draw(113);
+    let (mut forgot, mut scattered) = ([0; 2], [0; 2]);
+    for round in 0..24 {
+        let drawn = large_inputs(&mut draw, round);
+        let (order, left) = expand_both(&mut draw, drawn);
+        let machines = [&left.inputs.first, &left.inputs.second];
+        for (machine, list) in machines.into_iter().enumerate() {
+            let asked = asked(words(&left), order.iter().copied(), machine);
+            forgot[machine] += replaced(&asked);
+            let not_consecutive = asked.iter().filter(|&&state| is_scattered(list, state));
+            scattered[machine] += not_consecutive.count();
+        }
+    }
+    println!("{forgot:?} entries replaced, {scattered:?} lists not consecutive");
+    assert!(forgot.iter().chain(&scattered).all(|&count| count > 300));
 }

@@ -1,14 +1,18 @@
-//! Every call does with a small stack: all ten are made on a thread with 160 KiB of it, on machines that take the checks through all their paths, and answer as on the main thread.
+//! Every call does with a small stack: all ten are made on a thread with 160 KiB of it, 48 of them taken where nothing is checked, on machines that take the checks through all their
+//! paths, and answer as on the main thread.
 
 mod common;
 
 use common::{grid, Draw, Fixed, World};
 use rinkolza::sys::{self, Owned, Piece};
 use rinkolza::{words, Inputs, Room, Tr};
+use std::hint::black_box;
 use std::thread;
 
 /// The header's bound is lower; the rest is for the test's own frames.
 const STACK: usize = 160 * 1024;
+/// By so much the bound is lower for the calls that do not check.
+const TAKEN: usize = 48 * 1024;
 const FEW: Room = Room {
     heads: 64,
     states: 8,
@@ -88,13 +92,23 @@ fn on_a_small_stack<T: Send + 'static>(work: impl FnOnce() -> T + Send + 'static
     thread.expect("a thread").join().expect("no panic")
 }
 
+/// Takes a part of the stack. (A thread with less of it could be given one that had more.)
+fn with_less<T>(work: impl FnOnce() -> T) -> T {
+    let taken = [0_u8; TAKEN];
+    black_box(&taken);
+    let done = work();
+    black_box(&taken);
+    done
+}
+
 /// All calls on these machines give the same with a small stack; with damaged memory too. Says what the opening answered
 /// and the side.
 fn compare(inputs: &Inputs) -> Result<u32, u32> {
     let twice = |inputs: &Inputs| {
         let (here, there) = (inputs.clone(), inputs.clone());
         let answers = (checked(here.clone()), trusted(here));
-        assert!(answers == on_a_small_stack(|| (checked(there.clone()), trusted(there))));
+        let small = || (checked(there.clone()), with_less(|| trusted(there)));
+        assert!(answers == on_a_small_stack(small));
         answers
     };
     let (checked, _) = twice(inputs);

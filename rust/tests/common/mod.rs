@@ -3,6 +3,8 @@
 #![allow(dead_code)]
 
 pub mod choice;
+pub mod moves;
+pub mod wide;
 
 use rinkolza::sys::{self, Memory, Session, TR_WORDS};
 use rinkolza::{words, Composition, Inputs, Room, Tr};
