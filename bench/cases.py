@@ -3,9 +3,10 @@
 
 cases.py NAME [SCALE] [SEED] > case
 
-NAME is random, epsilon, fanout, chain or kerning. SCALE (1) makes it so many times as large: machine 2 in random, epsilon and chain (the
-rule of heads spreads 31 times as far by machine 2's states as by machine 1's), both in fanout, the text in kerning. FILTER (0) and
-KIND (0: cost, 1: count) come from the environment. All lists are consecutive and sorted on the matched side, which is marked so.
+NAME is random, epsilon, fanout, chain, kerning, or for an expansion of many targets one-label, one-label-twice, labels, labels-twice.
+SCALE (1) makes it so many times as large: machine 2 in random, epsilon and chain (the rule of heads spreads 31 times as far by machine
+2's states as by machine 1's), both in fanout, the text in kerning, the targets in the others. FILTER (0) and KIND (0: cost, 1: count)
+come from the environment. All lists are consecutive and sorted on the matched side, which is marked so.
 """
 import os
 import random
@@ -47,6 +48,15 @@ def text(word, weight, end, marks=(0, 1, 0)):
     return machine(len(word) + 1, {len(word): end}, {i: [(x, x, weight, i + 1)] for i, x in enumerate(word)}, 1, list(marks))
 
 
+def wide(found, times, labels):
+    """One state whose expansion finds so many new ones, each so many times: each by a label of its own, or all by one label."""
+    targets = range(1, found + 1)
+    if labels:
+        arcs = [(x, x, ONE, x) for x in targets]
+        return machine(found + 1, {}, {0: arcs * times}, 1, [0, 1, 0]), machine(found + 1, {}, {0: arcs}, 0, [1, 0, 0])
+    return text([1], ONE, ONE), machine(found + 1, {}, {0: [(1, 1, ONE, x) for x in targets] * times}, 0, [1, 0, 0])
+
+
 def pair(name, k, rng):
     if name == 'random':  # many pairs of states
         return drawn(120, 6, 20, rng, 1, 0.0), drawn(120 * k, 6, 20, rng, 0, 0.0)
@@ -65,6 +75,8 @@ def pair(name, k, rng):
         word = [rng.randrange(1, glyphs + 1) for _ in range(length)]
         arcs = {s: [(g, g, 1 + rng.randrange(3), g) for g in range(1, glyphs + 1)] for s in range(glyphs + 1)}
         return text(word, ONE, ONE), machine(glyphs + 1, {s: ONE for s in range(glyphs + 1)}, arcs, 0, [1, 0, 0])
+    if name in ('one-label', 'one-label-twice', 'labels', 'labels-twice'):
+        return wide(16384 * k, 2 if name.endswith('twice') else 1, name.startswith('labels'))
     raise SystemExit('no such case: ' + name)
 
 

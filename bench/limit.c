@@ -1,6 +1,7 @@
-// The same composition by hand, without sigma and for costs, on the same words, in plain C and with no checks: what a
-// compiler makes of the bare work. A pair of states is packed into one word of a state record of five, so each machine
-// has at most 65536 states, and all lists are consecutive.
+// The same composition by hand, without sigma, on the same words, in plain C and with no checks: what a compiler makes
+// of the bare work. A pair of states is packed into one word of a state record of five, so each machine has at most
+// 65536 states, and all lists are consecutive. It is compiled for one kind of weight, so that no move asks which it is:
+// KIND 0 (costs) or 1 (counts; their products must fit a word).
 //
 // limit REPEATS HEADS [MODE] < case
 //
@@ -11,6 +12,12 @@
 #include <stdlib.h>
 #include <string.h>
 #include <time.h>
+#ifndef KIND
+#define KIND 0
+#endif
+#define ONE KIND  // the kind's one
+#define STATES 3000000u
+#define TRS 10000000u
 typedef uint32_t u32;
 static u32 *m[2];
 static u32 filter;
@@ -65,11 +72,19 @@ static int keep(int kind, u32 f) {  // 0: 1 alone, 1: 2 alone, 2: both, 3: label
 static u32 bad;
 static int storing, probing;
 static u32 first;
+static inline uint64_t product(u32 w1, u32 w2) {
+  if (KIND == 1) return (uint64_t)w1 * w2;
+  return (w1 == 0xffffffffu || w2 == 0xffffffffu) ? 0xffffffffu : (uint64_t)w1 + w2;
+}
+static inline int too_large(uint64_t w, u32 w1, u32 w2) {
+  if (KIND == 1) return w > 0xffffffffu;
+  return w >= 0xffffffffu && w1 != 0xffffffffu && w2 != 0xffffffffu;
+}
 static inline void move(u32 in, u32 out, u32 w1, u32 w2, u32 t1, u32 t2, int f) {
   if (f < 0) return;
-  uint64_t w = (w1 == 0xffffffffu || w2 == 0xffffffffu) ? 0xffffffffu : (uint64_t)w1 + w2;
+  uint64_t w = product(w1, w2);
   if (!storing) {
-    if (w >= 0xffffffffu && w1 != 0xffffffffu && w2 != 0xffffffffu) bad++;
+    if (too_large(w, w1, w2)) bad++;
     if (probing) bad += find(t1, t2, (u32)f, 0) == 0xfffffff0;
     return;
   }
@@ -102,18 +117,18 @@ static void walk(u32 s1, u32 s2, u32 f, int input) {
   for (u32 k = 0; k < ln[mi] && rec(m[mi], fst[mi] + k)[ms] == 0; k++) {
     u32 *r = rec(m[mi], fst[mi] + k);
     if (mi == 1)
-      move(0, r[1], 0, r[2], sw, r[3], keep(1, f));
+      move(0, r[1], ONE, r[2], sw, r[3], keep(1, f));
     else
-      move(r[0], 0, r[2], 0, r[3], sw, keep(0, f));
+      move(r[0], 0, r[2], ONE, r[3], sw, keep(0, f));
   }
   for (u32 j = 0; j < ln[wi]; j++) {
     u32 *a = rec(m[wi], fst[wi] + j);
     u32 x = a[ws];
     if (x == 0) {
       if (mi == 1)
-        move(a[0], 0, a[2], 0, a[3], s2, keep(0, f));
+        move(a[0], 0, a[2], ONE, a[3], s2, keep(0, f));
       else
-        move(0, a[1], 0, a[2], s1, a[3], keep(1, f));
+        move(0, a[1], ONE, a[2], s1, a[3], keep(1, f));
     }
     u32 k = x == 0 ? 0 : lower(mi, x);
     for (; k < ln[mi]; k++) {
@@ -173,11 +188,15 @@ int main(int c, char **v) {
   filter = s[1];
   m[0] = words();
   m[1] = words();
+  if (s[0] != KIND || m[0][0] > 65536 || m[1][0] > 65536) {
+    fprintf(stderr, "another kind of weight, or too many states\n");
+    return 1;
+  }
   heads = malloc(4 * nh);
-  st = malloc(20 * 3000000u);
-  tr = malloc(20 * 10000000u);
-  memset(st, 0, 20 * 3000000u);
-  memset(tr, 0, 20 * 10000000u);
+  st = malloc(20 * STATES);
+  tr = malloc(20 * TRS);
+  memset(st, 0, 20 * STATES);
+  memset(tr, 0, 20 * TRS);
   int side = m[0][4] == 1 && m[1][3] == 1 ? 2 : m[0][4] == 1 ? 0 : 1;
   int lo = c > 3 ? atoi(v[3]) : 1, hi = c > 3 ? lo : 3;
   for (int mode = lo; mode <= hi; mode++) {
@@ -190,6 +209,6 @@ int main(int c, char **v) {
       double t = (b.tv_sec - a.tv_sec) + 1e-9 * (b.tv_nsec - a.tv_nsec);
       if (t < best) best = t;
     }
-    printf("limit mode %d seconds %.6f states %u transitions %u (%u)\n", mode, best, us, ut, bad & 1);
+    printf("limit mode %d best %.9f states %u transitions %u (%u)\n", mode, best, us, ut, bad & 1);
   }
 }
