@@ -1,5 +1,5 @@
 #!/bin/sh
-# Each must-fail edit says at which input the edited text is wrong. As each proves its crate again, a crate of definitions has at most five, a crate of code
+# Each must-fail edit says at which input the edited text is wrong, and its old text stands in one line of its file. As each proves its crate again, a crate of definitions has at most five, a crate of code
 # at most three, and at most one where it takes over 20 seconds to prove. The seconds are those of the last table `| crate | seconds | edits |` of
 # docs/LANDINGS.md, which has every crate of crates.txt with the number of its edits.
 set -eu
@@ -36,5 +36,11 @@ END
 
 for edit in crates/*/must-fail/*.edit; do
     grep -q '^\(.* \)\{0,1\}Wrong ' "$edit" || say "$edit does not say where it is wrong"
+    while IFS= read -r line; do
+        case $line in
+        'file: '*) file=${edit%/must-fail/*}/${line#file: } ;;
+        'old: '*) [ "$(grep -cF -- "${line#old: }" "$file")" -eq 1 ] || say "$edit: not one line of $file has ${line#old: }" ;;
+        esac
+    done <"$edit"
 done
 exit $bad
