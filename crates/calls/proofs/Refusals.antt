@@ -53,12 +53,12 @@ unfoldable pub openings : List Opening
 openings =
     -- 1: each setting's last value and the one above it
     at (setting 2 0 0 0 0 0) [] [] [] [] 1
-    ∷ at (setting 0 3 0 0 0 0) [] [] [] [] 1
+    ∷ at (setting 0 6 0 0 0 0) [] [] [] [] 1
     ∷ at (setting 0 0 0 3 0 0) [] [] [] [] 1
     ∷ at (setting 0 0 0 0 0 3) [] [] [] [] 1
     ∷ at (setting MAX MAX 0 MAX 0 MAX) [] [] [] [] 1
     -- 2, 3
-    ∷ at (setting 1 2 0 2 0 2) [] [] [] [] 2
+    ∷ at (setting 1 5 0 2 0 2) [] [] [] [] 2
     ∷ at (setting 1 2 0 2 0 2) falling [] [] [] 3
     -- 4: either sigma label, before 5 to 7
     ∷ at (setting 1 2 0 2 5 2) falling falling [] [] 4

@@ -1,16 +1,16 @@
--- Two small machines composed: an accepting list of moves under each of the papers' filters, with its labels and its weight; moves that are not kept, and why.
+-- Two small machines composed: an accepting list of moves under each of the papers' filters and OpenFst's, with its labels and its weight; moves that are not kept, and why.
 use mathlib.Core.Path.{_≡_, refl, sym, ap}
 use mathlib.Core.Bool.{Bool, true, false, true≢false, false≢true}
 use mathlib.Core.List.{List, [], _∷_, flatMap, List·Memᴰ·head as here, List·Memᴰ·not-nil, List·Memᴰ·cases-cons}
 use mathlib.Core.Logic.{⊎-elim}
-use mathlib.Core.Option.{some, Option·none-ne-some, Option·some-injective}
+use mathlib.Core.Option.{none, some, Option·none-ne-some, Option·some-injective}
 use Prim.Native.Nat.{ℕ}
 use native.Mathlib.Omega.{arith}
 use lib.ListN.{getD}
 use Rattle.lists.specs.Lists.{keepIf, every}
 use Rattle.papers.specs.Machine.{ε, Machine}
 use Rattle.papers.specs.Weight.{Cost, finite, infinite, tropical, naturals}
-use Rattle.papers.specs.Filter.{lone1, lone2, bothEpsilon, aLabel, noEpsilon, onlyEpsilons, factsOf, Filter, epsilonSequencing, epsilonSequencingMirrored, epsilonMatching}
+use Rattle.papers.specs.Filter.{lone1, lone2, bothEpsilon, aLabel, noEpsilon, onlyEpsilons, Facts, factsOf, Filter, epsilonSequencing, epsilonSequencingMirrored, epsilonMatching, nullFilter, trivialFilter, noMatchFilter}
 use Rattle.papers.specs.Composition.{Edge, rest, along, equal, Composed, Triple, Edges, Start, KeptMove}
 use Rattle.papers.specs.Paths.{word, path1, path2, Agree, Matching, inputWord, outputWord, Ends, EndsBoth, AcceptingRun, AcceptingPath, pathWeight, movesWeight}
 use Rattle.papers.proofs.Forms.{pair-meets, lone1-is, lone2-is}
@@ -117,7 +117,30 @@ mirrored-run =
 pub matched-run : AcceptingRun tropical finite (with epsilonMatching) matched
 matched-run = (at 0 0 0, (refl, refl, refl), (0, moveε epsilonMatching 0 0 refl, (0, move5 epsilonMatching 0 0 refl, ((refl, refl), finite≢infinite))))
 
--- the first of them: its labels, its paths, its weight in both semirings, and that of its paths
+-- null accepts the last of these lists, which is the only one without a rest; trivial all three; no-match the first two
+pub null-run : AcceptingRun tropical finite (with nullFilter) matched
+null-run = (at 0 0 0, (refl, refl, refl), (0, moveε nullFilter 0 0 refl, (0, move5 nullFilter 0 0 refl, ((refl, refl), finite≢infinite))))
+
+lone-runs : (F : Filter) → ((φ : Facts) (f : ℕ) → (F lone1 φ f ≡ some 0) × (F lone2 φ f ≡ some 0) × (F aLabel φ f ≡ some 0))
+    → AcceptingRun tropical finite (with F) sequenced × AcceptingRun tropical finite (with F) mirrored
+lone-runs F e = (
+  (at 0 0 0, (refl, refl, refl), (0, move1 F 0 0 0 (e _ 0 .0), (0, move2 F 1 0 0 (e _ 0 .1), (0, move5 F 0 0 (e _ 0 .2), ((refl, refl), finite≢infinite))))),
+  (at 0 0 0, (refl, refl, refl), (0, move2 F 0 0 0 (e _ 0 .1), (0, move1 F 1 0 0 (e _ 0 .0), (0, move5 F 0 0 (e _ 0 .2), ((refl, refl), finite≢infinite))))),
+)
+
+pub trivial-runs : AcceptingRun tropical finite (with trivialFilter) sequenced × AcceptingRun tropical finite (with trivialFilter) mirrored × AcceptingRun tropical finite (with trivialFilter) matched
+trivial-runs =
+    let r = lone-runs trivialFilter (λ φ f. (refl, refl, refl)) in
+    (r .0, r .1, (at 0 0 0, (refl, refl, refl), (0, moveε trivialFilter 0 0 refl, (0, move5 trivialFilter 0 0 refl, ((refl, refl), finite≢infinite)))))
+
+pub no-match-runs : AcceptingRun tropical finite (with noMatchFilter) sequenced × AcceptingRun tropical finite (with noMatchFilter) mirrored
+no-match-runs = lone-runs noMatchFilter (λ φ f. (refl, refl, refl))
+
+-- what they block
+pub further-block : (φ : Facts) (f : ℕ) → (nullFilter lone1 φ f ≡ none) × (nullFilter lone2 φ f ≡ none) × (noMatchFilter bothEpsilon φ f ≡ none)
+further-block φ f = (refl, refl, refl)
+
+-- the first list: its labels, its paths, its weight in both semirings, and that of its paths
 pub sequenced-labels :
     (inputWord (with epsilonSequencing) sequenced ≡ 1 ∷ 2 ∷ [])
     × (outputWord (with epsilonSequencing) sequenced ≡ 7 ∷ [])

@@ -1,11 +1,13 @@
--- Finite ⊕-sums: they do not depend on the order of the list, so that a sum over what has a property is one element; and the product of two sums is the sum over the pairs.
+-- Finite ⊕-sums: they do not depend on the order of the list, so that a sum over what has a property is one element; and the product of two sums is the sum over the pairs. The least of weights.
 use mathlib.Core.Path.{_≡_, refl, sym, _∙_, ap, ap₂, subst}
 use mathlib.Core.List.{List, [], _∷_, _++_, map, flatMap, List·Memᴰ as In, List·Memᴰ·head as here, List·Memᴰ·tail as there, List·Memᴰ·not-nil, List·Memᴰ·cases-cons, List·Memᴰ·append-cases, Memᴰ·append-left, Memᴰ·append-right, Memᴰ·cast}
 use mathlib.Core.Logic.{⊎-elim}
+use Prim.Native.Nat.{ℕ, _≤_, min}
+use native.Mathlib.Omega.{arith}
 use Rattle.lists.specs.Lists.{Distinct}
 use Rattle.lists.proofs.Listed.{pairsOf}
-use Rattle.papers.specs.Weight.{Semiring, CommutativeSemiring}
-use Rattle.papers.specs.Sums.{total, SumIs}
+use Rattle.papers.specs.Weight.{Semiring, CommutativeSemiring, Cost, finite, least, tropical}
+use Rattle.papers.specs.Sums.{total, SumIs, LeastIs}
 
 -- a member splits its list
 splits : {A : Type 0} (a : A) (l : List A) → In a l → (xs : List A) × (ys : List A) × (l ≡ xs ++ (a ∷ ys))
@@ -93,3 +95,12 @@ module _ (K : Semiring) (L : CommutativeSemiring K) where
       total-append (λ (p : A × B). K .times (v (p .0)) (w (p .1))) (map (λ y. (x, y)) ys) (pairsOf xs ys)
       ∙ (ap₂ (K .plus) (total-map (λ y. (x, y)) (λ (p : A × B). K .times (v (p .0)) (w (p .1))) ys ∙ total-scaled (v x) w ys) (total-pairs v w xs ys)
       ∙ sym (plus-times (v x) (total K v xs) (total K w ys)))
+
+  -- the least is one element, too
+  pub least-unique : {A : Type 0} (P : A → Type 0) (w : A → K .Element) (d e : K .Element) → LeastIs K P w d → LeastIs K P w e → d ≡ e
+  least-unique P w d e x y =
+      sym (x .3 (y .0) (y .1)) ∙ (ap (K .plus d) (y .2) ∙ (L .plus-comm d e ∙ (ap (K .plus e) (sym (x .2)) ∙ y .3 (x .0) (x .1))))
+
+-- under costs no other is below it
+pub least-cost : {A : Type 0} (P : A → Type 0) (w : A → Cost) (n m : ℕ) → LeastIs tropical P w (finite n) → (b : A) → P b → w b ≡ finite m → n ≤ m
+least-cost P w n m x b p e = let h : finite (min n m) ≡ finite n = ap (least (finite n)) (sym e) ∙ x .3 b p in let z : min n m ≡ n = cc in omega (arith, z)

@@ -1,5 +1,5 @@
 -- A composition filter. ARS: Allauzen, Riley, Schalkwyk 2009, "A generalized composition algorithm for weighted finite-state transducers".
-use mathlib.Core.Bool.{Bool, not, _&&_}
+use mathlib.Core.Bool.{Bool, true, false, not, _&&_, cond}
 use mathlib.Core.Option.{Option, none, some}
 use Prim.Native.Nat.{ℕ, zero, suc}
 use lib.Dec.{eqb}
@@ -67,3 +67,33 @@ epsilonMatching lone2 φ (suc (suc f)) = some 2
 epsilonMatching bothEpsilon φ zero = some 0
 epsilonMatching bothEpsilon φ (suc f) = none
 epsilonMatching aLabel φ f = some 0
+
+-- OpenFst's three further filters, as its compose-filter.h documents them. They have one filter state, 0, and look at the kind of move alone: those that are allowed are kept.
+abbrev pub keeping : (MoveKind → Bool) → Filter
+keeping allowed k φ f = cond (allowed k) (some 0) none
+
+-- a machine rests: an inner label is ε^L, there kNoLabel
+abbrev pub rests : MoveKind → Bool
+rests lone1 = true
+rests lone2 = true
+rests bothEpsilon = false
+rests aLabel = false
+
+-- an ε of T1 is matched with an ε of T2
+abbrev pub matchesEpsilons : MoveKind → Bool
+matchesEpsilons lone1 = false
+matchesEpsilons lone2 = false
+matchesEpsilons bothEpsilon = true
+matchesEpsilons aLabel = false
+
+-- NullComposeFilter: only exact matches of the labels of T1 and T2, ε among them; no machine rests
+abbrev pub nullFilter : Filter
+nullFilter = keeping (λ k. not (rests k))
+
+-- TrivialComposeFilter: all matches of ε, which may leave redundant ε-paths
+abbrev pub trivialFilter : Filter
+trivialFilter = keeping (λ k. true)
+
+-- NoMatchComposeFilter: an ε of T1 is not matched with an ε of T2; all other matches, which may leave redundant ε-paths
+abbrev pub noMatchFilter : Filter
+noMatchFilter = keeping (λ k. not (matchesEpsilons k))

@@ -19,6 +19,11 @@ module _ (K : Semiring) where
   abbrev pub SumIs : {A : Type 0} → (A → Type 0) → (A → K .Element) → K .Element → Type 0
   SumIs {A} P w e = (l : List A) × Enumerates l P × (total w l ≡ e)
 
+  -- Ours: e is the least of the w a over all a with P, in the order of ⊕: it is one of them, and ⊕ with another leaves it as it is. In the tropical semiring, where ⊕ is min, the
+  -- least cost (`least-cost` in proofs/SumLaws). Under counts, where ⊕ adds, there is none but where all are 0. No other element is: `least-unique` in proofs/SumLaws.
+  abbrev pub LeastIs : {A : Type 0} → (A → Type 0) → (A → K .Element) → K .Element → Type 0
+  LeastIs {A} P w e = (a : A) × P a × (w a ≡ e) × ((b : A) → P b → K .plus e (w b) ≡ e)
+
 module _ (K : Semiring) (value : ℕ → K .Element) where
   -- MPR, P(I, x, y, F): p is an accepting path with the input label x and the output label y, "x:y" for short
   abbrev pub PathOf : Machine → List ℕ → List ℕ → List ℕ → Type 0

@@ -115,9 +115,9 @@ settings kind filter mode1 mode2 = record { kind = kind; filter = filter; sigma1
 
 -- "kind, filter or rewrite mode outside its range"
 pub ranges :
-    (settingsOk (settings 1 2 2 2) ≡ true)
+    (settingsOk (settings 1 5 2 2) ≡ true)
     × (settingsOk (settings 2 0 0 0) ≡ false)
-    × (settingsOk (settings 0 3 0 0) ≡ false)
+    × (settingsOk (settings 0 6 0 0) ≡ false)
     × (settingsOk (settings 0 0 3 0) ≡ false)
     × (settingsOk (settings 0 0 0 3) ≡ false)
 unfolding settingsOk

@@ -58,6 +58,36 @@ rustCases =
     caseOf (0 ∷ 1 ∷ 4294967295 ∷ 0 ∷ 4294967295 ∷ 0 ∷ []) mixed1 mixed2 none none 0 0 0 (2 ∷ 1 ∷ 0 ∷ 0 ∷ 0 ∷ 1 ∷ 0 ∷ 1 ∷ 1 ∷ 0 ∷ 1 ∷ 0 ∷ 0 ∷ 1 ∷ 0 ∷ 6 ∷ 1 ∷ 0 ∷ 0 ∷ 0 ∷ 2 ∷ 7 ∷ 2 ∷ 0 ∷ 0 ∷ 0 ∷ 3 ∷ 7 ∷ 3 ∷ 0 ∷ 0 ∷ 0 ∷ 2 ∷ 8 ∷ 6 ∷ 0 ∷ 0 ∷ 0 ∷ 3 ∷ 8 ∷ 7 ∷ 0 ∷ 0 ∷ 0 ∷ []) ∷
     -- epsilons and labels on both sides, match
     caseOf (0 ∷ 2 ∷ 4294967295 ∷ 0 ∷ 4294967295 ∷ 0 ∷ []) mixed1 mixed2 none none 0 0 0 (2 ∷ 1 ∷ 0 ∷ 0 ∷ 0 ∷ 1 ∷ 0 ∷ 1 ∷ 1 ∷ 0 ∷ 1 ∷ 0 ∷ 0 ∷ 1 ∷ 0 ∷ 6 ∷ 1 ∷ 0 ∷ 0 ∷ 2 ∷ 1 ∷ 6 ∷ 2 ∷ 0 ∷ 0 ∷ 0 ∷ 2 ∷ 7 ∷ 2 ∷ 0 ∷ 0 ∷ 0 ∷ 3 ∷ 7 ∷ 3 ∷ 0 ∷ 0 ∷ 0 ∷ 2 ∷ 8 ∷ 6 ∷ 0 ∷ 0 ∷ 0 ∷ 3 ∷ 8 ∷ 7 ∷ 0 ∷ 0 ∷ 0 ∷ []) ∷
+    -- epsilons and labels on both sides, null
+    caseOf (0 ∷ 3 ∷ 4294967295 ∷ 0 ∷ 4294967295 ∷ 0 ∷ []) mixed1 mixed2 none none 0 0 0 (2 ∷ 1 ∷ 0 ∷ 0 ∷ 0 ∷ 1 ∷ 0 ∷ 1 ∷ 1 ∷ 6 ∷ 2 ∷ 0 ∷ 0 ∷ 0 ∷ 2 ∷ 7 ∷ 2 ∷ 0 ∷ 0 ∷ 0 ∷ 3 ∷ 7 ∷ 3 ∷ 0 ∷ 0 ∷ 0 ∷ 2 ∷ 8 ∷ 6 ∷ 0 ∷ 0 ∷ 0 ∷ 3 ∷ 8 ∷ 7 ∷ 0 ∷ 0 ∷ 0 ∷ []) ∷
+    -- epsilons and labels on both sides, trivial
+    caseOf (0 ∷ 4 ∷ 4294967295 ∷ 0 ∷ 4294967295 ∷ 0 ∷ []) mixed1 mixed2 none none 0 0 0 (2 ∷ 1 ∷ 0 ∷ 0 ∷ 0 ∷ 1 ∷ 0 ∷ 1 ∷ 1 ∷ 0 ∷ 1 ∷ 0 ∷ 0 ∷ 0 ∷ 0 ∷ 6 ∷ 1 ∷ 0 ∷ 0 ∷ 0 ∷ 1 ∷ 6 ∷ 2 ∷ 0 ∷ 0 ∷ 0 ∷ 2 ∷ 7 ∷ 2 ∷ 0 ∷ 0 ∷ 0 ∷ 3 ∷ 7 ∷ 3 ∷ 0 ∷ 0 ∷ 0 ∷ 2 ∷ 8 ∷ 6 ∷ 0 ∷ 0 ∷ 0 ∷ 3 ∷ 8 ∷ 7 ∷ 0 ∷ 0 ∷ 0 ∷ []) ∷
+    -- epsilons and labels on both sides, no-match
+    caseOf (0 ∷ 5 ∷ 4294967295 ∷ 0 ∷ 4294967295 ∷ 0 ∷ []) mixed1 mixed2 none none 0 0 0 (2 ∷ 1 ∷ 0 ∷ 0 ∷ 0 ∷ 1 ∷ 0 ∷ 1 ∷ 1 ∷ 0 ∷ 1 ∷ 0 ∷ 0 ∷ 0 ∷ 0 ∷ 6 ∷ 1 ∷ 0 ∷ 0 ∷ 0 ∷ 2 ∷ 7 ∷ 2 ∷ 0 ∷ 0 ∷ 0 ∷ 3 ∷ 7 ∷ 3 ∷ 0 ∷ 0 ∷ 0 ∷ 2 ∷ 8 ∷ 6 ∷ 0 ∷ 0 ∷ 0 ∷ 3 ∷ 8 ∷ 7 ∷ 0 ∷ 0 ∷ 0 ∷ []) ∷
+    -- a lone epsilon of machine 1 beside an empty state, null
+    caseOf (0 ∷ 3 ∷ 4294967295 ∷ 0 ∷ 4294967295 ∷ 0 ∷ []) epsilon1 empty none none 0 0 0 (2 ∷ 1 ∷ 0 ∷ 0 ∷ 0 ∷ 1 ∷ 0 ∷ 1 ∷ []) ∷
+    -- a lone epsilon of machine 2 beside an empty state, null
+    caseOf (0 ∷ 3 ∷ 4294967295 ∷ 0 ∷ 4294967295 ∷ 0 ∷ []) empty epsilon2 none none 0 0 0 (2 ∷ 1 ∷ 0 ∷ 0 ∷ 0 ∷ 1 ∷ 0 ∷ 1 ∷ []) ∷
+    -- side input, epsilons and labels on both sides, null
+    caseOf (0 ∷ 3 ∷ 4294967295 ∷ 0 ∷ 4294967295 ∷ 0 ∷ []) (1 ∷ 2 ∷ 1 ∷ 0 ∷ 0 ∷ 0 ∷ 1 ∷ 0 ∷ 0 ∷ 1 ∷ 4 ∷ 1 ∷ 0 ∷ 2 ∷ 2 ∷ 0 ∷ 1 ∷ 0 ∷ 0 ∷ []) mixed2 none none 0 0 0 (1 ∷ 1 ∷ 0 ∷ 0 ∷ 0 ∷ 1 ∷ 0 ∷ 1 ∷ 1 ∷ 7 ∷ 2 ∷ 0 ∷ 0 ∷ 0 ∷ 1 ∷ 8 ∷ 6 ∷ 0 ∷ 0 ∷ 0 ∷ 2 ∷ 6 ∷ 2 ∷ 0 ∷ 0 ∷ 0 ∷ []) ∷
+    -- two epsilons whose weights together are too large, null
+    caseOf (0 ∷ 3 ∷ 4294967295 ∷ 0 ∷ 4294967295 ∷ 0 ∷ []) (1 ∷ 1 ∷ 1 ∷ 0 ∷ 0 ∷ 0 ∷ 1 ∷ 1 ∷ 0 ∷ 2 ∷ 0 ∷ 2147483648 ∷ 0 ∷ 0 ∷ []) (1 ∷ 1 ∷ 1 ∷ 0 ∷ 0 ∷ 0 ∷ 1 ∷ 1 ∷ 0 ∷ 0 ∷ 5 ∷ 2147483647 ∷ 0 ∷ 0 ∷ []) none none 0 0 0 (2 ∷ 1 ∷ 0 ∷ 0 ∷ 0 ∷ 2 ∷ 0 ∷ 0 ∷ 12 ∷ []) ∷
+    -- a lone epsilon of machine 1 beside an empty state, trivial
+    caseOf (0 ∷ 4 ∷ 4294967295 ∷ 0 ∷ 4294967295 ∷ 0 ∷ []) epsilon1 empty none none 0 0 0 (2 ∷ 1 ∷ 0 ∷ 0 ∷ 0 ∷ 1 ∷ 0 ∷ 1 ∷ 2 ∷ 0 ∷ 1 ∷ 0 ∷ 0 ∷ 0 ∷ []) ∷
+    -- a lone epsilon of machine 2 beside an empty state, trivial
+    caseOf (0 ∷ 4 ∷ 4294967295 ∷ 0 ∷ 4294967295 ∷ 0 ∷ []) empty epsilon2 none none 0 0 0 (2 ∷ 1 ∷ 0 ∷ 0 ∷ 0 ∷ 1 ∷ 0 ∷ 1 ∷ 0 ∷ 5 ∷ 1 ∷ 0 ∷ 0 ∷ 0 ∷ []) ∷
+    -- side input, epsilons and labels on both sides, trivial
+    caseOf (0 ∷ 4 ∷ 4294967295 ∷ 0 ∷ 4294967295 ∷ 0 ∷ []) (1 ∷ 2 ∷ 1 ∷ 0 ∷ 0 ∷ 0 ∷ 1 ∷ 0 ∷ 0 ∷ 1 ∷ 4 ∷ 1 ∷ 0 ∷ 2 ∷ 2 ∷ 0 ∷ 1 ∷ 0 ∷ 0 ∷ []) mixed2 none none 0 0 0 (1 ∷ 1 ∷ 0 ∷ 0 ∷ 0 ∷ 1 ∷ 0 ∷ 1 ∷ 0 ∷ 6 ∷ 1 ∷ 0 ∷ 0 ∷ 0 ∷ 1 ∷ 7 ∷ 2 ∷ 0 ∷ 0 ∷ 0 ∷ 1 ∷ 8 ∷ 6 ∷ 0 ∷ 0 ∷ 0 ∷ 2 ∷ 0 ∷ 1 ∷ 0 ∷ 0 ∷ 0 ∷ 2 ∷ 6 ∷ 2 ∷ 0 ∷ 0 ∷ 0 ∷ []) ∷
+    -- two epsilons whose weights together are too large, trivial
+    caseOf (0 ∷ 4 ∷ 4294967295 ∷ 0 ∷ 4294967295 ∷ 0 ∷ []) (1 ∷ 1 ∷ 1 ∷ 0 ∷ 0 ∷ 0 ∷ 1 ∷ 1 ∷ 0 ∷ 2 ∷ 0 ∷ 2147483648 ∷ 0 ∷ 0 ∷ []) (1 ∷ 1 ∷ 1 ∷ 0 ∷ 0 ∷ 0 ∷ 1 ∷ 1 ∷ 0 ∷ 0 ∷ 5 ∷ 2147483647 ∷ 0 ∷ 0 ∷ []) none none 0 0 0 (2 ∷ 1 ∷ 0 ∷ 0 ∷ 0 ∷ 2 ∷ 0 ∷ 0 ∷ 12 ∷ []) ∷
+    -- a lone epsilon of machine 1 beside an empty state, no-match
+    caseOf (0 ∷ 5 ∷ 4294967295 ∷ 0 ∷ 4294967295 ∷ 0 ∷ []) epsilon1 empty none none 0 0 0 (2 ∷ 1 ∷ 0 ∷ 0 ∷ 0 ∷ 1 ∷ 0 ∷ 1 ∷ 2 ∷ 0 ∷ 1 ∷ 0 ∷ 0 ∷ 0 ∷ []) ∷
+    -- a lone epsilon of machine 2 beside an empty state, no-match
+    caseOf (0 ∷ 5 ∷ 4294967295 ∷ 0 ∷ 4294967295 ∷ 0 ∷ []) empty epsilon2 none none 0 0 0 (2 ∷ 1 ∷ 0 ∷ 0 ∷ 0 ∷ 1 ∷ 0 ∷ 1 ∷ 0 ∷ 5 ∷ 1 ∷ 0 ∷ 0 ∷ 0 ∷ []) ∷
+    -- side input, epsilons and labels on both sides, no-match
+    caseOf (0 ∷ 5 ∷ 4294967295 ∷ 0 ∷ 4294967295 ∷ 0 ∷ []) (1 ∷ 2 ∷ 1 ∷ 0 ∷ 0 ∷ 0 ∷ 1 ∷ 0 ∷ 0 ∷ 1 ∷ 4 ∷ 1 ∷ 0 ∷ 2 ∷ 2 ∷ 0 ∷ 1 ∷ 0 ∷ 0 ∷ []) mixed2 none none 0 0 0 (1 ∷ 1 ∷ 0 ∷ 0 ∷ 0 ∷ 1 ∷ 0 ∷ 1 ∷ 0 ∷ 6 ∷ 1 ∷ 0 ∷ 0 ∷ 0 ∷ 1 ∷ 7 ∷ 2 ∷ 0 ∷ 0 ∷ 0 ∷ 1 ∷ 8 ∷ 6 ∷ 0 ∷ 0 ∷ 0 ∷ 2 ∷ 0 ∷ 1 ∷ 0 ∷ 0 ∷ 0 ∷ []) ∷
+    -- two epsilons whose weights together are too large, no-match
+    caseOf (0 ∷ 5 ∷ 4294967295 ∷ 0 ∷ 4294967295 ∷ 0 ∷ []) (1 ∷ 1 ∷ 1 ∷ 0 ∷ 0 ∷ 0 ∷ 1 ∷ 1 ∷ 0 ∷ 2 ∷ 0 ∷ 2147483648 ∷ 0 ∷ 0 ∷ []) (1 ∷ 1 ∷ 1 ∷ 0 ∷ 0 ∷ 0 ∷ 1 ∷ 1 ∷ 0 ∷ 0 ∷ 5 ∷ 2147483647 ∷ 0 ∷ 0 ∷ []) none none 0 0 0 (2 ∷ 1 ∷ 0 ∷ 0 ∷ 0 ∷ 2 ∷ 0 ∷ 1 ∷ 2 ∷ 0 ∷ 2147483648 ∷ 0 ∷ 0 ∷ 0 ∷ 0 ∷ 5 ∷ 2147483647 ∷ 0 ∷ 0 ∷ 0 ∷ []) ∷
     -- match, from f = 1
     caseOf (0 ∷ 2 ∷ 4294967295 ∷ 0 ∷ 4294967295 ∷ 0 ∷ []) (2 ∷ 3 ∷ 1 ∷ 0 ∷ 0 ∷ 0 ∷ 1 ∷ 0 ∷ 0 ∷ 2 ∷ 1 ∷ 0 ∷ 1 ∷ 0 ∷ 1 ∷ 1 ∷ 0 ∷ 2 ∷ 0 ∷ 1 ∷ 0 ∷ 3 ∷ 2 ∷ 3 ∷ 1 ∷ 0 ∷ 0 ∷ []) (2 ∷ 4 ∷ 1 ∷ 0 ∷ 0 ∷ 0 ∷ 1 ∷ 0 ∷ 0 ∷ 3 ∷ 1 ∷ 0 ∷ 0 ∷ 6 ∷ 1 ∷ 1 ∷ 2 ∷ 3 ∷ 7 ∷ 1 ∷ 0 ∷ 0 ∷ 0 ∷ 7 ∷ 1 ∷ 1 ∷ 4 ∷ 3 ∷ 8 ∷ 1 ∷ 0 ∷ 0 ∷ []) none none 1 0 1 (2 ∷ 1 ∷ 0 ∷ 0 ∷ 0 ∷ 1 ∷ 0 ∷ 1 ∷ 2 ∷ 0 ∷ 1 ∷ 0 ∷ 0 ∷ 1 ∷ 2 ∷ 7 ∷ 2 ∷ 0 ∷ 0 ∷ 0 ∷ []) ∷
     -- side input: machine 1 is not sorted

@@ -56,15 +56,27 @@ low (suc zero) lone2 φ (suc zero) = tt
 low (suc zero) lone2 φ (suc (suc f)) = omega arith
 low (suc zero) bothEpsilon φ f = tt
 low (suc zero) aLabel φ f = omega arith
-low (suc (suc n)) lone1 φ zero = none-low (φ .none2) (φ .all2) 1 (omega arith)
-low (suc (suc n)) lone1 φ (suc zero) = omega arith
-low (suc (suc n)) lone1 φ (suc (suc f)) = tt
-low (suc (suc n)) lone2 φ zero = none-low (φ .none1) (φ .all1) 2 (omega arith)
-low (suc (suc n)) lone2 φ (suc zero) = tt
-low (suc (suc n)) lone2 φ (suc (suc f)) = omega arith
-low (suc (suc n)) bothEpsilon φ zero = omega arith
-low (suc (suc n)) bothEpsilon φ (suc f) = tt
-low (suc (suc n)) aLabel φ f = omega arith
+low (suc (suc zero)) lone1 φ zero = none-low (φ .none2) (φ .all2) 1 (omega arith)
+low (suc (suc zero)) lone1 φ (suc zero) = omega arith
+low (suc (suc zero)) lone1 φ (suc (suc f)) = tt
+low (suc (suc zero)) lone2 φ zero = none-low (φ .none1) (φ .all1) 2 (omega arith)
+low (suc (suc zero)) lone2 φ (suc zero) = tt
+low (suc (suc zero)) lone2 φ (suc (suc f)) = omega arith
+low (suc (suc zero)) bothEpsilon φ zero = omega arith
+low (suc (suc zero)) bothEpsilon φ (suc f) = tt
+low (suc (suc zero)) aLabel φ f = omega arith
+low (suc (suc (suc zero))) lone1 φ f = tt
+low (suc (suc (suc zero))) lone2 φ f = tt
+low (suc (suc (suc zero))) bothEpsilon φ f = omega arith
+low (suc (suc (suc zero))) aLabel φ f = omega arith
+low (suc (suc (suc (suc zero)))) lone1 φ f = omega arith
+low (suc (suc (suc (suc zero)))) lone2 φ f = omega arith
+low (suc (suc (suc (suc zero)))) bothEpsilon φ f = omega arith
+low (suc (suc (suc (suc zero)))) aLabel φ f = omega arith
+low (suc (suc (suc (suc (suc n))))) lone1 φ f = omega arith
+low (suc (suc (suc (suc (suc n))))) lone2 φ f = omega arith
+low (suc (suc (suc (suc (suc n))))) bothEpsilon φ f = tt
+low (suc (suc (suc (suc (suc n))))) aLabel φ f = omega arith
 
 -- a machine rests in its state or takes a transition of its list, whose target is one of its states
 next-below : (m : List ℕ) → wellFormed m ≡ true → (q : ℕ) (e : Edge) → q < stateCount m → Leaves (machineOf m) q e → nextState (machineOf m) q e < stateCount m

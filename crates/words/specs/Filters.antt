@@ -1,8 +1,8 @@
--- 01, "Filters": the table, cell by cell.
+-- 01, "Filters", and 02, 2.1: the table, cell by cell.
 use mathlib.Core.Bool.{Bool, true, false, not}
 use mathlib.Core.Option.{Option, none, some}
 use Prim.Native.Nat.{ℕ, zero, suc}
-use Rattle.papers.specs.Filter.{lone1, lone2, bothEpsilon, aLabel, Facts, Filter, noEpsilon, onlyEpsilons, epsilonSequencing, epsilonSequencingMirrored, epsilonMatching}
+use Rattle.papers.specs.Filter.{lone1, lone2, bothEpsilon, aLabel, Facts, Filter, noEpsilon, onlyEpsilons, epsilonSequencing, epsilonSequencingMirrored, epsilonMatching, nullFilter, trivialFilter, noMatchFilter}
 use Rattle.words.specs.Sigmas.{Operand, inner}
 
 -- ""none" means no epsilon on its inner side in the present state"
@@ -58,17 +58,43 @@ matching bothEpsilon φ zero = some 0
 matching bothEpsilon φ (suc f) = none
 matching aLabel φ f = some 0
 
--- "0 sequence", "1 alternate", "2 match"; another number is refused before it is read
+-- 02, 2.1: "null, trivial and no-match filters": "From any f each move is kept with f = 0, save that null drops both lone moves"
+abbrev pub null : Filter
+null lone1 φ f = none
+null lone2 φ f = none
+null bothEpsilon φ f = some 0
+null aLabel φ f = some 0
+
+abbrev pub trivial : Filter
+trivial lone1 φ f = some 0
+trivial lone2 φ f = some 0
+trivial bothEpsilon φ f = some 0
+trivial aLabel φ f = some 0
+
+-- "and no-match drops "both epsilon""
+abbrev pub noMatch : Filter
+noMatch lone1 φ f = some 0
+noMatch lone2 φ f = some 0
+noMatch bothEpsilon φ f = none
+noMatch aLabel φ f = some 0
+
+-- "0 sequence", "1 alternate", "2 match"; 02, 2.1: null, trivial and no-match "become filter values 3, 4 and 5". A larger number is refused before it is read.
 abbrev pub filterOf : ℕ → Filter
 filterOf zero = sequence
 filterOf (suc zero) = alternate
-filterOf (suc (suc n)) = matching
+filterOf (suc (suc zero)) = matching
+filterOf (suc (suc (suc zero))) = null
+filterOf (suc (suc (suc (suc zero)))) = trivial
+filterOf (suc (suc (suc (suc (suc n))))) = noMatch
 
 -- the papers' filter of each, which looks at neither "none" nor "all"
 abbrev pub papersFilterOf : ℕ → Filter
 papersFilterOf zero = epsilonSequencing
 papersFilterOf (suc zero) = epsilonSequencingMirrored
-papersFilterOf (suc (suc n)) = epsilonMatching
+papersFilterOf (suc (suc zero)) = epsilonMatching
+papersFilterOf (suc (suc (suc zero))) = nullFilter
+papersFilterOf (suc (suc (suc (suc zero)))) = trivialFilter
+papersFilterOf (suc (suc (suc (suc (suc n))))) = noMatchFilter
 
 -- Ours, for the laws of a filter: from which f two paths can be taken to their ends. For sequence and match as for the papers' own. Alternate: in f = 1 no epsilon of
 -- machine 2 may follow; an f above 1, which it never gives, is as 0.

@@ -26,7 +26,7 @@ abbrev pub lastKind : ℕ
 lastKind = 1
 
 abbrev pub lastFilter : ℕ
-lastFilter = 2
+lastFilter = 5
 
 abbrev pub lastMode : ℕ
 lastMode = 2
