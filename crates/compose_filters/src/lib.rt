@@ -1,7 +1,10 @@
 // The composition filters (compose_filters/mod.rs): what a filter sees of the two states, and the table.
 mod alt_sequence_compose_filter;
 mod match_compose_filter;
+mod no_match_compose_filter;
+mod null_compose_filter;
 mod sequence_compose_filter;
+mod trivial_compose_filter;
 
 ghost use mathlib.Core.Path.{_≡_};
 ghost use Rattle.words.specs.Labels.{noLabel};
@@ -119,13 +122,16 @@ fn none_first(none: bool, all: bool, g: u32) -> Filtered
     Filtered::Kept(g)
 }
 
-// The table: filter 0 sequence, 1 alternate, any other match.
+// The table: filter 0 sequence, 1 alternate, 2 match, 3 null, 4 trivial, 5 no-match. A larger number is refused before it comes here.
 pub fn filter_tr(filter: u32, kind: MoveKind, facts: Facts, f: u32) -> Filtered
     ensures { λ r. ⌜ filteredMeans r ≡ filterOf filter (moveMeans kind) (factsMean facts) f ⌝ }
 {
     match filter {
         0 => sequence_compose_filter::filter_tr(kind, facts, f),
         1 => alt_sequence_compose_filter::filter_tr(kind, facts, f),
-        _ => match_compose_filter::filter_tr(kind, facts, f),
+        2 => match_compose_filter::filter_tr(kind, facts, f),
+        3 => null_compose_filter::filter_tr(kind),
+        4 => trivial_compose_filter::filter_tr(),
+        _ => no_match_compose_filter::filter_tr(kind),
     }
 }

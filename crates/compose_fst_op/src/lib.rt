@@ -13,7 +13,7 @@ pub use start::compute_start;
 pub struct ComposeFstOpOptions {
     // 0: cost; 1: count.
     pub kind: u32,
-    // 0: sequence; 1: alternate; 2: match.
+    // 0: sequence; 1: alternate; 2: match; 3: null; 4: trivial; 5: no-match.
     pub filter: u32,
     pub side: Side,
     pub sigma1: Sigma,

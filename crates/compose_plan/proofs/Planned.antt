@@ -3,7 +3,7 @@ use mathlib.Core.Path.{_≡_, refl, sym, _∙_, ap, ap₂}
 use mathlib.Core.Bool.{Bool, true, false, cond}
 use mathlib.Core.List.{List, flatMap}
 use mathlib.Core.Option.{Option, some}
-use Prim.Native.Nat.{ℕ, zero, suc}
+use Prim.Native.Nat.{ℕ}
 use lib.Dec.{eqb}
 use Rattle.papers.specs.Filter.{bothEpsilon, aLabel, Facts}
 use Rattle.words.specs.Labels.{epsLabel, noLabel, Checked, good}
@@ -13,6 +13,7 @@ use Rattle.words.specs.Machines.{firstOf, wellFormed}
 use Rattle.words.specs.Sigmas.{Operand, inner, given}
 use Rattle.words.specs.Sides.{directionAt}
 use Rattle.words.specs.Filters.{noneAt, allAt, factsAt, filterOf}
+use Rattle.words.proofs.TableLaws.{label-kept}
 use Rattle.words.specs.Settings.{Settings, Lent, operand1, operand2}
 use Rattle.words.specs.Steps.{Triple, Move, Step, asks, moveOf, walk, moveKind, stepsAt}
 use Rattle.fst.specs.Meaning.{onOf, asOperand}
@@ -43,9 +44,7 @@ walkedWords outputs m1 m2 = m2
 -- two transitions with one label: "a label" is kept, and f becomes 0
 pair-cell : (n : ℕ) (φ : Facts) (f : ℕ) (cell : Option ℕ) (b : Bool) → cell ≡ filterOf n bothEpsilon φ f → cond b cell (some 0) ≡ filterOf n (cond b bothEpsilon aLabel) φ f
 pair-cell n φ f cell true e = e
-pair-cell zero φ f cell false e = refl
-pair-cell (suc zero) φ f cell false e = refl
-pair-cell (suc (suc n)) φ f cell false e = refl
+pair-cell n φ f cell false e = sym (label-kept n φ f)
 
 -- the resting machine, by equal values
 same-rest : {k kind : Kind} {s state : ℕ} → k ≡ kind → s ≡ state → asTr k s theLoop ≡ asTr kind state theLoop

@@ -29,7 +29,7 @@ use store_records::Used;
 pub struct Settings {
     // 0: cost, 1: count.
     pub kind: u32,
-    // 0: sequence, 1: alternate, 2: match.
+    // 0: sequence, 1: alternate, 2: match, 3: null, 4: trivial, 5: no-match.
     pub filter: u32,
     pub sigma1: Label,
     pub mode1: u32,
@@ -56,7 +56,7 @@ pub fn read_settings(words: &[u32]) -> Settings
 
 const LAST_KIND: u32 = 1;
 
-const LAST_FILTER: u32 = 2;
+const LAST_FILTER: u32 = 5;
 
 const LAST_MODE: u32 = 2;
 
