@@ -22,7 +22,7 @@ use Rattle.calls.proofs.OpenKept.{open-kept}
 use Rattle.readings.specs.Listed.{pickOf}
 use Rattle.readings.specs.Worlds.{worldOf, OpeningsRefused, stateAt, at-start, Sound}
 use Rattle.readings.specs.Follows.{PapersList}
-use Rattle.readings.specs.Demands.{Demand2, Claim2}
+use Rattle.readings.specs.Demands.{Demand2, AfterCalls, Claim2}
 use Rattle.readings.proofs.Filters.{filter-as-papers}
 use Rattle.readings.proofs.PapersLists.{papers-list}
 use Rattle.readings.proofs.Refused.{refused-for}
@@ -62,10 +62,15 @@ follows s l side rule w k =
       words = λ F x y. by-words l c (pickOf (s .filter)) w S (store-paths s l side rule w S F) x y;
     }
 
-pub demand-2 : Claim2
-demand-2 s l got m e =
+-- and so what holds in those worlds holds after every list of calls that demand 3 speaks of
+pub after-calls : (P : Settings → Lent → Composition → World → Type 0)
+    → ((s : Settings) (l : Lent) (side : Side) → sideFor s l ≡ good side → (w : World) → KeptWorld l (compositionOf s l side) w → P s l (compositionOf s l side) w) → AfterCalls P
+after-calls P f s l got m e =
     let o = open-kept s l got m tt e in
     let c = compositionOf s l (o .side) in
     let w = worldOf (openOf s l got m) in
     let k = open-keeps s l got m e (o .side) (o .rule) in
-    (o .side, o .rule, λ cs r. follows s l (o .side) (o .rule) (after l w cs) (calls-onto l c w cs [] k (subst (OpeningsRefused l w) (sym (append-nil cs)) r) .0 .kept))
+    (o .side, o .rule, λ cs r. f s l (o .side) (o .rule) (after l w cs) (calls-onto l c w cs [] k (subst (OpeningsRefused l w) (sym (append-nil cs)) r) .0 .kept))
+
+pub demand-2 : Claim2
+demand-2 = after-calls Demand2 follows

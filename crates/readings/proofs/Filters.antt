@@ -1,11 +1,11 @@
 -- The reading theorem for 01's three filters and for the papers' three, of any two machines, under both kinds of weight; and what the implementations' "none" and "all" change:
--- no accepting path.
-use mathlib.Core.Path.{_≡_}
+-- no accepting path. 02's three filters are OpenFst's.
+use mathlib.Core.Path.{_≡_, subst}
 use mathlib.Core.Bool.{Bool}
 use Prim.Native.Nat.{ℕ, zero, suc}
 use Rattle.papers.specs.Machine.{Machine}
 use Rattle.papers.specs.Weight.{Kind, semiring}
-use Rattle.papers.specs.Filter.{MoveKind, Filter, epsilonSequencing, epsilonSequencingMirrored, epsilonMatching}
+use Rattle.papers.specs.Filter.{MoveKind, Facts, Filter, epsilonSequencing, epsilonSequencingMirrored, epsilonMatching}
 use Rattle.papers.specs.Composition.{Composed}
 use Rattle.papers.specs.Paths.{path1, path2, AcceptingRun}
 use Rattle.papers.specs.Pick.{sequencePick, alternatePick, matchingPick, sequenceLive, mirroredLive, matchingLive}
@@ -13,7 +13,7 @@ use Rattle.papers.specs.Laws.{Lawful}
 use Rattle.papers.proofs.SemiringLaws.{semiring-laws}
 use Rattle.papers.proofs.PaperFilters.{sequencing-laws, mirrored-laws, epsilon-matching-laws}
 use Rattle.words.specs.Filters.{sequence, alternate, matching, filterOf, papersFilterOf, alternateLive}
-use Rattle.words.proofs.TableLaws.{sequence-laws, alternate-laws, matching-laws}
+use Rattle.words.proofs.TableLaws.{sequence-laws, alternate-laws, matching-laws, null-cells, trivial-cells, no-match-cells}
 use Rattle.readings.specs.Correspondence.{OneToOne}
 use Rattle.readings.specs.Merge.{merge}
 use Rattle.readings.specs.Readings.{plainComposed, ReadingsOf, filteredBy, SamePaths}
@@ -65,8 +65,15 @@ module _ (k : Kind) (value : ℕ → semiring k .Element) (C : Composed) where
   pub match-as-papers : SamePaths (semiring k) value (filteredBy matching C) (filteredBy epsilonMatching C)
   match-as-papers = same-by-pick (semiring k) (semiring-laws k) value C matchingPick matching epsilonMatching matchingLive matchingLive matching-laws epsilon-matching-laws
 
-  -- whichever of the three
+  -- two filters that are equal cell by cell
+  same-cells : (F G : Filter) → ((k : MoveKind) (φ : Facts) (f : ℕ) → F k φ f ≡ G k φ f) → SamePaths (semiring k) value (filteredBy F C) (filteredBy G C)
+  same-cells F G e = subst (λ H. SamePaths (semiring k) value (filteredBy F C) (filteredBy H C)) (λ i k φ f. e k φ f i) (λ ms. (λ h. h, λ h. h), λ q1 q2 ms. (λ h. h, λ h. h))
+
+  -- whichever of the six
   pub filter-as-papers : (n : ℕ) → SamePaths (semiring k) value (filteredBy (filterOf n) C) (filteredBy (papersFilterOf n) C)
   filter-as-papers zero = sequence-as-papers
   filter-as-papers (suc zero) = alternate-as-papers
-  filter-as-papers (suc (suc n)) = match-as-papers
+  filter-as-papers (suc (suc zero)) = match-as-papers
+  filter-as-papers (suc (suc (suc zero))) = same-cells _ _ null-cells
+  filter-as-papers (suc (suc (suc (suc zero)))) = same-cells _ _ trivial-cells
+  filter-as-papers (suc (suc (suc (suc (suc n))))) = same-cells _ _ no-match-cells

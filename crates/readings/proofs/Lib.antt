@@ -6,6 +6,7 @@ pub mod Made
 pub mod Theorem
 pub mod Swap
 pub mod Filters
+pub mod FurtherFilters
 pub mod Placed
 pub mod Example
 pub mod Listed
@@ -32,6 +33,8 @@ pub mod NeverEight
 pub mod Demands
 pub mod Copied
 pub mod Demand2
+pub mod Further
+pub mod FurtherCase
 pub mod Owned
 pub mod DemandCase
 pub mod Rooms

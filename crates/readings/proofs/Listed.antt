@@ -4,7 +4,8 @@ use mathlib.Core.Path.{_≡_, refl, sym, _∙_, ap, subst}
 use mathlib.Core.Bool.{true}
 use mathlib.Core.List.{List, [], _∷_, map, List·Memᴰ as In, List·Memᴰ·head as here, List·Memᴰ·tail as there}
 use mathlib.Core.Logic.{_↔_, Iff·trans}
-use Prim.Native.Nat.{ℕ, zero, suc}
+use Prim.Native.Nat.{ℕ, zero, suc, _≤_}
+use native.Mathlib.Omega.{arith}
 use Rattle.lists.specs.Lists.{At, Distinct, Enumerates}
 use Rattle.lists.proofs.Places.{at-in, in-at, at-map, of-at-map}
 use Rattle.lists.proofs.Once.{distinct-of}
@@ -102,21 +103,23 @@ words-lists c S none1 none2 = record {
 }
 
 -- whichever of the three filters a composition has
-pub readings-of : (c : Composition) (n : ℕ) → c .filter ≡ filterOf n → Readings (semiring (c .kind)) (exact (c .kind)) _≡_ (plain c) (merge (pickOf n) (c .operand1 .machine) (c .operand2 .machine))
-readings-of c n e = subst (λ F. ReadingsOf (c .kind) (exact (c .kind)) (c .operand1 .machine) (c .operand2 .machine) F (pickOf n)) (sym e) (go n)
+pub readings-of : (c : Composition) (n : ℕ) → n ≤ 2 → c .filter ≡ filterOf n
+    → Readings (semiring (c .kind)) (exact (c .kind)) _≡_ (plain c) (merge (pickOf n) (c .operand1 .machine) (c .operand2 .machine))
+readings-of c n h e = subst (λ F. ReadingsOf (c .kind) (exact (c .kind)) (c .operand1 .machine) (c .operand2 .machine) F (pickOf n)) (sym e) (go n h)
   where
-    go : (n : ℕ) → ReadingsOf (c .kind) (exact (c .kind)) (c .operand1 .machine) (c .operand2 .machine) (filterOf n) (pickOf n)
-    go zero = equal-readings (c .kind) (exact (c .kind)) (c .operand1 .machine) (c .operand2 .machine) _ sequenceLive _ sequence-laws
-    go (suc zero) = equal-readings (c .kind) (exact (c .kind)) (c .operand1 .machine) (c .operand2 .machine) _ alternateLive _ alternate-laws
-    go (suc (suc m)) = equal-readings (c .kind) (exact (c .kind)) (c .operand1 .machine) (c .operand2 .machine) _ matchingLive _ matching-laws
+    go : (n : ℕ) → n ≤ 2 → ReadingsOf (c .kind) (exact (c .kind)) (c .operand1 .machine) (c .operand2 .machine) (filterOf n) (pickOf n)
+    go zero h = equal-readings (c .kind) (exact (c .kind)) (c .operand1 .machine) (c .operand2 .machine) _ sequenceLive _ sequence-laws
+    go (suc zero) h = equal-readings (c .kind) (exact (c .kind)) (c .operand1 .machine) (c .operand2 .machine) _ alternateLive _ alternate-laws
+    go (suc (suc zero)) h = equal-readings (c .kind) (exact (c .kind)) (c .operand1 .machine) (c .operand2 .machine) _ matchingLive _ matching-laws
+    go (suc (suc (suc m))) h = absurd (omega (arith, h))
 
 -- 3c, but for the store: of an opening with well-formed machines, an accepted side and no sigma label set, from any two states
 pub opened-readings : (s : Settings) (l : Lent) (side : Side) → wellFormed (l .m1) ≡ true → wellFormed (l .m2) ≡ true → sideOf (operand1 s l) (operand2 s l) ≡ good side
-    → s .sigma1 ≡ noLabel → s .sigma2 ≡ noLabel → (q1 q2 : ℕ)
+    → s .sigma1 ≡ noLabel → s .sigma2 ≡ noLabel → s .filter ≤ 2 → (q1 q2 : ℕ)
     → let c = compositionOf s l side in
     OneToOne (AcceptingPlaces (plain c) (listedAt c) (semiring (c .kind)) (exact (c .kind)) (at q1 q2)) (PairFrom (semiring (c .kind)) (exact (c .kind)) _≡_ (plain c) q1 q2)
     (λ ks. pairOf (movesAt (plain c) (listedAt c) (at q1 q2) ks))
     (λ p. placesOf (plain c) (listedAt c) (at q1 q2) (merge (pickOf (s .filter)) (c .operand1 .machine) (c .operand2 .machine) (p .0) (p .1)))
-opened-readings s l side w1 w2 e n1 n2 q1 q2 =
+opened-readings s l side w1 w2 e n1 n2 h q1 q2 =
     let c = compositionOf s l side in
-    placed-readings (plain c) (λ s. Unit {0}) (listedAt c) (words-lists c (sound-of s l side w1 w2 e) n1 n2) (semiring (c .kind)) (exact (c .kind)) _≡_ _ (readings-of c (s .filter) refl) q1 q2 tt
+    placed-readings (plain c) (λ s. Unit {0}) (listedAt c) (words-lists c (sound-of s l side w1 w2 e) n1 n2) (semiring (c .kind)) (exact (c .kind)) _≡_ _ (readings-of c (s .filter) h refl) q1 q2 tt

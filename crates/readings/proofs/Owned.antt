@@ -24,6 +24,7 @@ use Rattle.readings.proofs.InScope.{scope-side, scope-calls, scope-kept
 use Rattle.readings.proofs.Demands.{demand-3}
 use Rattle.readings.proofs.Copied.{copied, copied-same, copied-through}
 use Rattle.readings.proofs.Demand2.{demand-2}
+use Rattle.readings.proofs.Further.{further}
 
 -- there is no opening among expansions
 no-openings : (l : Lent) (w : World) (ns : List ℕ) → OpeningsRefused l w (map expand ns)
@@ -101,4 +102,5 @@ owned-demands s l w r =
       answers = d .answers (r .calls) [] end;
       paths = d .paths;
       papers = subst (λ (x : Side). Demand2 s l (compositionOf s l x) v) (good-is (sym (b .1) ∙ a .1)) (b .2 (r .calls) (r .refuses));
+      further = further s l (a .0) (a .1) v (d .sound (r .calls) [] end);
     })

@@ -1,19 +1,20 @@
 -- The accepting paths of a store, as lists of record numbers, are those of the papers' composition (2b); without sigma they correspond one to one with the pairs of accepting paths that
 -- match (3c). The records of a state are its moves (PathRecords, PathFollows), and the moves are read by the theorem on the papers' composition (Filters); here the two are chained,
 -- from the start.
-use mathlib.Core.Path.{_≡_, refl, sym, _∙_, ap, subst}
+use mathlib.Core.Path.{_≡_, refl, sym, _∙_, ap, ap₂, subst}
 use mathlib.Core.Bool.{Bool, true}
 use mathlib.Core.List.{List, [], _∷_, map, List·Memᴰ as In}
 use mathlib.Core.Logic.{_↔_}
-use mathlib.Core.Option.{none, some, Option·none-ne-some}
+use mathlib.Core.Option.{Option, none, some, Option·none-ne-some}
 use Prim.Native.Nat.{ℕ, _<_}
 use native.Mathlib.Omega.{arith}
 use Rattle.papers.specs.Weight.{semiring}
 use Rattle.papers.specs.Filter.{MoveKind}
-use Rattle.papers.specs.Composition.{Triple, Edges, reached}
+use Rattle.papers.specs.Composition.{Triple, Edges, reached, composedInput, composedOutput}
 use Rattle.papers.specs.Paths.{word, AcceptingMoves, AcceptingRun, movesWeight}
+use Rattle.papers.specs.Sums.{weightFrom, weightOfPair}
 use Rattle.papers.proofs.SemiringLaws.{semiring-laws}
-use Rattle.papers.proofs.PathLaws.{agree-equal, moves-weigh}
+use Rattle.papers.proofs.PathLaws.{agree-equal, input-word, output-word, moves-weigh}
 use Rattle.words.specs.Labels.{noLabel, good}
 use Rattle.words.specs.Machines.{listOf, wellFormed}
 use Rattle.words.specs.Sides.{Side}
@@ -31,8 +32,8 @@ use Rattle.calls.proofs.ExpandKept.{sided}
 use Rattle.readings.specs.Correspondence.{OneToOne}
 use Rattle.readings.specs.Readings.{Pair}
 use Rattle.readings.specs.Listed.{pickOf}
-use Rattle.readings.specs.Worlds.{stateAt, Found, at-start, as-target, Sound}
-use Rattle.readings.specs.StorePaths.{AgreeingPair, AcceptingRecords, movesOfRecords, recordsOfMoves, recordsOfPair, Paths, Finished, AllRead}
+use Rattle.readings.specs.Worlds.{stateAt, inputOf, outputOf, Found, at-start, as-target, Sound}
+use Rattle.readings.specs.StorePaths.{machine1, machine2, AgreeingPair, AcceptingRecords, movesOfRecords, recordsOfMoves, pairOfRecords, recordsOfPair, recordsWeight, WeighBoth, ReadFirst, WriteSecond, Paths, Settled, Finished, AllRead}
 use Rattle.readings.specs.Follows.{PapersPaths}
 use Rattle.readings.proofs.Correspondences.{chained, exchanged}
 use Rattle.readings.proofs.Listed.{readings-of}
@@ -56,6 +57,16 @@ begun c w n (as-target _ k r f x i e) = begun c w k f
 -- so where a state is used, both machines have a start
 pub begins : (l : Lent) (c : Composition) (w : World) → Sound l c w → 0 < w .session .used .states → (t : Triple) × (startAt c ≡ some t)
 begins l c w S h = begun c w 0 (S .found 0 .0 h)
+
+-- there the weights of its paths are those of the pairs, from the machines' own starts
+pub pair-weighs : (l : Lent) (c : Composition) (w : World) → Sound l c w → WeighBoth l c w → (rs : List ℕ) → AcceptingRecords l w rs
+    → recordsWeight (c .kind) l w 0 rs ≡ weightOfPair (semiring (c .kind)) (exact (c .kind)) (machine1 c) (machine2 c) (pairOfRecords c w rs)
+pair-weighs l c w S B rs h =
+    let t = begins l c w S (h .0) in
+    let q = start-as-papers c (t .0) .0 (t .1) in
+    B (t .0) (t .1) rs h
+    ∙ ap₂ (semiring (c .kind) .times) (ap (λ (o : Option ℕ). weightFrom (semiring (c .kind)) (exact (c .kind)) o (machine1 c) (pairOfRecords c w rs .0)) (sym (q .0)))
+    (ap (λ (o : Option ℕ). weightFrom (semiring (c .kind)) (exact (c .kind)) o (machine2 c) (pairOfRecords c w rs .1)) (sym (q .1)))
 
 module _ (l : Lent) (c : Composition) (w : World) (W : Whole l c w) where
   -- where the start is t, state 0 is used and has its triple
@@ -100,29 +111,55 @@ module _ (c : Composition) (P : Composable c) (none1 : c .operand1 .sigma .label
   plain-runs ms = (λ h. (h .0, h .1, plain-moves ms (h .0) .0 (h .2)), λ h. (h .0, h .1, plain-moves ms (h .0) .1 (h .2)))
 
 -- the pairs that match, in the demand's words
-agreeing : (c : Composition) (p : List ℕ × List ℕ) → Pair (semiring (c .kind)) (exact (c .kind)) _≡_ (plain c) p ↔ AgreeingPair c p
+pub agreeing : (c : Composition) (p : List ℕ × List ℕ) → Pair (semiring (c .kind)) (exact (c .kind)) _≡_ (plain c) p ↔ AgreeingPair c p
 agreeing c p =
     let m = agree-equal (word (map (c .operand1 .machine .output) (p .0))) (word (map (c .operand2 .machine .input) (p .1))) in
     (λ h. record { first = h .0; second = h .1; inner = m .0 (h .2) }, λ h. (h .first, h .second, m .1 (h .inner)))
 
--- 3c, of every sound and finished store: whichever the filter, the side and the order of the lists
+-- of every sound and settled store, whichever the filter, the side and the order of the lists
+module _ (s : Settings) (l : Lent) (side : Side) (rule : sideFor s l ≡ good side) (w : World) (S : Sound l (compositionOf s l side) w) (N : Settled s l w) where
+  abbrev c : Composition
+  c = compositionOf s l side
+
+  all-whole : Whole l c w
+  all-whole = whole s l side rule w S (N .read)
+
+  -- its accepting paths are those of the plain composition
+  pub plain-records : OneToOne (AcceptingRecords l w) (AcceptingRun (semiring (c .kind)) (exact (c .kind)) (plain c)) (movesOfRecords c w 0) (recordsOfMoves c w 0)
+  plain-records = exchanged (plain-runs c (all-whole .links) (N .sigma1) (N .sigma2)) (start-records l c w all-whole)
+
+  labels : (rs : List ℕ) → AcceptingRecords l w rs
+      → (map (inputOf w) rs ≡ map (composedInput (composedOf c)) (movesOfRecords c w 0 rs)) × (map (outputOf w) rs ≡ map (composedOutput (composedOf c)) (movesOfRecords c w 0 rs))
+  labels rs h =
+      let z = sided s l side rule in
+      records-labels l c w all-whole (N .sigma1) (N .sigma2)
+      (λ q t i e. let h = tr-of (l .m1) (z .formed1) q t i .input in omega (arith, h, e)) (λ q t i e. let h = tr-of (l .m2) (z .formed2) q t i .output in omega (arith, h, e))
+      rs 0 (h .0) (h .1)
+
+  -- what they tell of their pairs
+  pub weigh-both : WeighBoth l c w
+  weigh-both t e rs h =
+      records-alike l c w all-whole 0 (h .0) rs (h .1) .weight
+      ∙ ap (λ (q : Triple). movesWeight (semiring (c .kind)) (exact (c .kind)) (composedOf c) (q .s1) (q .s2) (movesOfRecords c w 0 rs)) (S .start t e)
+      ∙ moves-weigh (semiring (c .kind)) (semiring-laws (c .kind)) (exact (c .kind)) (composedOf c) (t .s1) (t .s2) (movesOfRecords c w 0 rs)
+
+  pub read-first : ReadFirst l c w
+  read-first rs h = ap word (labels rs h .0) ∙ input-word (composedOf c) (movesOfRecords c w 0 rs)
+
+  pub write-second : WriteSecond l c w
+  write-second rs h = ap word (labels rs h .1) ∙ output-word (composedOf c) (movesOfRecords c w 0 rs)
+
+-- 3c, of every sound and finished store
 pub store-paths : (s : Settings) (l : Lent) (side : Side) → sideFor s l ≡ good side → (w : World) → Sound l (compositionOf s l side) w → Finished s l w
     → Paths l (compositionOf s l side) (pickOf (s .filter)) w
 store-paths s l side rule w S F =
     let c = compositionOf s l side in
-    let z = sided s l side rule in
-    let W = whole s l side rule w S (F .read) in
-    let r = readings-of c (s .filter) refl in
-    let labels = records-labels l c w W (F .sigma1) (F .sigma2)
-    (λ q t i e. let h = tr-of (l .m1) (z .formed1) q t i .input in omega (arith, h, e)) (λ q t i e. let h = tr-of (l .m2) (z .formed2) q t i .output in omega (arith, h, e)) in
+    let N = F .settled in
     record {
-      paths = chained (exchanged (plain-runs c (W .links) (F .sigma1) (F .sigma2)) (start-records l c w W)) (exchanged (agreeing c) (r .paths));
-      weights = λ t e rs h.
-          records-alike l c w W 0 (h .0) rs (h .1) .weight
-          ∙ ap (λ (q : Triple). movesWeight (semiring (c .kind)) (exact (c .kind)) (composedOf c) (q .s1) (q .s2) (movesOfRecords c w 0 rs)) (S .start t e)
-          ∙ moves-weigh (semiring (c .kind)) (semiring-laws (c .kind)) (exact (c .kind)) (composedOf c) (t .s1) (t .s2) (movesOfRecords c w 0 rs);
-      inputs = λ rs h. ap word (labels rs 0 (h .0) (h .1) .0) ∙ r .inputs (movesOfRecords c w 0 rs);
-      outputs = λ rs h. ap word (labels rs 0 (h .0) (h .1) .1) ∙ r .outputs (movesOfRecords c w 0 rs);
+      paths = chained (plain-records s l side rule w S N) (exchanged (agreeing c) (readings-of c (s .filter) (F .filter) refl .paths));
+      weights = weigh-both s l side rule w S N;
+      inputs = read-first s l side rule w S N;
+      outputs = write-second s l side rule w S N;
     }
 
 -- a machine without a start: the store has no accepting path, and there is no pair

@@ -6,8 +6,8 @@ use mathlib.Core.Logic.{_↔_, ⊎-elim}
 use mathlib.Core.Option.{Option, none, some}
 use Prim.Native.Nat.{ℕ, zero, suc}
 use native.Mathlib.Omega.{arith}
-use lib.Dec.{eqb, ltb}
-use borrow.Author.Tests.{eqb-true, ltb-true}
+use lib.Dec.{eqb, ltb, leb}
+use borrow.Author.Tests.{eqb-true, ltb-true, leb-true}
 use Rattle.lists.specs.Lists.{every, interval}
 use Rattle.lists.proofs.Members.{and-left, and-right, in-flat, of-flat, every-in, in-interval}
 use Rattle.words.specs.Labels.{noLabel, Checked, good, refused}
@@ -15,7 +15,7 @@ use Rattle.words.specs.Settings.{Settings, Lent}
 use Rattle.calls.specs.Store.{expandedAt}
 use Rattle.calls.specs.Sequences.{World}
 use Rattle.readings.specs.Worlds.{finalIn, UsedState, Expanded, recordsIn, targetOf}
-use Rattle.readings.specs.StorePaths.{Finished, AcceptingFrom, AcceptingRecords}
+use Rattle.readings.specs.StorePaths.{Settled, Finished, AcceptingFrom, AcceptingRecords}
 
 abbrev isEnd : Checked (Option ℕ) → Bool
 isEnd (good (some x)) = true
@@ -47,14 +47,14 @@ test-expanded : (w : World) (n : ℕ) → expandedTest w n ≡ true → Expanded
 unfolding expandedTest
 test-expanded w n e = (ltb-true _ _ (and-left (ltb n (w .session .used .states)) _ e), eqb-true _ _ (and-right (ltb n (w .session .used .states)) _ e))
 
--- 3c's condition, by a test
-unfoldable pub finishedTest : Settings → Lent → World → Bool
+-- all that is read, and no sigma, by a test
+unfoldable pub settledTest : Settings → Lent → World → Bool
 unfolding expandedTest interval every
-finishedTest s l w = (eqb (s .sigma1) noLabel && eqb (s .sigma2) noLabel) && every (λ n. expandedTest w n && isGood (finalIn l w n .answer)) (interval 0 (w .session .used .states))
+settledTest s l w = (eqb (s .sigma1) noLabel && eqb (s .sigma2) noLabel) && every (λ n. expandedTest w n && isGood (finalIn l w n .answer)) (interval 0 (w .session .used .states))
 
-pub test-finished : (s : Settings) (l : Lent) (w : World) → finishedTest s l w ≡ true → Finished s l w
-unfolding finishedTest
-test-finished s l w e =
+pub test-settled : (s : Settings) (l : Lent) (w : World) → settledTest s l w ≡ true → Settled s l w
+unfolding settledTest
+test-settled s l w e =
     let sigmas = and-left (eqb (s .sigma1) noLabel && eqb (s .sigma2) noLabel) _ e in
     let states = and-right (eqb (s .sigma1) noLabel && eqb (s .sigma2) noLabel) _ e in
     let each : (n : ℕ) → UsedState w n → expandedTest w n && isGood (finalIn l w n .answer) ≡ true
@@ -67,6 +67,15 @@ test-finished s l w e =
         weighed = λ n i. good-is (finalIn l w n .answer) (and-right (expandedTest w n) _ (each n i));
       };
     }
+
+-- 3c's condition, by a test
+unfoldable pub finishedTest : Settings → Lent → World → Bool
+unfolding settledTest
+finishedTest s l w = leb (s .filter) 2 && settledTest s l w
+
+pub test-finished : (s : Settings) (l : Lent) (w : World) → finishedTest s l w ≡ true → Finished s l w
+unfolding finishedTest
+test-finished s l w e = record { settled = test-settled s l w (and-right (leb (s .filter) 2) _ e); filter = leb-true _ _ (and-left (leb (s .filter) 2) _ e) }
 
 module _ (l : Lent) (w : World) where
   -- the accepting paths of fewer than k records from state n on

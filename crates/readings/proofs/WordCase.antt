@@ -87,7 +87,10 @@ below-two P a b (suc (suc n)) h = absurd (omega arith)
 
 finished : Finished set lent left
 unfolding Holds
-finished = record { sigma1 = refl; sigma2 = refl; read = record { expanded = below-two _ (omega arith, refl) (omega arith, refl); weighed = below-two _ (none, refl) (some 1, refl) } }
+finished = record {
+  settled = record { sigma1 = refl; sigma2 = refl; read = record { expanded = below-two _ (omega arith, refl) (omega arith, refl); weighed = below-two _ (none, refl) (some 1, refl) } };
+  filter = omega arith;
+}
 
 -- the paths 1:9, and no others
 abbrev four : List (List ℕ)

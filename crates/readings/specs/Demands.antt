@@ -65,11 +65,15 @@ pub record Demand2 (s : Settings) (l : Lent) (c : Composition) (w : World) : Typ
   pub paths : AllRead l w → PapersPaths l c w
   -- document 01's filter, which looks at "none" and "all", leaves the accepting paths that the papers' own leaves
   pub filters : SamePaths (semiring (c .kind)) (exact (c .kind)) (composedOf c) (filteredBy (papersFilterOf (s .filter)) (composedOf c))
-  -- with no sigma label set, the weight of every pair of words
+  -- with no sigma label set and a filter of at most 2, the weight of every pair of words
   pub words : Finished s l w → (x y : List ℕ) → ByWords l c (pickOf (s .filter)) w x y
 
--- 2b, for every list of calls that demand 3 speaks of
-abbrev pub Claim2 : Type 0
-Claim2 = (s : Settings) (l : Lent) (got : Session) (m : Memory) → openOf s l got m .answer ≡ good tt
+-- P holds of the world that each list of calls leads to that demand 3 speaks of, and of the composition that the opening fixed
+abbrev pub AfterCalls : (Settings → Lent → Composition → World → Type 0) → Type 0
+AfterCalls P = (s : Settings) (l : Lent) (got : Session) (m : Memory) → openOf s l got m .answer ≡ good tt
     → (side : Side) × (sideFor s l ≡ good side)
-    × ((cs : List Call) → OpeningsRefused l (worldOf (openOf s l got m)) cs → Demand2 s l (compositionOf s l side) (after l (worldOf (openOf s l got m)) cs))
+    × ((cs : List Call) → OpeningsRefused l (worldOf (openOf s l got m)) cs → P s l (compositionOf s l side) (after l (worldOf (openOf s l got m)) cs))
+
+-- 2b, whole
+abbrev pub Claim2 : Type 0
+Claim2 = AfterCalls Demand2

@@ -1,5 +1,5 @@
 -- What the theorem on readings states, in reading order.
--- One to one and onto, with both maps in hand.
+-- One to one and onto, or onto alone, with both maps in hand.
 pub mod Correspondence
 -- The one composed path of two paths.
 pub mod Merge
@@ -17,5 +17,7 @@ pub mod Larger
 pub mod StorePaths
 pub mod Follows
 pub mod Demands
+-- 02, 2.1: what holds of null, trivial and no-match in place of 3c.
+pub mod Further
 -- What a caller that owns its memory may do beside these calls.
 pub mod Owned

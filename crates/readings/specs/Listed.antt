@@ -23,7 +23,7 @@ entryOf v = (edgesOf (v .move), v .next)
 unfoldable pub listedAt : Composition → Triple → List (Edges × ℕ)
 listedAt c s = map entryOf (goods (keptAt c s))
 
--- the move that goes first under filter 0, 1 and 2
+-- the move that goes first under filter 0, 1 and 2; of a larger number nothing is said
 abbrev pub pickOf : ℕ → Bool → Bool → MoveKind
 pickOf zero = sequencePick
 pickOf (suc zero) = alternatePick

@@ -22,6 +22,7 @@ use Rattle.readings.specs.Again.{Again}
 use Rattle.readings.specs.Larger.{SameUntil}
 use Rattle.readings.specs.StorePaths.{Finished, Paths}
 use Rattle.readings.specs.Demands.{Demand2}
+use Rattle.readings.specs.Further.{Further}
 
 -- Demand 3's scope, "For every list of calls after one accepted opening": w is a world to which such a list leads.
 pub record InScope (s : Settings) (l : Lent) (w : World) : Type 0 where
@@ -103,7 +104,9 @@ pub record Meets (s : Settings) (l : Lent) (w : World) : Type 0 where
   -- demand 3: what the records say, and what the next call answers
   pub sound : Sound l (compositionOf s l side) w
   pub answers : Answers l (compositionOf s l side) w
-  -- 3c: the accepting paths, once all found states are expanded and no final weight would be refused
+  -- 3c: the accepting paths, with no sigma label set and a filter of at most 2, once all found states are expanded and no final weight would be refused
   pub paths : Finished s l w → Paths l (compositionOf s l side) (pickOf (s .filter)) w
   -- demand 2b: what the papers say
   pub papers : Demand2 s l (compositionOf s l side) w
+  -- 02, 2.1: null, trivial and no-match
+  pub further : Further s l (compositionOf s l side) w

@@ -5,7 +5,7 @@ use mathlib.Core.Path.{_≡_}
 use mathlib.Core.Bool.{Bool}
 use mathlib.Core.List.{List, [], _∷_, map, List·Memᴰ}
 use mathlib.Core.Option.{Option, none, some}
-use Prim.Native.Nat.{ℕ, _+_, _-_}
+use Prim.Native.Nat.{ℕ, _+_, _-_, _≤_}
 use lib.ListN.{getElem?}
 use Rattle.papers.specs.Weight.{Kind, semiring}
 use Rattle.papers.specs.Filter.{MoveKind}
@@ -30,11 +30,17 @@ pub record AllRead (l : Lent) (w : World) : Type 0 where
   pub expanded : (n : ℕ) → UsedState w n → Expanded w n
   pub weighed : (n : ℕ) → UsedState w n → (x : Option ℕ) × (finalIn l w n .answer ≡ good x)
 
--- "with no sigma label set, once" that is so
-pub record Finished (s : Settings) (l : Lent) (w : World) : Type 0 where
+-- "with no sigma label set", and all is read
+pub record Settled (s : Settings) (l : Lent) (w : World) : Type 0 where
   pub sigma1 : s .sigma1 ≡ noLabel
   pub sigma2 : s .sigma2 ≡ noLabel
   pub read : AllRead l w
+
+-- 02, 2.1: "The reading correspondence is kept for values 0 to 2 only, since trivial may list a pair more than once and null leaves lone epsilon moves out."
+-- What holds of the others stands in Further.
+pub record Finished (s : Settings) (l : Lent) (w : World) : Type 0 where
+  pub settled : Settled s l w
+  pub filter : s .filter ≤ 2
 
 -- "accepting paths (final weight not zero)" of the store, as lists of record numbers from state n on
 abbrev pub AcceptingFrom : Lent → World → ℕ → List ℕ → Type 0
@@ -102,12 +108,22 @@ abbrev pub recordsWeight : (k : Kind) → Lent → World → ℕ → List ℕ �
 recordsWeight k l w n [] = exact k (answeredWeight (zeroOf k) (finalIn l w n .answer))
 recordsWeight k l w n (r ∷ rs) = semiring k .times (exact k (weightOf w r)) (recordsWeight k l w (targetOf w r) rs)
 
+-- "and weigh the product of both": the accepting paths of the store; the paths of the pair begin in the machines' starts
+abbrev pub WeighBoth : Lent → Composition → World → Type 0
+WeighBoth l c w = (t : Triple) → startAt c ≡ some t → (rs : List ℕ) → AcceptingRecords l w rs
+    → recordsWeight (c .kind) l w 0 rs
+    ≡ semiring (c .kind) .times (weightFrom c (machine1 c) (t .s1) (pairOfRecords c w rs .0)) (weightFrom c (machine2 c) (t .s2) (pairOfRecords c w rs .1))
+
+-- the composed input labels are the first path's, the output labels the second's, epsilons left out
+abbrev pub ReadFirst : Lent → Composition → World → Type 0
+ReadFirst l c w = (rs : List ℕ) → AcceptingRecords l w rs → word (map (inputOf w) rs) ≡ word (map (machine1 c .input) (pairOfRecords c w rs .0))
+
+abbrev pub WriteSecond : Lent → Composition → World → Type 0
+WriteSecond l c w = (rs : List ℕ) → AcceptingRecords l w rs → word (map (outputOf w) rs) ≡ word (map (machine2 c .output) (pairOfRecords c w rs .1))
+
 pub record Paths (l : Lent) (c : Composition) (pick : Bool → Bool → MoveKind) (w : World) : Type 0 where
   -- "accepting paths .. correspond one to one, paired as in document 01, with all pairs of accepting paths whose inner labels .. agree"
   pub paths : OneToOne (AcceptingRecords l w) (AgreeingPair c) (pairOfRecords c w) (recordsOfPair c pick w)
-  -- "and weigh the product of both"; the paths of the pair begin in the machines' starts
-  pub weights : (t : Triple) → startAt c ≡ some t → (rs : List ℕ) → AcceptingRecords l w rs → recordsWeight (c .kind) l w 0 rs
-      ≡ semiring (c .kind) .times (weightFrom c (machine1 c) (t .s1) (pairOfRecords c w rs .0)) (weightFrom c (machine2 c) (t .s2) (pairOfRecords c w rs .1))
-  -- the composed input labels are the first path's, the output labels the second's, epsilons left out
-  pub inputs : (rs : List ℕ) → AcceptingRecords l w rs → word (map (inputOf w) rs) ≡ word (map (machine1 c .input) (pairOfRecords c w rs .0))
-  pub outputs : (rs : List ℕ) → AcceptingRecords l w rs → word (map (outputOf w) rs) ≡ word (map (machine2 c .output) (pairOfRecords c w rs .1))
+  pub weights : WeighBoth l c w
+  pub inputs : ReadFirst l c w
+  pub outputs : WriteSecond l c w
