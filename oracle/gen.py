@@ -1,7 +1,7 @@
 #!/usr/bin/env python3
 """Random cases for the oracle and for the programs `composed` and `replay`.
 
-gen.py SEED COUNT --mixed
+gen.py SEED COUNT --mixed [--filters6]
 gen.py SEED COUNT [--lists] [--order] [--filters6] [--damage] [--size N]
 gen.py SEED --big S1 T1 S2 T2 LABELS [--kind K] [--filter F] [--eps P]
 
@@ -12,11 +12,11 @@ two allowed lists ("-": no list), both machines. They are drawn with an aim
 "both", epsilons beside empty states, every refusal and full memory turn up
 often. The second form prints COUNT groups of lines for `oracle --many`: with
 --order a line of state numbers, then the settings, then with --lists the two
-allowed lists, then both machines; --filters6 also draws the filters 3 to 5,
---damage breaks about one machine in three. The third form prints one group of
-three lines for `oracle bench`: a machine of S1 states and T1 transitions and
-one of S2 and T2, with that many labels above 0 and a share P of epsilons. The
-same arguments print the same lines.
+allowed lists, then both machines; --damage breaks about one machine in three.
+In both, --filters6 also draws the filters 3 to 5. The third form prints one
+group of three lines for `oracle bench`: a machine of S1 states and T1
+transitions and one of S2 and T2, with that many labels above 0 and a share P of
+epsilons. The same arguments print the same lines.
 """
 import random
 import sys
@@ -24,6 +24,10 @@ import sys
 MAX = 4294967295
 # the most states and transitions of a machine, and records of each sort
 LIMIT = 16777215
+# the filters' names by their values: document 01's, then those of request 2.1
+FILTERS = ("sequence", "alternate", "match", "null", "trivial", "no-match")
+ALL = range(len(FILTERS))
+BASE, ADDED = ALL[:3], ALL[3:]
 
 
 def falls(firsts, recs, side):
@@ -173,7 +177,7 @@ def sigma_of(rng, own):
 
 def case(rng, args):
     kind = rng.randint(0, 1)
-    filt = rng.randint(0, 5 if args.get("filters6") else 2)
+    filt = rng.choice(args["filters"])
     sig = [sigma_of(rng, 9), sigma_of(rng, 8)]
     size = args.get("size", 5)
     plain = rng.random() < 0.8
@@ -216,21 +220,22 @@ def allowed_of(rng):
     return None if x < 0.4 else [] if x < 0.5 else [rng.choice([0, 1, 2, 3, 4, 5, 8, 9, MAX]) for _ in range(rng.randint(1, 5))]
 
 
-def any_case(rng):
+def any_case(rng, filters):
     """Any machines, settings and lists."""
-    return case(rng, {"lists": True, "size": rng.choice([2, 3, 4, 5])})
+    return case(rng, {"filters": filters, "lists": True, "size": rng.choice([2, 3, 4, 5])})
 
 
-def damaged_case(rng):
+def damaged_case(rng, filters):
     """Machines, and now and then settings, that are refused by 1 to 3."""
-    lines = case(rng, {"lists": True, "damage": True, "size": 3})
+    lines = case(rng, {"filters": filters, "lists": True, "damage": True, "size": 3})
     if rng.random() < 0.2:
         at = rng.randrange(6)
-        lines[0] = rng.choice([lines[0][:at] + [rng.choice([2, 3, MAX])] + lines[0][at + 1:], lines[0][:at], lines[0] + [0]])
+        above = len(FILTERS) if at == 1 else 3
+        lines[0] = rng.choice([lines[0][:at] + [rng.choice([2, above, MAX])] + lines[0][at + 1:], lines[0][:at], lines[0] + [0]])
     return lines
 
 
-def sigma_case(rng, size=3):
+def sigma_case(rng, filters, size=3):
     """Sigma on one machine or on both, which have few labels of their own and
     mostly marks; a walked label may be the other machine's sigma."""
     kind, plain = rng.randint(0, 1), rng.random() < 0.9
@@ -241,11 +246,11 @@ def sigma_case(rng, size=3):
         marked = [float(sigma[0] != MAX), float(sigma[1] != MAX)]
     m = [machine(rng, kind, 1 - k, sigma[k], size, plain, "inner", top=1 if sigma[k] != MAX else 3, foreign=sigma[1 - k],
                  marked=marked[k], epsilons=(0.0, 0.1, 0.3), same=0.5, share=0.5) for k in (0, 1)]
-    settings = [kind, rng.randint(0, 2), sigma[0], rng.randint(0, 2), sigma[1], rng.randint(0, 2)]
+    settings = [kind, rng.choice(filters), sigma[0], rng.randint(0, 2), sigma[1], rng.randint(0, 2)]
     return [settings, allowed_of(rng), allowed_of(rng)] + m
 
 
-def epsilon_case(rng, size=3):
+def epsilon_case(rng, filters, size=3):
     """Many epsilons on the inner sides, states that end early, final weights zero."""
     kind = rng.randint(0, 1)
     m = [machine(rng, kind, inner, MAX, size, True, "inner", top=1, epsilons=(0.5, 0.8, 1.0)) for inner in (1, 0)]
@@ -256,22 +261,22 @@ def epsilon_case(rng, size=3):
                 w[6 + 3 * s + 1:6 + 3 * s + 3] = [0, 0]
             elif x < 0.4:
                 w[6 + 3 * s + 1:6 + 3 * s + 3] = [1, MAX if kind == 0 else 0]
-    return [[kind, rng.randint(0, 2), MAX, 0, MAX, 0], allowed_of(rng), allowed_of(rng)] + m
+    return [[kind, rng.choice(filters), MAX, 0, MAX, 0], allowed_of(rng), allowed_of(rng)] + m
 
 
-def unsorted_case(rng, size=4):
+def unsorted_case(rng, filters, size=4):
     """Machines that are not sorted: refusals 5 to 7, and the side by fact."""
     kind = rng.randint(0, 1)
     sigma = [rng.choice([MAX, MAX, MAX, 9]) for _ in (0, 1)]
     m = [machine(rng, kind, 1 - k, sigma[k], size, True, rng.choice(["inner", "none", "none"]), top=4, epsilons=(0.2,)) for k in (0, 1)]
-    return [[kind, rng.randint(0, 2), sigma[0], 0, sigma[1], 0], None, None] + m
+    return [[kind, rng.choice(filters), sigma[0], 0, sigma[1], 0], None, None] + m
 
 
-def large_case(rng, size=3):
+def large_case(rng, filters, size=3):
     """Weights at the limits of both kinds."""
     kind = rng.randint(0, 1)
     m = [machine(rng, kind, inner, MAX, size, False, "inner", top=1, epsilons=(0.0, 0.4)) for inner in (1, 0)]
-    return [[kind, rng.randint(0, 2), MAX, 0, MAX, 0], None, None] + m
+    return [[kind, rng.choice(filters), MAX, 0, MAX, 0], None, None] + m
 
 
 def listed(states, start=1, marks=(0, 0, 0)):
@@ -285,7 +290,7 @@ def listed(states, start=1, marks=(0, 0, 0)):
     return [len(states), len(recs), start, *marks] + words + sum(recs, [])
 
 
-def full_transitions(rng):
+def full_transitions(rng, filters):
     """Loops times loops: some 1024 transition records, the room of the
     programs. Machine 1's states share one chain. Now and then a walked sigma or
     a weight too large stands in it, and is answered only where room was not
@@ -301,21 +306,23 @@ def full_transitions(rng):
     for s in range(1, states):
         machine1[6 + 3 * s] = rng.choice([1, length, length - 1, rng.randint(1, length)])
     machine2 = listed([(1, [[1, k % 5, 2, 0] for k in range(loops)])], marks=(1, 0, 0))
-    return [[kind, rng.randint(0, 2), MAX, 0, sigma, 0], None, None, machine1, machine2]
+    return [[kind, rng.choice(filters), MAX, 0, sigma, 0], None, None, machine1, machine2]
 
 
-def full_states(rng):
-    """A chain of epsilons beside a chain of epsilons: some 1024 states."""
+def full_states(rng, filters):
+    """A chain of epsilons beside a chain of epsilons: some 1024 states, but under
+    match and null, which take them together."""
     kind, length = rng.randint(0, 1), rng.choice([(32, 32), (25, 41), (41, 25), (33, 31), (64, 16), (33, 33)])
     chains = []
     for k in (0, 1):
         n = length[k]
         row = [[0 if k else 1 + s % 3, 1 + s % 3 if k else 0, 1, s + 1] for s in range(n - 1)]
         chains.append(listed([(1, [r]) for r in row] + [(1, [])]))
-    return [[kind, rng.randint(0, 1), MAX, 0, MAX, 0], None, None] + chains
+    apart = [f for f in filters if FILTERS[f] not in ("match", "null")]
+    return [[kind, rng.choice(apart), MAX, 0, MAX, 0], None, None] + chains
 
 
-def full_fan(rng):
+def full_fan(rng, filters):
     """One expansion that finds some 1024 states: each pair of targets is another
     one. From state 0 on, or (one state more) beside it."""
     kind, beside = rng.randint(0, 1), rng.randint(0, 1)
@@ -323,7 +330,7 @@ def full_fan(rng):
     for k, width in enumerate(rng.choice([(32, 32), (31, 33), (25, 41), (16, 64)])):
         fan = [(1 + i % 3, 1, 1, i + beside) if k == 0 else (1, 1 + i % 3, 1, i + beside) for i in range(width)]
         machines.append(listed([(1, fan)] + [(1, [])] * (width - 1 + beside)))
-    return [[kind, rng.randint(0, 2), MAX, 0, MAX, 0], None, None] + machines
+    return [[kind, rng.choice(filters), MAX, 0, MAX, 0], None, None] + machines
 
 
 def widened(rng, lines):
@@ -343,11 +350,11 @@ AIMS = [(any_case, 30), (sigma_case, 34), (epsilon_case, 14), (unsorted_case, 6)
         (full_fan, 1)]
 
 
-def mixed(rng):
+def mixed(rng, filters):
     """A case of six lines: an aim, and a whole listing or an order."""
     aim = rng.choices([a for a, _ in AIMS], [n for _, n in AIMS])[0]
     order = order_of(rng) if aim is not full_states and rng.random() < 0.45 else None
-    lines = aim(rng)
+    lines = aim(rng, filters)
     if aim is not damaged_case and rng.random() < 0.1:
         lines = widened(rng, lines)
     return [order] + lines
@@ -402,8 +409,9 @@ def main():
         return
     args = {a[2:]: True for a in argv[2:]}
     args["size"] = names["--size"]
+    args["filters"] = ALL if args.get("filters6") else BASE
     for _ in range(int(argv[1])):
-        for line in mixed(rng) if args.get("mixed") else case(rng, args):
+        for line in mixed(rng, args["filters"]) if args.get("mixed") else case(rng, args):
             print(text(line))
 
 

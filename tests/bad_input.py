@@ -7,20 +7,25 @@ import os
 import re
 
 from machine import MAX, Words
+from model import MOVES, filtered
+from gen import FILTERS
 
 ROOT = os.path.dirname(os.path.dirname(os.path.abspath(__file__)))
 SOURCE = open(os.path.join(ROOT, "crates/bad_input/src/main.rt")).read()
+BODIES = dict(re.findall(r"fn (\w+)\(\) \{\n(.*?)\n\}", SOURCE, re.S))
+
+
+def number(w):
+    return MAX if w == "MAX" else int(w.replace("u32", ""))
 
 
 def cases():
     """The slices given to `machine`, in the order of the calls in `main`."""
-    bodies = dict(re.findall(r"fn (\w+)\(\) \{\n(.*?)\n\}", SOURCE, re.S))
-    for name in re.findall(r"(\w+)\(\);", bodies["main"]):
+    for name in re.findall(r"(\w+)\(\);", BODIES["main"]):
         arrays = {}
         for let, repeated, count, words, call, part in re.findall(
-                r"let (\w+) = \[(?:(\w+); (\d+)|([^;\]]*))\];|machine\(&(\w+)(?:\[\.\.(\d+)\])?\);", bodies[name]):
+                r"let (\w+) = \[(?:(\w+); (\d+)|([^;\]]*))\];|machine\(&(\w+)(?:\[\.\.(\d+)\])?\);", BODIES[name]):
             if let:
-                number = lambda w: MAX if w == "MAX" else int(w.replace("u32", ""))
                 arrays[let] = [number(repeated)] * int(count) if repeated else [number(w) for w in words.replace("\n", " ").replace(",", " ").split()]
             else:
                 yield arrays[call][:int(part)] if part else arrays[call]
@@ -74,27 +79,16 @@ def weights(kind):
 
 
 def cells(filter):
-    """Both "none" and "all" hold of both machines; a cell is [1, next f] or [0]."""
+    """Both "none" and "all" hold of both machines; a cell is [1, next f] or [0]. A larger filter is read as the last, an f above 2 as 2."""
     out = []
     for f in (0, 1, 2, MAX):
-        if filter == 0:
-            out += [1, 0] if f == 0 else [0]
-            out += [0] + [0] + [1, 0]
-        elif filter == 1:
-            out += [0]
-            out += [0] if f == 1 else [1, 0]
-            out += [0] + [1, 0]
-        else:
-            out += [1, 0] if f == 0 else [1, 1] if f == 1 else [0]
-            out += [1, 0] if f == 0 else [0] if f == 1 else [1, 2]
-            out += [1, 0] if f == 0 else [0]
-            out += [1, 0]
+        for move in MOVES:
+            to = filtered(min(filter, len(FILTERS) - 1), move, [True] * 2, [True] * 2, min(f, 2))
+            out += [0] if to is None else [1, to]
     line("c", *out)
 
 
 for m in cases():
     machine(m)
-for k in (0, 1, MAX):
-    weights(k)
-for k in (0, 1, MAX):
-    cells(k)
+for name, k in re.findall(r"(weights|cells)\((\w+)\);", BODIES["main"]):
+    {"weights": weights, "cells": cells}[name](number(k))

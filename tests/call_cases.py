@@ -49,9 +49,9 @@ def line(text):
 
 
 def printing(oracle, seed, count):
-    text = subprocess.run([sys.executable, rust.GEN, seed, count], capture_output=True, text=True, check=True).stdout
+    text = subprocess.run([sys.executable, rust.GEN, seed, count, "--filters6"], capture_output=True, text=True, check=True).stdout
     rows = text.split("\n")[:-1]
-    for k, out in enumerate(oracle_many([oracle, "composed", "--many", "--zero-final"], text)[:-1]):
+    for k, out in enumerate(oracle_many([oracle, "composed", "--many", *rust.READING], text)[:-1]):
         w, m1, m2 = (antt(r.split()) for r in rows[3 * k:3 * k + 3])
         yield f"printing {w} {m1} {m2} {seq(line(t) for t in out.strip().split(chr(10)))}"
 
@@ -94,13 +94,13 @@ class Slices:
 
 def calling(oracle, seed, count):
     draw = random.Random(int(seed))
-    text = subprocess.run([sys.executable, rust.GEN, seed, count, "--lists", "--order"], capture_output=True, text=True, check=True).stdout
+    text = subprocess.run([sys.executable, rust.GEN, seed, count, "--lists", "--order", "--filters6"], capture_output=True, text=True, check=True).stdout
     rows = text.split("\n")[:-1]
     for k in range(0, len(rows), 6):
         rows[k] = " ".join(str(draw.randint(0, 5)) for _ in range(8))
         room = (draw.randint(1, 9), draw.randint(0, 14))
         case = "\n".join(rows[k:k + 6]) + "\n"
-        out = oracle_many([oracle, "order", "--many", "--lists", "--zero-final", f"--room={room[0]}:{room[1]}"], case)[0]
+        out = oracle_many([oracle, "order", "--many", "--lists", *rust.READING, f"--room={room[0]}:{room[1]}"], case)[0]
         yield calls(draw, room, [int(x) for x in rows[k].split()], rows[k + 1:k + 6], *parsed(out))
 
 

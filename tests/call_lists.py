@@ -10,14 +10,19 @@ oracle/build made around it; it knows no sessions and no memory, so what is comp
 import os
 import random
 import sys
+from itertools import product
 
 import rust
+from features import Watched, of_cell
+from gen import ADDED, ALL, FILTERS
 from machine import LIMIT, MAX, Words
-from model import FIRST, STATE_WORDS, TR_WORDS, Lent, World
+from model import EXPANDED, FILTER_STATE, FIRST, MOVES, SIDES, STATE_WORDS, TR_WORDS, Lent, World, filtered
 
-SEED, CASES = 1, 160
+SEED, CASES = 1, 150
 # the numbers that each call must answer somewhere in the lists
 WANTED = {"o": (0, 1, 2, 3, 4, 5, 6, 7, 13), "e": range(14), "f": (*range(10), 12), "r": (*range(9), 10, 11, 12, 13)}
+# request 2.1's "from any f": the cells that must be gone through from an f that only a changed record has
+ANY_F = [of_cell(filter, move, f, filtered(filter, move, None, None, f)) for filter, move, f in product(ADDED, MOVES, (1, 2))]
 
 
 def weight(draw, kind):
@@ -64,21 +69,21 @@ def some(draw):
 
 def drawn_settings(draw):
     sigmas = [draw.choice((9, 9, 1)) * some(draw) if draw.random() < 0.3 else MAX for _ in (0, 1)]
-    return [draw.randint(0, 1), draw.randint(0, 2), sigmas[0], draw.randint(0, 2), sigmas[1], draw.randint(0, 2)]
+    return [draw.randint(0, 1), draw.choice(ALL), sigmas[0], draw.randint(0, 2), sigmas[1], draw.randint(0, 2)]
 
 
 def drawn_list(draw):
     return [draw.choice((0, 1, 2, 3, 9, MAX)) for _ in range(draw.randint(0, 3))] if draw.random() < 0.3 else None
 
 
-ODD = (0, 1, 2, 3, 4, 5, 7, 8, 9, 65536, LIMIT, LIMIT + 1, 2 ** 31, MAX)
+ODD = (0, 1, 2, 3, 4, 5, len(FILTERS), 7, 8, 9, 65536, LIMIT, LIMIT + 1, 2 ** 31, MAX)
 
 
 class Case:
-    """One list of calls: its lines in `asked`, what the program prints in `seen`."""
+    """One list of calls: its lines in `asked`, what the program prints in `seen`, the cells of the table gone through from another f in `cells`."""
 
     def __init__(self, draw):
-        self.draw, self.asked, self.seen = draw, [], []
+        self.draw, self.asked, self.seen, self.cells = draw, [], [], set()
         self.settings = drawn_settings(draw)
         kind = self.settings[0]
         self.lent = Lent(machine(draw, 0, kind, self.settings[2]), machine(draw, 1, kind, self.settings[4]), drawn_list(draw), drawn_list(draw))
@@ -114,8 +119,7 @@ class Case:
         n = self.draw.randrange(min(found, 12)) if found and self.draw.random() < 0.9 else self.draw.choice((0, 1, found, MAX))
         what = self.draw.randint(0, 9)
         if what < 4:
-            self.ask(9, n)
-            self.answered("e", self.world.calling(self.world.expand, n, self.lent))
+            self.expand(n)
         elif what < 6:
             self.ask(10, n)
             self.answered("f", self.world.calling(self.world.final, n, self.lent))
@@ -127,6 +131,24 @@ class Case:
             n = self.draw.choice(listed) if listed and self.draw.random() < 0.8 else n
             self.ask(12, n)
             self.answered("p", self.world.records(n, self.lent))
+
+    def expand(self, n):
+        self.ask(9, n)
+        answer = self.world.calling(self.world.expand, n, self.lent)
+        self.answered("e", answer)
+        return answer[0]
+
+    def expand_from_any(self):
+        """Expands a found state after giving it another f, which breaks no form."""
+        found = range(min(self.world.session[7], self.world.state_room()))
+        waiting = [n for n in found if self.world.state(n, EXPANDED) == 0]
+        if waiting:
+            n = self.draw.choice(waiting)
+            self.word_set(1, STATE_WORDS * n + FILTER_STATE, self.draw.randint(1, 2))
+            if self.expand(n) == 0:
+                c = Watched(self.world.session[:6], self.lent, self.world.session[6])
+                list(c.steps(*self.world.triple(n)))
+                self.cells |= c.seen
 
     def show(self):
         self.ask(13)
@@ -199,6 +221,8 @@ class Case:
                     back()
             elif draw.random() < 0.12:
                 self.open_again()
+            elif draw.random() < 0.3:
+                self.expand_from_any()
             else:
                 self.call()
         self.show()
@@ -206,12 +230,12 @@ class Case:
 
 
 def cases():
-    """The first CASES lists, and of those drawn after them each that brings a wanted answer not seen before."""
+    """The first CASES lists, and of those drawn after them each that brings a wanted answer or cell not seen before."""
     draw, found = random.Random(SEED), []
-    lacking = {(letter, n) for letter, numbers in WANTED.items() for n in numbers}
+    lacking = {(letter, n) for letter, numbers in WANTED.items() for n in numbers} | set(ANY_F)
     while lacking or len(found) < CASES:
         c = Case(draw).play()
-        new = lacking & {(r[0], r[1]) for r in c.seen if len(r) > 1}
+        new = lacking & ({(r[0], r[1]) for r in c.seen if len(r) > 1} | c.cells)
         if new or len(found) < CASES:
             found.append(c)
             lacking -= new
@@ -229,7 +253,7 @@ def compare(oracle):
         if opened != [0]:
             assert opened == [side], (c.asked, opened, side)
             continue
-        assert side == ("input", "output", "both")[w.session[6]], c.asked
+        assert side == SIDES[w.session[6]], c.asked
         for n, answer in enumerate(answers):
             got = w.calling(w.expand, n, c.lent)
             listed = w.records(n, c.lent)

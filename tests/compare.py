@@ -18,7 +18,7 @@ from collections import Counter
 
 import rust
 from features import features
-from gen import mixed
+from gen import ALL, mixed
 
 BATCH = 500
 
@@ -79,7 +79,7 @@ def main():
     replay, composed = program(args.replay, "replay"), program(args.composed, "composed")
     rng, seen, began = random.Random(args.seed), Comparison(), time.time()
     for done in range(0, args.cases, BATCH):
-        seen.batch(oracle, replay, composed, [mixed(rng) for _ in range(min(BATCH, args.cases - done))])
+        seen.batch(oracle, replay, composed, [mixed(rng, ALL) for _ in range(min(BATCH, args.cases - done))])
     for name, count in sorted(seen.counts.items()):
         print(f"{count:7} {name}")
     asked = ", ".join(f"{n} answers of {name}" for name, n in seen.asked.items())

@@ -21,7 +21,7 @@ from collections import Counter
 
 import rust
 from compare import program
-from gen import listed, mixed
+from gen import ALL, FILTERS, listed, mixed
 from machine import LIMIT, MAX, Words
 
 BATCH = 500
@@ -49,7 +49,7 @@ def words_of(line):
 def meaning(data):
     """The refusal 1, 2 or 3, or the three lists of words. A line ends at a line feed or with the input; a missing line is empty; later lines are not read."""
     settings, *machines = map(words_of, (data.split(b"\n") + [b"", b""])[:3])
-    if settings is None or len(settings) != 6 or settings[0] > 1 or settings[1] > 2 or settings[3] > 2 or settings[5] > 2:
+    if settings is None or len(settings) != 6 or settings[0] > 1 or settings[1] >= len(FILTERS) or settings[3] > 2 or settings[5] > 2:
         return 1
     for k, m in enumerate(machines):
         if m is None or len(m) > 4096 or not Words(m).well_formed():
@@ -121,7 +121,7 @@ def other_label(rng, lines):
 
 
 def other_setting(rng, lines):
-    put(lines[0], rng.randrange(6), rng.choice([0, 1, 2, 3, 9, MAX]))
+    put(lines[0], rng.randrange(6), rng.choice([0, 1, 2, 3, len(FILTERS) - 1, len(FILTERS), 9, MAX]))
 
 
 def other_word(rng, lines):
@@ -254,7 +254,7 @@ BYTE_DAMAGE = [byte_changed, byte_more, byte_less, cut, doubled, blanks, zeros, 
 def drawn(rng):
     """A damaged input, and what was done."""
     while True:
-        case = mixed(rng)
+        case = mixed(rng, ALL)
         if sum(map(len, case[4:])) < 400:
             break
     lines, done = [list(case[1])] + [list(m) for m in case[4:]], []
@@ -321,7 +321,7 @@ def main():
             counts.update({f"damage {name}" for name in how} | {f"answer {said}"})
             if said not in ("refused 1", "refused 2", "refused 3"):
                 counts.update(f"damage {name}, still of well-formed words" for name in set(how))
-            by_harness = subprocess.run([oracle, "composed", "--zero-final"], input=data, stdout=subprocess.PIPE, check=True).stdout.decode()
+            by_harness = subprocess.run([oracle, "composed", *rust.READING], input=data, stdout=subprocess.PIPE, check=True).stdout.decode()
             got = printed(rng, composed, data)
             if not got == answer == by_harness:
                 differences += 1

@@ -1,12 +1,43 @@
 """What a case of `replay` shows: names of the rows of document 01 that it goes through, by the model in model.py and the Rust's answer."""
 from collections import Counter
 from functools import cache
+from itertools import product
 
-from model import Composition, Lent, Refused, side_for
 from machine import MAX, Words
+from model import MOVES, SIDES, Composition, Lent, Refused, filtered, side_for
+from gen import ALL, FILTERS
 
-FILTERS = ("sequence", "alternate", "match")
 TRACED = 40  # expansions looked at in one case
+WAYS = ("whole listing", "order of expansions")
+# features whose answers are long: memory that is nearly full
+LONG = ("more than 1000 states stored", "more than 1000 transitions stored", "order, an expansion after refused 13")
+
+
+def of_filter(filter, what):
+    return f"filter {FILTERS[filter]}, {what}"
+
+
+def of_move(filter, move, what):
+    return of_filter(filter, (f"{move + 1} alone" if move in (0, 1) else move) + what)
+
+
+def of_cell(filter, move, f, to):
+    return of_move(filter, move, f", f {f}: {'drop' if to is None else to}")
+
+
+def of_opening(settings, side, way):
+    """What an accepted opening shows of its filter."""
+    sigmas = [f"sigma of machine {k + 1} set" for k in (0, 1) if settings[2 + 2 * k] != MAX]
+    for what in [f"side {SIDES[side]}", f"kind {settings[0]}", way, *sigmas]:
+        yield of_filter(settings[1], what)
+
+
+def required():
+    """What every filter must be seen with: what its table makes of each move from f = 0; the sides, the kinds, the sigmas, listings and orders."""
+    for filter, move, *facts in product(ALL, MOVES, *[(False, True)] * 4):
+        yield of_cell(filter, move, 0, filtered(filter, move, facts[:2], facts[2:], 0))
+    for filter, side, kind, way in product(ALL, range(len(SIDES)), (0, 1), WAYS):
+        yield from of_opening([kind, filter, 1, 0, 1, 0], side, way)
 
 
 class Kept(Words):
@@ -53,17 +84,16 @@ class Watched(Composition):
                 self.seen.add(f"{name}, label kept out by its {'empty ' if not self.allowed[k] else ''}allowed list")
         return found
 
-    def cell(self, kind, states, f):
-        to = super().cell(kind, states, f)
-        move = f"{kind + 1} alone" if kind in (0, 1) else kind
-        self.seen.add(f"filter {FILTERS[self.filter]}, {move}, f {f}: {'drop' if to is None else to}")
-        if kind in (0, 1):
-            other = self.machines[1 - kind]
-            s = states[1 - kind]
+    def cell(self, move, states, f):
+        to = super().cell(move, states, f)
+        self.seen.add(of_cell(self.filter, move, f, to))
+        if move in (0, 1):
+            other = self.machines[1 - move]
+            s = states[1 - move]
             if not other.list(s) and other.state(s, 1) == 0:
-                self.seen.add(f"filter {FILTERS[self.filter]}, {move} beside an empty nonfinal state")
-            if other.state(s, 1) == 1 and other.state(s, 2) == self.zero() and all(other.tr(t, kind) == 0 for t in other.list(s)):
-                self.seen.add(f"filter {FILTERS[self.filter]}, {move} beside a final weight zero without which \"all\" would hold")
+                self.seen.add(of_move(self.filter, move, " beside an empty nonfinal state"))
+            if other.state(s, 1) == 1 and other.state(s, 2) == self.zero() and all(other.tr(t, move) == 0 for t in other.list(s)):
+                self.seen.add(of_move(self.filter, move, " beside a final weight zero without which \"all\" would hold"))
         return to
 
     def times(self, a, b):
@@ -140,17 +170,18 @@ def memory(order, lines):
     """How full memory is left, where the last line says."""
     if lines[-1].startswith("end "):
         states, trs = map(int, lines[-1].split()[1:])
-        yield from [f"more than 1000 {name} stored" for name, n in (("states", states), ("transitions", trs)) if n > 1000]
+        yield from [name for name, n in zip(LONG, (states, trs)) if n > 1000]
     if order is not None and "refused 13" in lines:
         after = lines[lines.index("refused 13"):]
         if any(line.startswith("e ") for line in after):
-            yield "order, an expansion after refused 13"
+            yield LONG[2]
 
 
 def features(case, answer):
     order, settings, allowed, machines = case[0], case[1], case[2:4], case[4:6]
     lines = answer.rstrip("\n").split("\n")
-    found = {"order of expansions" if order is not None else "whole listing"}
+    way = WAYS[order is not None]
+    found = {way}
     if order == []:
         found.add("order, empty")
     found |= {("opening " if k == 0 else "") + line for k, line in enumerate(lines) if line.startswith("refused")}
@@ -163,12 +194,13 @@ def features(case, answer):
         found.add("no state found")
     if len(settings) != 6:
         return found
-    found |= {f"kind {settings[0]}", f"filter {settings[1]}"} if settings[0] < 2 and settings[1] < 3 else set()
+    found |= {f"kind {settings[0]}", f"filter {settings[1]}"} if settings[0] < 2 and settings[1] in ALL else set()
     lent = Lent(*machines, *allowed)
     try:
         side = side_for(settings, lent)
     except Refused:
         return found
+    found.update(of_opening(settings, side, way))
     found.update(of_lists(settings, allowed))
     for k in (0, 1):
         found.update(of_words(k, machines[k], settings[0]))

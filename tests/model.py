@@ -1,10 +1,18 @@
-"""Document 01's calls, worked out from its text: the checks, the moves, the memory."""
+"""Document 01's calls with request 2.1's filters, worked out from their text: the checks, the moves, the memory."""
 from machine import LIMIT, MAX, Words
+from gen import FILTERS
 
 # the words of a state record (s1, s2, f, expanded, first, next) and of a transition record
 STATE_WORDS, TR_WORDS = 6, 5
-# the places in a state record that are written after it
+# the places in a state record of f, and of what is written after the triple
+FILTER_STATE = 2
 EXPANDED, FIRST, NEXT = 3, 4, 5
+# the sides by their numbers in a session
+SIDES = ("input", "output", "both")
+# the moves, as the model names them: machine 1 or machine 2 alone, both by an epsilon, both by a label
+MOVES = (0, 1, "both", "label")
+# request 2.1: the moves that each of its filters drops; the others are kept with f = 0, from any f
+DROPPED = {"null": (0, 1), "trivial": (), "no-match": ("both",)}
 
 
 class Refused(Exception):
@@ -28,9 +36,9 @@ class Lent:
 
 
 def side_for(settings, lent):
-    """Checks 1 to 7; the side: 0 input, 1 output, 2 both."""
+    """Checks 1 to 7; the number of the side."""
     kind, filter, sigma1, mode1, sigma2, mode2 = settings
-    refuse(kind > 1 or filter > 2 or mode1 > 2 or mode2 > 2, 1)
+    refuse(kind > 1 or filter >= len(FILTERS) or mode1 > 2 or mode2 > 2, 1)
     a, b = lent.machines()
     refuse(not a.well_formed(), 2)
     refuse(not b.well_formed(), 3)
@@ -46,6 +54,25 @@ def side_for(settings, lent):
         return 1
     refuse(not b.sorted(0), 7)
     return 0
+
+
+def filtered(filter, move, none, every, f):
+    """The filters' table: the next f, or None where the move is dropped. `none` and `every` tell of machine 1 and of machine 2."""
+    if FILTERS[filter] in DROPPED:
+        return None if move in DROPPED[FILTERS[filter]] else 0
+    if move == "label":
+        return 0
+    if move == "both":
+        return 0 if filter == 2 and f == 0 else None
+    if filter == 2:
+        other, own = 1 - move, 1 + move
+        if f == 0:
+            return 0 if none[other] else None if every[other] else own
+        return own if f == own else None
+    if filter == move:
+        # sequence and machine 1, alternate and machine 2: the filter state decides
+        return (0 if f == 0 else None) if move == 0 else (None if f == 1 else 0)
+    return None if every[1 - move] else 0 if none[1 - move] else 1
 
 
 class Composition:
@@ -105,23 +132,11 @@ class Composition:
                 out.append(r)
         return out
 
-    def cell(self, kind, states, f):
-        """The filters' table: the next f, or None where the move is dropped. kind: 0 or 1, that machine alone; "both"; "label"."""
+    def cell(self, move, states, f):
+        """What the filter makes of a move at these states: the next f, or None."""
         none = [self.machines[k].none(1 - k, states[k]) for k in (0, 1)]
         every = [self.machines[k].all(1 - k, states[k]) for k in (0, 1)]
-        if kind == "label":
-            return 0
-        if kind == "both":
-            return 0 if self.filter == 2 and f == 0 else None
-        if self.filter == 2:
-            other, own = 1 - kind, 1 + kind
-            if f == 0:
-                return 0 if none[other] else None if every[other] else own
-            return own if f == own else None
-        if self.filter == kind:
-            # sequence and machine 1, alternate and machine 2: the filter state decides
-            return (0 if f == 0 else None) if kind == 0 else (None if f == 1 else 0)
-        return None if every[1 - kind] else 0 if none[1 - kind] else 1
+        return filtered(self.filter, move, none, every, f)
 
     def steps(self, s1, s2, f):
         """The kept moves in their order, each as input, output, weight and target triple. A refusal is raised at its place."""
@@ -131,8 +146,8 @@ class Composition:
         rest = [[0, 0, 0 if self.kind == 0 else 1, states[k]] for k in (0, 1)]
         epsilons = [self.record(m, t) for t in self.machines[m].list(states[m]) if self.inner(m, t) == 0]
 
-        def made(kind, walked, found):
-            g = self.cell(kind, states, f)
+        def made(move, walked, found):
+            g = self.cell(move, states, f)
             if g is None:
                 return
             a, b = (walked, found) if w == 0 else (found, walked)

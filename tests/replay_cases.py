@@ -5,8 +5,9 @@
 
 First the proved cases of document 01 but for the ninth, which needs a smaller memory than the form has; its "run only" case; its four slips; every
 chosen input of tests/state_cases.py; the inputs of docs/DIFFERENCES.md; memory filled to the last record and one beyond. Then cases drawn by oracle/gen.py
-from SEED, until each feature that tests/features.py names stands in WANTED of them (but for memory that is nearly full, whose answers are long) and there are CASES
-in all. The same sources give the same files.
+from SEED, until each feature that tests/features.py names stands in WANTED of them (but for memory that is nearly full, whose answers are long). All this for
+document 01's filters, then for request 2.1's. The exit status is 1 where a feature stands in fewer, or a filter's opening is accepted in fewer than LEAST. The
+same sources give the same files.
 """
 import os
 import random
@@ -15,11 +16,11 @@ from collections import Counter
 
 import rust
 import state_cases
-from features import features
-from gen import listed, mixed
+from features import LONG, WAYS, features, of_filter, required
+from gen import ADDED, ALL, BASE, FILTERS, listed, mixed
 from state_cases import MAX, ONE1, ONE2
 
-SEED, CASES, WANTED = 12, 1000, 20
+SEED, WANTED, LEAST = 12, 20, 60
 BATCH, DRAWS = 2000, 30000
 # bytes of a drawn case and its answer: large ones only where a feature is lacking in small ones
 SMALL, LARGE = 480, 2000
@@ -87,6 +88,13 @@ def full():
     yield [[0, 1, 2, 1, 0]] + listing(plain(0, 0), three, listed([(1, [(1, 2, 2, 0)] * 32)], marks=(1, 0, 0)))[1:]
 
 
+def above():
+    """The first value that is no filter."""
+    for case in (listing(plain(0, len(FILTERS)), ONE1, ONE2), listing([0, len(FILTERS), 0, 0, MAX, 0], [], [])):
+        yield case
+        yield [[0]] + case[1:]
+
+
 def chosen():
     yield from (case for case, _ in stars())
     for _, settings, a1, a2, m1, m2, n in state_cases.cases():
@@ -94,10 +102,12 @@ def chosen():
         yield [list(range(n, -1, -1)) * 2] + listing(settings, m1, m2, a1, a2)[1:]
     yield from differences()
     yield from full()
+    yield from above()
 
 
-def distinct(cases):
-    return list({rust.text(c): c for c in cases}.values())
+def chosen_once(base):
+    """The chosen cases with document 01's filters, or the others; each once."""
+    return list({rust.text(c): c for c in chosen() if (c[1][1] in BASE) == base}.values())
 
 
 class Collection:
@@ -116,29 +126,34 @@ class Collection:
             self.texts[text] = answer
             self.counts.update(found)
 
-    def drawn(self):
-        """The cases drawn from the seed, small ones first."""
+    def drawn(self, filters):
+        """The cases with these filters drawn from the seed, small ones first."""
         rng, small, large = random.Random(SEED), [], []
         for _ in range(DRAWS // BATCH):
-            for one in self.looked_at([mixed(rng) for _ in range(BATCH)]):
+            for one in self.looked_at([mixed(rng, filters) for _ in range(BATCH)]):
                 size = len(rust.text(one[0])) + len(one[1])
                 (small if size <= SMALL else large if size <= LARGE else []).append(one)
-        return small, small + large
+        return small + large
 
-    def fill(self):
-        """Cases for each feature, the rarest first; then any."""
-        small, drawn = self.drawn()
+    def fill(self, filters):
+        """Cases with these filters for each feature, the rarest first."""
         holding = {}
-        for one in drawn:
+        for one in self.drawn(filters):
             for name in one[2]:
                 holding.setdefault(name, []).append(one)
         for name in sorted(holding, key=lambda name: (len(holding[name]), name)):
             for one in holding[name]:
                 if self.counts[name] < WANTED:
                     self.take(*one)
-        for one in small:
-            if len(self.texts) < CASES:
-                self.take(*one)
+
+    def lacking(self):
+        """What stands in too few cases."""
+        names = (set(self.counts) | set(required())) - set(LONG)
+        yield from sorted(f"{name} ({self.counts[name]})" for name in names if self.counts[name] < WANTED)
+        for filter in ALL:
+            opened = sum(self.counts[of_filter(filter, way)] for way in WAYS)
+            if opened < LEAST:
+                yield f"filter {FILTERS[filter]}, an accepted opening ({opened})"
 
 
 # The input ends inside a case: its settings without a line feed, and no machine. The missing lines are empty, so that machine 1 is malformed.
@@ -149,11 +164,13 @@ def main():
     oracle = rust.oracle_at(sys.argv[1])
     for (case, holds), answer in zip(list(stars()), rust.answers(oracle, [c for c, _ in stars()])):
         assert holds(answer), (case, answer)
-    all_ = Collection(oracle)
-    for one in all_.looked_at(distinct(chosen())):
-        all_.take(*one)
-    own = len(all_.texts)
-    all_.fill()
+    all_, own = Collection(oracle), 0
+    for filters in (BASE, ADDED):
+        cases = chosen_once(filters == BASE)
+        for one in all_.looked_at(cases):
+            all_.take(*one)
+        all_.fill(filters)
+        own += len(cases)
     folder = os.path.join(rust.ROOT, "crates/replay")
     os.makedirs(folder, exist_ok=True)
     with open(os.path.join(folder, "stdin"), "w") as f:
@@ -163,9 +180,10 @@ def main():
     for name, count in sorted(all_.counts.items()):
         print(f"{count:6} {name}")
     sizes = [os.path.getsize(os.path.join(folder, n)) for n in ("stdin", "stdout")]
-    lacking = sorted(f"{name} ({count})" for name, count in all_.counts.items() if count < WANTED)
-    print(f"features in fewer than {WANTED} cases: {', '.join(lacking) or 'none'}")
+    lacking = list(all_.lacking())
+    print(f"in too few cases: {', '.join(lacking) or 'nothing'}")
     print(f"{len(all_.texts)} cases, {own} of them chosen; {sizes[0]} bytes in, {sizes[1]} bytes out; seed {SEED}")
+    sys.exit(1 if lacking else 0)
 
 
 if __name__ == "__main__":

@@ -6,7 +6,9 @@ import sys
 ROOT = os.path.dirname(os.path.dirname(os.path.abspath(__file__)))
 sys.path.insert(0, os.path.join(ROOT, "oracle"))
 GEN = os.path.join(ROOT, "oracle/gen.py")
-ASKED = ["--many", "--lists", "--room", "--zero-final"]
+# all six filters; a final weight equal to zero as document 01 reads it
+READING = ["--filters6", "--zero-final"]
+ASKED = ["--many", "--lists", "--room", *READING]
 
 
 def built(source):

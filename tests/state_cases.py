@@ -4,14 +4,15 @@
     python3 tests/state_cases.py RUST > crates/words/proofs/RustCases.antt
     python3 tests/state_cases.py RUST --random SEED COUNT > a scratch file of the same form
 
-RUST is the folder of rustfst's sources, or the program that oracle/build made around it. `oracle order --many --lists --zero-final` reads a line
-of state numbers, the settings, the two allowed lists ("-": no list) and both machines, and prints the side, each state's transitions or its
+RUST is the folder of rustfst's sources, or the program that oracle/build made around it. `oracle order --many --lists --filters6 --zero-final` reads
+a line of state numbers, the settings, the two allowed lists ("-": no list) and both machines, and prints the side, each state's transitions or its
 refusal, and the found states; oracle/gen.py prints random input of that form. The inputs below are ours, the answers are the Rust's.
 """
 import subprocess
 import sys
 
 import rust
+from gen import ADDED, FILTERS
 from gen import listed as machine
 from machine import MAX
 
@@ -48,8 +49,16 @@ def cases():
     yield ("slip: sigma beside an explicit label", (0, 0, NO, 0, 9, 1), None, None,
            machine([(0, [(1, 3, 0, 0), (2, 5, 0, 0)])]), machine(SIGMA2, marks=(1, 0, 0)), 0)
     # filters over states with epsilons and labels on both sides
-    for f, name in ((1, "alternate"), (2, "match")):
+    for f, name in enumerate(FILTERS[1:], 1):
         yield f"epsilons and labels on both sides, {name}", (0, f, NO, 0, NO, 0), None, None, MIXED1, MIXED2, 0
+    # request 2.1's filters, which ask for neither "all" nor "none"
+    for f in ADDED:
+        yield f"a lone epsilon of machine 1 beside an empty state, {FILTERS[f]}", (0, f, NO, 0, NO, 0), None, None, EPS1, EMPTY, 0
+        yield f"a lone epsilon of machine 2 beside an empty state, {FILTERS[f]}", (0, f, NO, 0, NO, 0), None, None, EMPTY, EPS2, 0
+        yield (f"side input, epsilons and labels on both sides, {FILTERS[f]}", (0, f, NO, 0, NO, 0), None, None,
+               machine([(None, [(1, 4, 1, 0), (2, 0, 1, 0)])]), MIXED2, 0)
+        yield (f"two epsilons whose weights together are too large, {FILTERS[f]}", (0, f, NO, 0, NO, 0), None, None,
+               machine([(0, [(2, 0, 2147483648, 0)])]), machine([(0, [(0, 5, 2147483647, 0)])]), 0)
     yield "match, from f = 1", (0, 2, NO, 0, NO, 0), None, None, machine([(None, [(1, 0, 1, 1)]), (0, [(2, 0, 1, 0), (2, 3, 1, 0)])]), \
         machine([(None, [(0, 6, 1, 1), (3, 7, 1, 0)]), (0, [(0, 7, 1, 1), (3, 8, 1, 0)])]), 1
     # sides and directions
@@ -108,7 +117,7 @@ def listed(ws):
 def ask(oracle, settings, a1, a2, m1, m2, orders):
     """The Rust's answer: the side (or the refusal of the opening), the answer at each ordered state, the found states."""
     text = "\n".join([words(orders), words(settings), listed(a1), listed(a2), words(m1), words(m2), ""])
-    out = subprocess.run([oracle, "order", "--many", "--lists", "--zero-final"], input=text, capture_output=True, text=True, check=True).stdout
+    out = subprocess.run([oracle, "order", "--many", "--lists", *rust.READING], input=text, capture_output=True, text=True, check=True).stdout
     return parsed(out.split("--")[0])
 
 
@@ -169,7 +178,7 @@ def chosen(oracle):
 
 
 def drawn(oracle, seed, count):
-    text = subprocess.run([sys.executable, rust.GEN, seed, count, "--lists", "--order"], capture_output=True, text=True, check=True).stdout
+    text = subprocess.run([sys.executable, rust.GEN, seed, count, "--lists", "--order", "--filters6"], capture_output=True, text=True, check=True).stdout
     lines = text.split("\n")[:-1]
     for k in range(0, len(lines), 6):
         settings, m1, m2 = ([int(x) for x in lines[k + j].split()] for j in (1, 4, 5))

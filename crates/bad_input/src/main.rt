@@ -247,5 +247,9 @@ fn main() {
     weights(MAX);
     cells(0);
     cells(1);
+    cells(2);
+    cells(3);
+    cells(4);
+    cells(5);
     cells(MAX);
 }
