@@ -188,8 +188,8 @@ int main(int c, char **v) {
   filter = s[1];
   m[0] = words();
   m[1] = words();
-  if (s[0] != KIND || m[0][0] > 65536 || m[1][0] > 65536) {
-    fprintf(stderr, "another kind of weight, or too many states\n");
+  if (s[0] != KIND || filter > 2 || m[0][0] > 65536 || m[1][0] > 65536) {
+    fprintf(stderr, "another kind of weight, another filter, or too many states\n");
     return 1;
   }
   heads = malloc(4 * nh);

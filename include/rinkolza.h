@@ -98,13 +98,45 @@
  *   both epsilon  drop                drop                f=0: 0; else drop
  *   a label       0                   0                   0
  *
+ *   move          null                trivial             no-match
+ *   1 alone       drop                0                   0
+ *   2 alone       drop                0                   0
+ *   both epsilon  0                   0                   drop
+ *   a label       0                   0                   0
+ *
  * The start has f = 0. State numbers count from 0 in the order of first finding.
+ *
+ * ---------------------------------------------------------------------------
+ * Which filter
+ *
+ * A reading of a machine is a path from its start to a final weight, with no
+ * weight that is zero. Two readings, one of each machine, agree where the second
+ * reads what the first writes, epsilons left out. Where all found states are
+ * expanded, no final weight is refused with 12 and no sigma label is set:
+ *
+ *   sequence, alternate, match
+ *       Each two that agree are one reading of the composition, and it has no
+ *       others. Totals of counts and least costs are right.
+ *   trivial, no-match
+ *       Each two that agree are one reading or more, one for each order in which
+ *       their epsilons can be taken: a total of counts may be too large, and who
+ *       takes one must not take these filters. A least cost is right. Where one
+ *       machine has no epsilon on its inner side, there is one order.
+ *   null
+ *       Epsilon is a label like others: two readings of as many transitions, with
+ *       the same inner labels place by place, epsilons included, are one reading
+ *       of the composition. Others that agree are lost: a total of counts may be
+ *       too small, a least cost too large. It is for machines whose inner
+ *       epsilons must meet.
+ *
+ * Where neither machine has an epsilon on its inner side all six list the same.
  *
  * ---------------------------------------------------------------------------
  * Settings, 6 words (const, for rinkolza_open)
  *
  *     0  kind of the weights: RINKOLZA_COST or RINKOLZA_COUNT
- *     1  filter: RINKOLZA_SEQUENCE, RINKOLZA_ALTERNATE or RINKOLZA_MATCH
+ *     1  filter: RINKOLZA_SEQUENCE, _ALTERNATE, _MATCH, _NULL, _TRIVIAL or
+ *        _NO_MATCH
  *     2  sigma label of machine 1; RINKOLZA_NO_LABEL: none; 0 is refused
  *     3  rewrite mode of machine 1: RINKOLZA_REWRITE_...
  *     4  sigma label of machine 2; RINKOLZA_NO_LABEL: none; 0 is refused
@@ -149,7 +181,7 @@
  *   states  records of RINKOLZA_STATE_WORDS words; record n + 1 is state n:
  *             0  s1, the state of machine 1
  *             1  s2, the state of machine 2
- *             2  f, the filter state: 0, 1 or 2
+ *             2  f, the filter state: 0, 1 or 2; by null, trivial and no-match 0
  *             3  expanded: 0 or 1
  *             4  first transition record of its list, counted from 1; 0: none
  *             5  the next record of its chain; 0 ends it
@@ -164,18 +196,18 @@
  * At the limit a slice of records has fewer than 2^27 words, 2^29 bytes.
  *
  * Room is whole records: states_len / 6 and trs_len / 5, of each at most
- * RINKOLZA_LIMIT; what is past that is never read or written. A composition
- * has at most 3 S1 S2 states. There is no bound for its transitions that is
- * worth lending at once: where a call is refused with 13, lengthen states and
- * trs at their ends and call again (tests/c_grow.c does so). A copy will do, or
- * realloc; the words behind may be anything. To double them keeps the whole
- * cost of copying below that of the last copy taken twice; a wide state is best
- * given room for as many records as its two lists have transitions at once, as
- * each expansion that is refused for lack of room has gone through its moves.
- * Only an opening that is refused with 13 is made again with more heads
- * and a state record. Slices may be lengthened at any time: every call then
- * answers as it would have, or goes on where it would have been refused with 13,
- * and what was given is given again.
+ * RINKOLZA_LIMIT; what is past that is never read or written. A composition has
+ * at most 3 S1 S2 states, by null, trivial and no-match S1 S2. There is no
+ * bound for its transitions that is worth lending at once: where a call is
+ * refused with 13, lengthen states and trs at their ends and call again
+ * (tests/c_grow.c does so). A copy will do, or realloc; the words behind may be
+ * anything. To double them keeps the whole cost of copying below that of the
+ * last copy taken twice; a wide state is best given room for as many records as
+ * its two lists have transitions at once, as each expansion that is refused for
+ * lack of room has gone through its moves. Only an opening that is refused with
+ * 13 is made again with more heads and a state record. Slices may be lengthened
+ * at any time: every call then answers as it would have, or goes on where it
+ * would have been refused with 13, and what was given is given again.
  *
  * The heads stay as they are, the same number and words, so lend enough of them
  * at the opening: as many as states are expected, or some 16384 where few are.
@@ -276,10 +308,17 @@ extern "C" {
 #define RINKOLZA_COST UINT32_C(0)
 #define RINKOLZA_COUNT UINT32_C(1)
 
-/* Settings, word 1. */
+/* Settings, word 1. By the first three each reading is listed once.
+ * RINKOLZA_NULL keeps no move alone: readings with an epsilon that does not meet
+ * an epsilon are lost. RINKOLZA_TRIVIAL keeps every move, RINKOLZA_NO_MATCH all
+ * but both epsilons at once: a reading may be listed more than once, and a total
+ * of counts is then too large; a least cost is right. See "Which filter" above. */
 #define RINKOLZA_SEQUENCE UINT32_C(0)
 #define RINKOLZA_ALTERNATE UINT32_C(1)
 #define RINKOLZA_MATCH UINT32_C(2)
+#define RINKOLZA_NULL UINT32_C(3)
+#define RINKOLZA_TRIVIAL UINT32_C(4)
+#define RINKOLZA_NO_MATCH UINT32_C(5)
 
 /* Settings, words 3 and 5: where sigma is replaced by the label asked for. By
  * the acceptor mark: on each side that holds sigma where it is 1, else on the

@@ -1,6 +1,6 @@
-/* Calls the library from C: document 01's case 1, listed and compared with 01's listing by tests/c_example.sh; then slices of every short length and damaged words, where it checks that a
- * refused call changes nothing. Where the checks 1 to 8 pass, it makes the call that does not check too, on a copy of the same words, and compares all that the two leave. Memos are lent
- * from call to call of an opening, and now and then put back to zeros; so too in compositions of drawn machines, state by state.
+/* Calls the library from C: document 01's case 1 by each filter, by the first listed and compared with 01's listing by tests/c_example.sh; then slices of every short length and
+ * damaged words, where it checks that a refused call changes nothing. Where the checks 1 to 8 pass, it makes the call that does not check too, on a copy of the same words, and
+ * compares all that the two leave. Memos are lent from call to call of an opening, and now and then put back to zeros; so too in compositions of drawn machines, state by state.
  * It prints the listing, then what it counted; it ends with 1 at the first thing that is wrong. */
 #define _DEFAULT_SOURCE
 #include <stdio.h>
@@ -30,9 +30,11 @@ static void need(int ok, const char *what) {
 }
 
 /* The five calls on the words above, without allowed lists: NULL and 0. */
-static uint32_t open_it(void) {
-    return rinkolza_open(settings, 6, session, 9, m1, LEN(m1), m2, LEN(m2), NULL, 0, 0, NULL, 0, 0, heads, HEADS, states, LEN(states), trs, LEN(trs));
+static uint32_t open_by(const uint32_t *six) {
+    return rinkolza_open(six, 6, session, 9, m1, LEN(m1), m2, LEN(m2), NULL, 0, 0, NULL, 0, 0, heads, HEADS, states, LEN(states), trs, LEN(trs));
 }
+
+static uint32_t open_it(void) { return open_by(settings); }
 
 static uint32_t run_it(void) {
     return rinkolza_run(session, 9, m1, LEN(m1), m2, LEN(m2), NULL, 0, 0, NULL, 0, 0, heads, HEADS, states, LEN(states), trs, LEN(trs));
@@ -48,6 +50,21 @@ static uint32_t final_it(uint32_t n) {
 
 static void records_it(uint32_t n) {
     rinkolza_records(session, 9, m1, LEN(m1), m2, LEN(m2), NULL, 0, 0, NULL, 0, 0, heads, HEADS, states, LEN(states), trs, LEN(trs), n, answer, 2);
+}
+
+/* The machines above by each filter: how many states and transitions there are. Both have one reading and an epsilon in it: trivial takes the two in three orders, no-match in two. The
+ * number behind the last is no filter's. */
+static void each_filter(void) {
+    static const uint32_t sizes[][2] = {{4, 3}, {4, 3}, {3, 2}, {3, 2}, {5, 6}, {5, 5}};
+    uint32_t six[6], filter;
+    memcpy(six, settings, sizeof six);
+    for (filter = RINKOLZA_SEQUENCE; filter <= RINKOLZA_NO_MATCH; filter++) {
+        six[1] = filter;
+        need(open_by(six) == 0 && run_it() == 0, "an opening or a run by a filter");
+        need(session[RINKOLZA_SESSION_USED_STATES] == sizes[filter][0] && session[RINKOLZA_SESSION_USED_TRS] == sizes[filter][1], "what a filter finds");
+    }
+    six[1] = filter;
+    need(LEN(sizes) == filter && open_by(six) == RINKOLZA_REFUSED_SETTINGS, "a number of no filter");
 }
 
 /* The listing of document 01. */
@@ -263,7 +280,7 @@ static void draw_machine(uint32_t *m, uint32_t inner) {
 /* All states one by one, with checks and without; the memos are lent all along, and now and then one is put back to zeros. Then the rest by a run. */
 static void one_by_one(void) {
     static uint32_t drawn[2][6 + 3 * STATES + 5 * STATES * MOST], nine[2][9], h[2][HEADS], st[2][RINKOLZA_STATE_WORDS * RECORDS], t[2][RINKOLZA_TR_WORDS * RECORDS];
-    uint32_t kind = draw() % 2, filter = draw() % 3, n, r, got, two[2], other[2];
+    uint32_t kind = draw() % 2, filter = draw() % (RINKOLZA_NO_MATCH + 1), n, r, got, two[2], other[2];
     const uint32_t six[6] = {kind, filter, RINKOLZA_NO_LABEL, 0, RINKOLZA_NO_LABEL, 0};
     draw_machine(drawn[0], 1);
     draw_machine(drawn[1], 0);
@@ -286,6 +303,7 @@ static void one_by_one(void) {
 int main(void) {
     size_t n;
     int round;
+    each_filter();
     list();
 
     /* expand again: as stored */

@@ -17,7 +17,9 @@
 //! # Ok::<(), rinkolza::Error>(())
 //! ```
 //!
-//! [`Machine::readings`] lists the accepting paths of a machine, composed or not.
+//! [`Machine::readings`] lists the accepting paths of a machine, composed or not. How often a composition lists two
+//! readings that agree depends on its [`Filter`]: by the default and two others once; by the rest it may be more often,
+//! or never.
 //!
 //! [`Composition`] keeps a composition open: it expands states one by one, as they are asked for, which costs two to
 //! three times what a whole run costs where lists are short, and shows how far a long run has come. A machine, and a

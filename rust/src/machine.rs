@@ -221,6 +221,11 @@ impl Machine {
     /// length in the order of the lists. A transition or a final weight of zero (an infinite cost, a count 0) is not
     /// there for a reading.
     ///
+    /// Of a composed machine each reading is made of one reading of the first machine and one of the second. By the
+    /// filters `Sequence`, `Alternate` and `Match` no two readings are made of the same two; by `Trivial` and `NoMatch`
+    /// there may be several, so that a sum over the readings takes some twice; by `Null` some are missing. See
+    /// [`Filter`](crate::Filter).
+    ///
     /// A machine in which such paths have no cycle has finitely many readings, and after the last there is none. With
     /// a cycle on a path to a final state there are infinitely many, and the iterator has no end: take as many as you
     /// want, or as long as you want. It never searches without end: paths from which no final state can be reached

@@ -33,7 +33,7 @@ pub struct Triple {
     pub first: u32,
     /// The second machine's state.
     pub second: u32,
-    /// The filter's state, from 0 to 2.
+    /// The filter's state, from 0 to 2; by the filters `Null`, `Trivial` and `NoMatch` always 0.
     pub filter: u32,
 }
 
@@ -374,7 +374,8 @@ fn suited(room: Room, inputs: &Inputs, most: Room) -> Room {
     }
 }
 
-/// Composes two machines whole: opens, runs, and gives the composed machine.
+/// Composes two machines whole: opens, runs, and gives the composed machine. [`Filter`](crate::Filter) says how often a
+/// reading is listed there.
 ///
 /// # Errors
 ///

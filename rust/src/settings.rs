@@ -34,6 +34,33 @@ impl Kind {
 }
 
 /// Which of the orders in which epsilons can be taken is kept.
+///
+/// A reading of the first machine and one of the second agree where the second reads what the first writes, epsilons
+/// left out. Where both have epsilons among their inner labels (the first's outputs, the second's inputs), these can be
+/// taken in several orders. How often two readings that agree are then a reading of the composition, without sigma
+/// labels, is the filter's own:
+///
+/// | filter | two readings that agree | a total of counts | the least cost |
+/// |---|---|---|---|
+/// | `Sequence`, `Alternate`, `Match` | once | right | right |
+/// | `Null` | once or never | may be too small | may be too large |
+/// | `Trivial`, `NoMatch` | once or more often | may be too large | right |
+///
+/// Where one of the machines has no inner epsilon, `Trivial` and `NoMatch` list each once too; where neither has one,
+/// all six give the same.
+///
+/// ```
+/// use rinkolza::{compose, text, Filter, Format, Kind, Options};
+///
+/// // One reading each: 1 and 2 become 5, and 5 becomes 7 and 8; the epsilons come first.
+/// let first = text::read("0 1 1 0\n1 2 2 5\n2\n", "first", &Format::default())?;
+/// let second = text::read("0 1 0 7\n1 2 5 8\n2\n", "second", &Format::default())?;
+/// for (filter, times) in [(Filter::Sequence, 1), (Filter::NoMatch, 2), (Filter::Trivial, 3)] {
+///     let composed = compose(&first, &second, &Options::new().with_filter(filter))?;
+///     assert_eq!(composed.readings(Kind::Cost).count(), times);
+/// }
+/// # Ok::<(), rinkolza::Error>(())
+/// ```
 #[derive(Clone, Copy, Debug, Default, PartialEq, Eq)]
 #[non_exhaustive]
 pub enum Filter {
@@ -44,6 +71,22 @@ pub enum Filter {
     Alternate,
     /// Epsilons of both at once, then of one alone; OpenFst's `match`.
     Match,
+    /// Epsilons of both at once, none of one alone; OpenFst's `null`.
+    ///
+    /// Epsilon is then a label like any other: what is listed, once each, are two readings of as many transitions with
+    /// the same inner labels place by place, epsilons included. It is for machines that were made to move together.
+    /// Whoever needs every reading must not take it.
+    Null,
+    /// Every order; OpenFst's `trivial`.
+    ///
+    /// No reading is lost, and one may be listed more than once. It is for those who seek a least cost or only ask what
+    /// is read and written, or who know that one machine has no inner epsilon. Whoever adds up counts, or counts
+    /// readings, must not take it.
+    Trivial,
+    /// Every order of epsilons one by one, none of both at once; OpenFst's `no_match`.
+    ///
+    /// For the same uses as `Trivial`, and not for the same others; a reading is listed no more often than there.
+    NoMatch,
 }
 
 /// On which sides a sigma transition takes the label that it matched.

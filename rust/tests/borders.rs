@@ -242,10 +242,7 @@ fn sigma_that_no_list_has() {
     let mut set = [0; 3];
     for _ in 0..500 {
         let mut drawn = inputs(&mut draw, 5, 5);
-        if draw.one_in(3) {
-            draw.make_heavy(&mut drawn.first);
-            draw.make_heavy(&mut drawn.second);
-        }
+        draw.make_heavy_one_in(3, &mut drawn);
         let mut plain = opened(&mut draw, drawn);
         let mut other = plain.clone();
         let label = [4, 9, MAX - 1][draw.below(3) as usize];

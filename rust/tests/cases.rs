@@ -2,7 +2,7 @@
 
 mod common;
 
-use common::{listing, number, Fixed, World};
+use common::{listing, number, Fixed, World, FILTERS};
 use rinkolza::{Composition, Error, Inputs, Options, Refusal, Room};
 
 const MAX: u32 = u32::MAX;
@@ -60,6 +60,20 @@ fn case_3_match() {
     let text = listed(plain(0, 2), &FIRST, &SECOND).unwrap();
     assert!(text.ends_with("end 3 2\n"));
     assert!(text.lines().nth(2).unwrap().starts_with("t 1 7 5 "));
+}
+
+/// The same machines by null, trivial and no-match, worked out by hand: the one pair of readings once, three times, twice.
+#[test]
+fn the_other_filters() {
+    let list = |filter| listed(plain(0, filter), &FIRST, &SECOND).unwrap();
+    let null =
+        "side output\ns 0 0 0 0 -\nt 1 7 5 1\ns 1 1 1 0 -\nt 2 8 3 2\ns 2 2 2 0 3\nend 3 2\n";
+    let start = "side output\ns 0 0 0 0 -\nt 1 0 1 1\nt 0 7 4 2\n";
+    let rest =
+        "s 1 1 0 0 -\nt 0 7 4 3\ns 2 0 1 0 -\nt 1 0 1 3\ns 3 1 1 0 -\nt 2 8 3 4\ns 4 2 2 0 3\n";
+    assert_eq!(list(3), null);
+    assert_eq!(list(4), format!("{start}t 1 7 5 3\n{rest}end 5 6\n"));
+    assert_eq!(list(5), format!("{start}{rest}end 5 5\n"));
 }
 
 #[test]
@@ -149,7 +163,9 @@ fn every_refusal() {
     let refused =
         |settings, first: &[u32], second: &[u32]| listed(settings, first, second).unwrap_err();
     let falling = [1, 2, 1, 0, 0, 0, 1, 0, 0, 2, 2, 0, 0, 2, 1, 1, 0, 0, 0];
-    assert_eq!(refused([2, 0, MAX, 0, MAX, 0], &FIRST, &SECOND), 1);
+    assert_eq!(refused(plain(2, 0), &FIRST, &SECOND), 1);
+    assert_eq!(refused(plain(0, FILTERS.len() as u32), &FIRST, &SECOND), 1);
+    assert_eq!(refused(plain(0, MAX), &FIRST, &SECOND), 1);
     assert_eq!(refused(plain(0, 0), &FIRST[..24], &SECOND), 2);
     assert_eq!(refused(plain(0, 0), &FIRST, &[]), 3);
     assert_eq!(refused([0, 0, 0, 0, MAX, 0], &FIRST, &SECOND), 4);

@@ -1,6 +1,9 @@
-//! The declarations in `src/sys.rs` and the refusals' numbers, held to the library's header.
+//! The declarations in `src/sys.rs`, the refusals' numbers and the filters', held to the library's header.
 
-use rinkolza::{sys, Refusal, LARGEST_COUNT};
+mod common;
+
+use common::FILTERS;
+use rinkolza::{sys, Options, Refusal, LARGEST_COUNT};
 use std::fs;
 use std::path::Path;
 
@@ -98,6 +101,38 @@ fn the_refusals_are_numbered_as_in_the_header() {
         .map(Refusal::number)
         .collect();
     assert_eq!(numbers, known);
+}
+
+/// A name of Rust as C writes it: `NoMatch` is `NO_MATCH`.
+fn in_c(name: &str) -> String {
+    let mut written = String::new();
+    for letter in name.chars() {
+        if letter.is_uppercase() && !written.is_empty() {
+            written.push('_');
+        }
+        written.push(letter.to_ascii_uppercase());
+    }
+    written
+}
+
+/// All of them, by name and in the order of their numbers.
+#[test]
+fn the_filters_are_named_and_numbered_as_in_the_header() {
+    let header = header();
+    let begin = header.find("/* Settings, word 1.").expect("the filters");
+    let part = header[begin..].split("\n\n").next().unwrap();
+    let names = part.lines().filter_map(|line| {
+        let rest = line.strip_prefix("#define RINKOLZA_")?;
+        rest.split(' ').next()
+    });
+    let theirs: Vec<(usize, &str)> = names.map(|name| (defined(&header, name), name)).collect();
+    let own = FILTERS.map(|filter| {
+        let number = Options::new().with_filter(filter).words()[1];
+        (number as usize, in_c(&format!("{filter:?}")))
+    });
+    let ours: Vec<(usize, &str)> = own.iter().map(|(k, name)| (*k, name.as_str())).collect();
+    assert_eq!(theirs, ours);
+    assert!((0..FILTERS.len()).eq(ours.iter().map(|filter| filter.0)));
 }
 
 /// What the header defines a name as, a number.

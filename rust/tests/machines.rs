@@ -15,7 +15,7 @@ fn read(lines: &str) -> Machine {
 fn the_machine_is_what_the_calls_say() {
     let mut draw = Draw(21);
     let mut finals = 0;
-    for _ in 0..300 {
+    for _ in 0..400 {
         let inputs = draw.inputs(6, 5);
         let options = Options::default();
         let Ok(mut composition) =

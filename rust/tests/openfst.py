@@ -20,7 +20,8 @@ import tempfile
 from pathlib import Path
 
 TOOLS = ["fstcompile", "fstprint", "fstcompose", "fstdraw"]
-FILTERS = {"sequence": "sequence", "alternate": "alt_sequence", "match": "match"}
+# Ours and OpenFst's name for each.
+FILTERS = {"sequence": "sequence", "alternate": "alt_sequence", "match": "match", "null": "null", "trivial": "trivial", "no_match": "no_match"}
 
 
 def run(*words, stdin=b""):
@@ -134,7 +135,7 @@ def after_sorting(program, ours_filter, theirs_filter, folder):
     status, ours, error = run(program, "compose", f"--filter={ours_filter}", folder / "0.txt", folder / "1.txt")
     _, binary, message = run("fstcompose", "--connect=false", f"--compose_filter={theirs_filter}", folder / "0.fst", folder / "1.fst")
     assert status == 0 and ours.decode() == printed(binary), (ours, error, message)
-    return "same after sorting"
+    return f"{ours_filter} same after sorting"
 
 
 def same_composition(program, draw, folder):
@@ -152,7 +153,7 @@ def same_composition(program, draw, folder):
     assert told == 0 and status == 0, (texts, error, message)
     theirs = printed(binary)
     assert ours.decode() == theirs, (ours_filter, texts, ours.decode(), theirs)
-    return "same"
+    return f"{ours_filter} same"
 
 
 def same_examples(program):
@@ -168,7 +169,7 @@ def same_examples(program):
             status, ours, error = run(program, "compose", *words)
             _, binary, _ = run("fstcompose", "--connect=false", f"--compose_filter={theirs_filter}", Path(scratch) / "glyphs", Path(scratch) / "spacing")
             assert status == 0 and ours.decode() == printed(binary, *tables), (ours_filter, ours, error)
-    print("openfst: same_examples: 3 same")
+    print(f"openfst: same_examples: {len(FILTERS)} same")
 
 
 def main():

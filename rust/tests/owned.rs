@@ -109,10 +109,7 @@ fn drawn_calls() {
     let mut seen = Seen::default();
     for _ in 0..10_000 {
         let mut inputs = draw.inputs(6, 6);
-        if draw.one_in(2) {
-            draw.make_heavy(&mut inputs.first);
-            draw.make_heavy(&mut inputs.second);
-        }
+        draw.make_heavy_one_in(2, &mut inputs);
         let room = Room {
             heads: 1 + draw.below(20) as usize,
             states: 1 + draw.below(40) as usize,

@@ -1,5 +1,10 @@
 //! The program as people call it.
 
+mod common;
+
+use common::FILTERS;
+use rinkolza::{compose, text, Filter, Format, Options};
+use std::collections::BTreeSet;
 use std::io::Write;
 use std::path::PathBuf;
 use std::process::{Command, Output, Stdio};
@@ -68,8 +73,46 @@ fn composes_the_examples() {
     let progress = foundry(&["--progress"]);
     assert_eq!(said(&progress).1, text);
     assert!(said(&progress).2.contains("states found are expanded"));
-    for filter in ["sequence", "alternate", "match", "alt_sequence"] {
-        assert_eq!(foundry(&["--filter", filter]).status.code(), Some(0));
+}
+
+/// Machines that the six compose to six others; each name gives what the crate gives by its filter.
+#[test]
+fn filters_by_their_names() {
+    let texts = [
+        "0 1 1 0 1\n1 2 2 5 2\n2\n",
+        "0 1 0 7 4\n1 2 5 8 1\n2 3 0 9\n3 3\n",
+    ];
+    let format = Format::default();
+    let [first, second] = texts.map(|text| text::read(text, "m", &format).unwrap());
+    let mut met = BTreeSet::new();
+    for (name, filter) in [
+        ("sequence", Filter::Sequence),
+        ("alternate", Filter::Alternate),
+        ("alt_sequence", Filter::Alternate),
+        ("match", Filter::Match),
+        ("null", Filter::Null),
+        ("trivial", Filter::Trivial),
+        ("no_match", Filter::NoMatch),
+        ("no-match", Filter::NoMatch),
+    ] {
+        let machine = compose(&first, &second, &Options::new().with_filter(filter)).unwrap();
+        let expected = text::write(&machine, &format).unwrap();
+        let printed = composed_with(&["--filter", name], texts[0], texts[1], name);
+        assert_eq!(printed, expected, "{name}");
+        met.insert(printed);
+    }
+    assert_eq!(met.len(), FILTERS.len());
+}
+
+#[test]
+fn names_of_no_filter() {
+    for name in ["auto", "nomatch", "Null", ""] {
+        let option = format!("--filter={name}");
+        let (status, error) = complaint(&["compose", &option, "-", "a"], "");
+        let names = "sequence, alternate, match, null, trivial, no_match, alt_sequence, no-match";
+        let message = format!("rinkolza: --filter is one of {names}, not \"{name}\"");
+        assert_eq!(status, 2);
+        assert!(error.starts_with(&message), "{error}");
     }
 }
 
@@ -366,6 +409,7 @@ fn the_help_fits_and_names_every_option() {
         "4096",
         "rho",
         "--connect=false",
+        "sequence|alternate|match|null|trivial|no_match",
     ] {
         assert!(help.contains(word), "{word}");
     }
@@ -404,11 +448,17 @@ fn drawn_glyphs(count: usize, glyphs: u32) -> Vec<u32> {
 }
 
 /// The program's answer for a first machine in standard input and a second in a file of its own.
-fn composed_with(first: &str, second: &str, name: &str) -> String {
+fn composed_with(options: &[&str], first: &str, second: &str, name: &str) -> String {
     let file = std::env::temp_dir().join(format!("rinkolza-{name}-{}", std::process::id()));
     std::fs::write(&file, second).unwrap();
     let path = file.display().to_string();
-    let output = call(&["compose", "--keep-state-numbering", "-", &path], first);
+    let words = [
+        &["compose", "--keep-state-numbering"],
+        options,
+        &["-", &path],
+    ]
+    .concat();
+    let output = call(&words, first);
     std::fs::remove_file(&file).unwrap();
     let (status, text, error) = said(&output);
     assert_eq!((status, error), (0, ""));
@@ -433,7 +483,7 @@ fn four_hundred_glyphs_with_kerning_in_full() {
         before = glyph;
     }
     let last = format!("{}\n", glyphs.len());
-    let composed = composed_with(&(first + &last), &second, "kerning");
+    let composed = composed_with(&[], &(first + &last), &second, "kerning");
     // Not `assert_eq`: the texts are long.
     assert!(composed == expected + &last);
 }
@@ -490,7 +540,7 @@ fn lattice(places: usize) -> (String, u64) {
 fn a_hundred_thousand_states() {
     let places = 99_999;
     let (first, cheapest) = lattice(places);
-    let composed = composed_with(&first, &kerning(GLYPHS), "lattice");
+    let composed = composed_with(&[], &first, &kerning(GLYPHS), "lattice");
     // From the second place on two states, one for each glyph that may be the last, and from each two transitions.
     let (states, trs) = (1 + 2 * places, 2 + 4 * (places - 1));
     assert_eq!(composed.lines().count(), trs + 2);

@@ -2,7 +2,7 @@
 
 mod common;
 
-use common::Draw;
+use common::{Draw, EXACT, FILTERS};
 use rinkolza::{compose, text, words, Filter, Format, Kind, Machine, Options, Reading, Tr};
 
 /// The paths from a state that have exactly so many transitions and end in a final state, in the order of the lists.
@@ -130,31 +130,140 @@ fn forward(machine: &Machine) -> Machine {
     Machine::from_lists(Some(0), &trs, &finals).unwrap()
 }
 
-#[test]
-fn a_composition_has_one_reading_for_each_pair_that_meets() {
+/// A reading of each of two machines that agree: the second reads what the first writes.
+struct Pair {
+    /// The inner labels of both, epsilons included.
+    inner: [Vec<u32>; 2],
+    said: Said,
+}
+
+fn pairs(first: &Machine, second: &Machine, kind: Kind) -> Vec<Pair> {
+    let product = |a: u64, b: u64| if kind == Kind::Cost { a + b } else { a * b };
+    let others: Vec<(Vec<u32>, Reading)> = second
+        .readings(kind)
+        .map(|other| (other.input(), other))
+        .collect();
+    let mut pairs = Vec::new();
+    for one in first.readings(kind) {
+        let word = one.output();
+        for (_, other) in others.iter().filter(|(read, _)| *read == word) {
+            let weight = product(one.weight().unwrap(), other.weight().unwrap());
+            pairs.push(Pair {
+                inner: [
+                    one.trs.iter().map(|tr| tr.output).collect(),
+                    other.trs.iter().map(|tr| tr.input).collect(),
+                ],
+                said: (one.input(), other.output(), weight),
+            });
+        }
+    }
+    pairs
+}
+
+/// Composes drawn machines without cycles by these filters: what is listed is each pair as often as said, and no more.
+/// How many pairs are listed never, once, and more often.
+fn compare(filters: &[Filter], times: impl Fn(Filter, &Pair) -> usize) -> [usize; 3] {
     let mut draw = Draw(42);
-    let mut met = 0;
+    let mut met = [0; 3];
     for _ in 0..800 {
         let mut machine = || forward(&words::decode(&draw.machine(None, 9, 6)).unwrap());
         let (first, second) = (machine(), machine());
         for kind in [Kind::Cost, Kind::Count] {
-            let product = |a: u64, b: u64| if kind == Kind::Cost { a + b } else { a * b };
-            let mut pairs = Vec::new();
-            for (input, inner1, weight1) in said(first.readings(kind)) {
-                for (inner2, output, weight2) in said(second.readings(kind)) {
-                    if inner1 == inner2 {
-                        pairs.push((input.clone(), output, product(weight1, weight2)));
-                    }
+            let pairs = pairs(&first, &second, kind);
+            for &filter in filters {
+                let mut expected = Vec::new();
+                for pair in &pairs {
+                    let times = times(filter, pair);
+                    met[times.min(2)] += 1;
+                    expected.extend(std::iter::repeat_n(pair.said.clone(), times));
                 }
-            }
-            pairs.sort();
-            met += pairs.len();
-            for filter in [Filter::Sequence, Filter::Alternate, Filter::Match] {
+                expected.sort();
                 let options = Options::new().with_kind(kind).with_filter(filter);
                 let composed = compose(&first, &second, &options).unwrap();
-                assert_eq!(said(composed.readings(kind)), pairs);
+                assert_eq!(said(composed.readings(kind)), expected, "{filter:?}");
             }
         }
     }
-    assert!(met > 1000, "{met}");
+    println!("{filters:?}: {met:?} never, once, more often");
+    met
+}
+
+#[test]
+fn a_composition_has_one_reading_for_each_pair_that_meets() {
+    let [never, once, more] = compare(&FILTERS[..EXACT], |_, _| 1);
+    assert!(never == 0 && once > 3000 && more == 0);
+}
+
+/// With the same inner labels place by place, epsilons included.
+#[test]
+fn null_lists_the_pairs_with_equal_labels_once() {
+    let equal = |_, pair: &Pair| usize::from(pair.inner[0] == pair.inner[1]);
+    let [never, once, more] = compare(&[Filter::Null], equal);
+    assert!(never > 500 && once > 500 && more == 0);
+}
+
+/// The orders in which readings with these inner labels can be taken: one machine alone on an epsilon, or both on the
+/// same label; on epsilons where `both` allows it.
+fn orders(both: bool, one: &[u32], other: &[u32]) -> usize {
+    if one.is_empty() && other.is_empty() {
+        return 1;
+    }
+    let (label, met) = (one.first(), other.first());
+    let mut count = 0;
+    if label == Some(&0) {
+        count += orders(both, &one[1..], other);
+    }
+    if met == Some(&0) {
+        count += orders(both, one, &other[1..]);
+    }
+    if label.is_some() && label == met && (both || label != Some(&0)) {
+        count += orders(both, &one[1..], &other[1..]);
+    }
+    count
+}
+
+/// No pair is lost: there is an order for each. Where there are several the pair is listed in all.
+#[test]
+fn trivial_and_no_match_list_each_pair_in_every_order() {
+    for filter in [Filter::Trivial, Filter::NoMatch] {
+        let in_each = |filter, pair: &Pair| {
+            let [one, other] = &pair.inner;
+            orders(filter == Filter::Trivial, one, other)
+        };
+        let [never, once, more] = compare(&[filter], in_each);
+        assert!(never == 0 && once > 500 && more > 100);
+    }
+}
+
+/// The readings of two machines composed by a filter.
+fn listed(first: &Machine, second: &Machine, filter: Filter, kind: Kind) -> Vec<Said> {
+    let options = Options::new().with_kind(kind).with_filter(filter);
+    said(compose(first, second, &options).unwrap().readings(kind))
+}
+
+/// One reading each, both with an epsilon before the label 5: a pair that the filters list as often as is said here. So
+/// often counts are added up; the least cost is the same by all.
+#[test]
+fn a_pair_is_listed_more_than_once() {
+    let first = read("0 1 1 0 1\n1 2 2 5 2\n2 1\n");
+    let second = read("0 1 0 7 4\n1 2 5 8 1\n2 3\n");
+    for (filter, times) in FILTERS.into_iter().zip([1, 1, 1, 1, 3, 2]) {
+        let costs = listed(&first, &second, filter, Kind::Cost);
+        assert_eq!(costs, vec![(vec![1, 2], vec![7, 8], 12); times]);
+        let counts = listed(&first, &second, filter, Kind::Count);
+        let total: u64 = counts.iter().map(|reading| reading.2).sum();
+        assert_eq!(total, 24 * times as u64, "{filter:?}");
+    }
+}
+
+/// The first has an epsilon, the second none: null loses the pair.
+#[test]
+fn a_pair_is_lost() {
+    let first = read("0 1 1 0 1\n1 2 2 5 2\n2 1\n");
+    let second = read("0 1 5 8 1\n1 3\n");
+    for filter in FILTERS {
+        let times = usize::from(filter != Filter::Null);
+        let costs = listed(&first, &second, filter, Kind::Cost);
+        assert_eq!(costs, vec![(vec![1, 2], vec![8], 8); times], "{filter:?}");
+    }
 }

@@ -8,21 +8,18 @@ mod common;
 use common::choice::{put_weight, MAX};
 use common::moves::{named, Step};
 use common::wide::{alone, crowded, wide, with_sigma};
-use common::{Draw, Fixed, World};
+use common::{keeps_alone, keeps_both, Draw, Fixed, World, FILTERS};
 use rinkolza::sys::{self, Memory, Owned, Session, STATE_WORDS, TR_WORDS};
 use rinkolza::{Inputs, Room};
 use std::collections::{BTreeMap, BTreeSet};
 
-/// The sorts of cases that are counted in every test.
-const SORTS: [&str; 12] = [
+/// The sorts of cases that are counted in every test, beside the moves on epsilons of each filter.
+const SORTS: [&str; 9] = [
     "12, and 13 behind it",
     "13, and 12 behind it",
     "13",
     "costs",
     "counts",
-    "epsilons, filter 0",
-    "epsilons, filter 1",
-    "epsilons, filter 2",
     "again, rising",
     "again, falling",
     "found before",
@@ -30,17 +27,30 @@ const SORTS: [&str; 12] = [
 ];
 
 /// How often each sort of case was met; one that never was is there too.
-struct Seen(BTreeMap<&'static str, u32>);
+struct Seen(BTreeMap<String, u32>);
+
+/// The sorts for the moves on epsilons: of one machine alone, and of both at once.
+fn on_epsilons(filter: u32) -> [String; 2] {
+    ["alone", "both"].map(|moved| format!("{moved}, filter {filter}"))
+}
 
 impl Seen {
-    /// None met, of the usual sorts and these.
-    fn none(more: &[&'static str]) -> Seen {
-        let sorts = SORTS.iter().chain(more);
-        Seen(sorts.map(|&sort| (sort, 0)).collect())
+    /// None met, of the usual sorts and these. Of a filter there are the moves that it keeps.
+    fn none(more: &[&str]) -> Seen {
+        let sorts = SORTS.iter().chain(more).map(|sort| sort.to_string());
+        let kept = (0..FILTERS.len() as u32).flat_map(|filter| {
+            let [alone, both] = on_epsilons(filter);
+            let alone = keeps_alone(filter).then_some(alone);
+            alone.into_iter().chain(keeps_both(filter).then_some(both))
+        });
+        Seen(sorts.chain(kept).map(|sort| (sort, 0)).collect())
     }
 
+    /// Counts what is met, which must be one of the sorts.
     fn count(&mut self, what: &str, met: bool) {
-        *self.0.get_mut(what).expect("a sort") += u32::from(met);
+        if met {
+            *self.0.get_mut(what).expect(what) += 1;
+        }
     }
 
     fn all(&self, least: u32) {
@@ -182,13 +192,14 @@ fn count(seen: &mut Seen, inputs: &Inputs, step: &Step, rooms: &[(usize, usize)]
     again.retain(|&target| !met.insert(target));
     let mut pairs = again.windows(2);
     let alone = step.moves.iter().any(|kept| kept.made_of.contains(&0));
+    let both = step.moves.iter().any(|kept| kept.is_by_epsilons(inputs));
     let sigma = step.moves.iter().any(|kept| kept.is_by_sigma(inputs));
+    let sorts = on_epsilons(filter);
     seen.count("13", refused(13));
     seen.count("costs", kind == 0 && refused(13));
     seen.count("counts", kind == 1 && refused(13));
-    seen.count("epsilons, filter 0", filter == 0 && alone);
-    seen.count("epsilons, filter 1", filter == 1 && alone);
-    seen.count("epsilons, filter 2", filter == 2 && alone);
+    seen.count(&sorts[0], alone);
+    seen.count(&sorts[1], both);
     seen.count("again, rising", pairs.clone().any(|pair| pair[0] < pair[1]));
     seen.count("again, falling", pairs.any(|pair| pair[0] > pair[1]));
     seen.count("found before", before);
@@ -198,12 +209,9 @@ fn count(seen: &mut Seen, inputs: &Inputs, step: &Step, rooms: &[(usize, usize)]
 #[test]
 fn short_lists() {
     let (mut draw, mut seen) = (Draw(97), Seen::none(&[]));
-    for _ in 0..600 {
+    for _ in 0..1500 {
         let mut inputs = draw.inputs(6, 6);
-        if draw.one_in(3) {
-            draw.make_heavy(&mut inputs.first);
-            draw.make_heavy(&mut inputs.second);
-        }
+        draw.make_heavy_one_in(3, &mut inputs);
         let ample = Room {
             heads: 1 + draw.below(20) as usize,
             states: 120,
@@ -232,7 +240,7 @@ const PLENTY: Room = Room {
 fn long_lists_and_many_targets() {
     let mut draw = Draw(101);
     let mut seen = Seen::none(&["over 2048 new", "over 4096 new"]);
-    for _ in 0..70 {
+    for _ in 0..210 {
         let mut inputs = wide(&mut draw);
         match draw.below(4) {
             0 => put_weight(&mut draw, &mut inputs.first, MAX - 1),

@@ -221,7 +221,7 @@ pub fn inputs(draw: &mut Draw, states1: u32, states2: u32) -> Inputs {
     Inputs {
         first,
         second,
-        settings: [kind, draw.below(3), MAX, 0, MAX, 0],
+        settings: [kind, draw.filter(), MAX, 0, MAX, 0],
         allowed1: None,
         allowed2: None,
     }

@@ -7,7 +7,33 @@ pub mod moves;
 pub mod wide;
 
 use rinkolza::sys::{self, Memory, Session, TR_WORDS};
-use rinkolza::{words, Composition, Inputs, Room, Tr};
+use rinkolza::{words, Composition, Filter, Inputs, Room, Tr};
+
+/// The epsilon filters, each at the place of its number.
+pub const FILTERS: [Filter; 6] = [
+    Filter::Sequence,
+    Filter::Alternate,
+    Filter::Match,
+    Filter::Null,
+    Filter::Trivial,
+    Filter::NoMatch,
+];
+
+/// By the first so many of them two readings that agree are one reading.
+pub const EXACT: usize = 3;
+
+/// Whether the filter of this number ever keeps a move of one machine alone, on an inner epsilon.
+pub fn keeps_alone(filter: u32) -> bool {
+    FILTERS[filter as usize] != Filter::Null
+}
+
+/// Whether the filter of this number ever keeps a move by an inner epsilon of both machines.
+pub fn keeps_both(filter: u32) -> bool {
+    matches!(
+        FILTERS[filter as usize],
+        Filter::Match | Filter::Null | Filter::Trivial
+    )
+}
 
 /// Room that no small composition uses up; it is had at once.
 pub const LARGE: Room = Room {
@@ -101,6 +127,11 @@ impl Draw {
         list
     }
 
+    /// The number of a filter.
+    pub fn filter(&mut self) -> u32 {
+        self.below(FILTERS.len() as u32)
+    }
+
     /// Two machines that can be matched, and settings, sometimes with sigma.
     pub fn inputs(&mut self, states: u32, trs: u32) -> Inputs {
         let sides = [(true, true), (true, false), (false, true)][self.below(3) as usize];
@@ -110,7 +141,7 @@ impl Draw {
             second: self.machine(sides.1.then_some(0), states, trs),
             settings: [
                 self.below(2),
-                self.below(3),
+                self.filter(),
                 sigma(self),
                 self.below(3),
                 sigma(self),
@@ -130,6 +161,14 @@ impl Draw {
             if self.one_in(4) {
                 record[2] = u32::MAX - 1 - self.below(3);
             }
+        }
+    }
+
+    /// Makes both machines heavy, once in so many times.
+    pub fn make_heavy_one_in(&mut self, count: u32, inputs: &mut Inputs) {
+        if self.one_in(count) {
+            self.make_heavy(&mut inputs.first);
+            self.make_heavy(&mut inputs.second);
         }
     }
 }

@@ -41,11 +41,19 @@ impl Move {
         }
     }
 
+    /// The inner label of the machine's record; none where it rests.
+    fn label(&self, inputs: &Inputs, machine: usize) -> Option<u32> {
+        word(inputs, machine, self.made_of[machine], INNER[machine])
+    }
+
     pub fn is_by_sigma(&self, inputs: &Inputs) -> bool {
-        (0..2).any(|machine| {
-            let label = word(inputs, machine, self.made_of[machine], INNER[machine]);
-            label == Some(inputs.settings[2 + 2 * machine])
-        })
+        let sigma = |machine: usize| inputs.settings[2 + 2 * machine];
+        (0..2).any(|machine| self.label(inputs, machine) == Some(sigma(machine)))
+    }
+
+    /// Whether both machines move, on epsilons.
+    pub fn is_by_epsilons(&self, inputs: &Inputs) -> bool {
+        (0..2).all(|machine| self.label(inputs, machine) == Some(0))
     }
 }
 

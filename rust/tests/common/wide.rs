@@ -1,7 +1,7 @@
 //! Machines with long lists, drawn and chosen: thousands of moves from a composed state.
 
 use super::choice::{INNER, MAX};
-use super::Draw;
+use super::{keeps_both, Draw};
 use rinkolza::{Inputs, Machine, Options, Tr};
 
 const SIGMA: u32 = MAX - 1;
@@ -17,7 +17,7 @@ fn long_labels(draw: &mut Draw, filter: u32) -> ([Vec<u32>; 2], Option<usize>) {
     let mut labels = match drawn {
         0 => [each(fewer), each(fewer)],
         1..=3 => pair(1),
-        4..=6 if filter == 2 => pair(0),
+        4..=6 if keeps_both(filter) => pair(0),
         4..=6 => [vec![0; many as usize], vec![0, 0, 1]],
         _ => [each(many / 2), vec![1, SIGMA, SIGMA]],
     };
@@ -56,7 +56,7 @@ fn long_lists(draw: &mut Draw, inner: usize, labels: &[u32], mark: u32) -> Vec<u
 
 /// Two machines with long lists, and settings, sometimes with sigma on one of them.
 pub fn wide(draw: &mut Draw) -> Inputs {
-    let mut settings = [draw.below(2), draw.below(3), MAX, 0, MAX, 0];
+    let mut settings = [draw.below(2), draw.filter(), MAX, 0, MAX, 0];
     let (labels, sigma) = long_labels(draw, settings[1]);
     let mut marks = [draw.below(2), draw.below(2)];
     if let Some(machine) = sigma {

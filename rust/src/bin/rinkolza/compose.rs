@@ -90,7 +90,11 @@ fn options(args: &Args, tables: &Tables) -> Result<Options, Stop> {
         ("sequence", Filter::Sequence),
         ("alternate", Filter::Alternate),
         ("match", Filter::Match),
+        ("null", Filter::Null),
+        ("trivial", Filter::Trivial),
+        ("no_match", Filter::NoMatch),
         ("alt_sequence", Filter::Alternate),
+        ("no-match", Filter::NoMatch),
     ];
     let sorts = [
         ("needed", Sort::WhereNeeded),
