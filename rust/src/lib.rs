@@ -21,8 +21,8 @@
 //! readings that agree depends on its [`Filter`]: by the default and two others once; by the rest it may be more often,
 //! or never.
 //!
-//! [`Composition`] keeps a composition open: it expands states one by one, as they are asked for, which costs two to
-//! three times what a whole run costs where lists are short, and shows how far a long run has come. A machine, and a
+//! [`Composition`] keeps a composition open: it expands states one by one, as they are asked for, which costs some
+//! third more than a whole run (more where states are few), and shows how far a long run has come. A machine, and a
 //! composition, has at most [`LARGEST_COUNT`] states and as many transitions. What a composition may be refused for is a
 //! [`Refusal`]; the numbers are those of the library's header, `include/rinkolza.h`.
 

@@ -59,7 +59,7 @@ module _ (settings : List ℕ) (l : Lent) (session : List ℕ) (m : Memory) wher
       by-size false e = absurd (omega (arith, e))
 
   -- so what a list of exported calls leaves after it are the words of a world of demand 3
-  pub opened-in-words : left .number ≡ 0 → (ds : List CallMade) → OpeningsRefused l (worldHeld (leftTo left)) (callsOf ds)
+  opened-in-words : left .number ≡ 0 → (ds : List CallMade) → OpeningsRefused l (worldHeld (leftTo left)) (callsOf ds)
       → (w : World) × InScope (settingsOf settings) l w × (heldAfter l (left .session) (left .memory) ds ≡ holdsOf w)
   opened-in-words e ds refuses =
       let p = open-accepted e in (

@@ -21,7 +21,7 @@ one-split true true = refl
 one-split true false = refl
 
 -- those with R and those without it
-pub new-split : (Q R : Triple → Bool) (k : ℕ) (steps : List (Checked Step)) → newWithin Q k steps ≡ newWithin (λ t. Q t && R t) k steps + newWithin (λ t. Q t && not (R t)) k steps
+new-split : (Q R : Triple → Bool) (k : ℕ) (steps : List (Checked Step)) → newWithin Q k steps ≡ newWithin (λ t. Q t && R t) k steps + newWithin (λ t. Q t && not (R t)) k steps
 unfolding newWithin
 new-split Q R zero steps = refl
 new-split Q R (suc k) [] = refl
@@ -35,7 +35,7 @@ new-split Q R (suc k) (good s ∷ others) =
     omega (arith, o, r, with, without)
 
 -- P counts no triple
-pub new-none : (P : Triple → Bool) (k : ℕ) (steps : List (Checked Step)) → ((t : Triple) → P t ≡ false) → newWithin P k steps ≡ 0
+new-none : (P : Triple → Bool) (k : ℕ) (steps : List (Checked Step)) → ((t : Triple) → P t ≡ false) → newWithin P k steps ≡ 0
 unfolding newWithin
 new-none P zero steps e = refl
 new-none P (suc k) [] e = refl
@@ -63,7 +63,7 @@ just-there true x c = go (ltb x c) refl (ltb x (c + 1)) refl
     go false p false p′ = let l′ = ltb-false x (c + 1) p′ in rw (p′, ne-eqb x c (omega (arith, l′))) refl
 
 -- one class more
-pub new-class : (Q : Triple → Bool) (h : Triple → ℕ) (c k : ℕ) (steps : List (Checked Step))
+new-class : (Q : Triple → Bool) (h : Triple → ℕ) (c k : ℕ) (steps : List (Checked Step))
     → newWithin (λ t. Q t && ltb (h t) (c + 1)) k steps ≡ newWithin (λ t. Q t && ltb (h t) c) k steps + newWithin (λ t. eqb (h t) c && Q t) k steps
 new-class Q h c k steps =
     let r = new-split (λ t. Q t && ltb (h t) (c + 1)) (λ t. ltb (h t) c) k steps in
@@ -72,11 +72,11 @@ new-class Q h c k steps =
     omega (arith, r, below, there)
 
 -- before the first class
-pub new-first : (Q : Triple → Bool) (h : Triple → ℕ) (k : ℕ) (steps : List (Checked Step)) → newWithin (λ t. Q t && ltb (h t) 0) k steps ≡ 0
+new-first : (Q : Triple → Bool) (h : Triple → ℕ) (k : ℕ) (steps : List (Checked Step)) → newWithin (λ t. Q t && ltb (h t) 0) k steps ≡ 0
 new-first Q h k steps = new-none (λ t. Q t && ltb (h t) 0) k steps (λ t. ap (λ b. Q t && b) (le-ltb (h t) 0 (omega arith)) ∙ and-false (Q t))
 
 -- after the last class
-pub new-last : (Q : Triple → Bool) (h : Triple → ℕ) (c k : ℕ) (steps : List (Checked Step)) → ((t : Triple) → h t < c) → newWithin (λ t. Q t && ltb (h t) c) k steps ≡ newWithin Q k steps
+new-last : (Q : Triple → Bool) (h : Triple → ℕ) (c k : ℕ) (steps : List (Checked Step)) → ((t : Triple) → h t < c) → newWithin (λ t. Q t && ltb (h t) c) k steps ≡ newWithin Q k steps
 new-last Q h c k steps l = new-same (λ t. Q t && ltb (h t) c) Q k steps (λ t. ap (λ b. Q t && b) (lt-ltb (h t) c (l t)) ∙ and-true (Q t))
 
 module _ (d : Store) (classes k : ℕ) (steps : List (Checked Step)) where

@@ -1,11 +1,12 @@
 -- What is noted of a whole list of steps: as long as the set was never full it holds each triple that is looked for, once; else it holds some of them; and the steps are counted up to MAX.
 use mathlib.Core.Path.{_≡_, refl, sym, _∙_, ap, subst}
-use mathlib.Core.Bool.{Bool, true, false, not, _&&_, _||_, and-false, true≢false}
+use mathlib.Core.Bool.{Bool, true, false, not, _&&_, and-false}
 use mathlib.Core.List.{List, [], _∷_}
 use Prim.Native.Nat.{ℕ, zero, suc, _+_, _≤_, min}
 use native.Mathlib.Omega.{arith}
 use lib.ListN.{length, replicate}
 use borrow.Author.Tests.{le-leb}
+use Rattle.lists.proofs.Members.{or-false}
 use Rattle.words.specs.Labels.{MAX, Checked, good, refused}
 use Rattle.words.specs.Steps.{Triple, Step}
 use Rattle.calls.specs.Store.{Store, stateRoom, stateRoomWith}
@@ -19,32 +20,27 @@ use Rattle.compose_weigh.proofs.WeighLaws.{ahead-next}
 use Rattle.compose_weigh.proofs.SetTurns.{offered, set-room}
 use Rattle.compose_count.specs.Notes.{Notes, noteTo, noteAll}
 
-neither : (a b : Bool) → a || b ≡ false → (a ≡ false) × (b ≡ false)
-neither false false e = (refl, refl)
-neither false true e = absurd (true≢false e)
-neither true b e = absurd (true≢false e)
-
 -- once full, always full
-pub full-before : (P : Triple → Bool) (n : Notes) (steps : List (Checked Step)) → noteAll P n steps .full ≡ false → n .full ≡ false
+full-before : (P : Triple → Bool) (n : Notes) (steps : List (Checked Step)) → noteAll P n steps .full ≡ false → n .full ≡ false
 unfolding noteAll
 full-before P n [] e = e
 full-before P n (refused k ∷ others) e = full-before P n others e
-full-before P n (good s ∷ others) e = neither (n .full) (takeOf (P (s .to)) (n .set) (s .to) .0) (full-before P (noteTo P n (s .to)) others e) .0
+full-before P n (good s ∷ others) e = or-false (n .full) (takeOf (P (s .to)) (n .set) (s .to) .0) (full-before P (noteTo P n (s .to)) others e) .0
 
 -- the set holds what it should after the first k steps, and so after all
-pub noted-held : (P : Triple → Bool) (all : List (Checked Step)) (room k : ℕ) (n : Notes) (rest : List (Checked Step)) → Ahead k all rest → Filled P k all room (n .set) → AllGood rest
+noted-held : (P : Triple → Bool) (all : List (Checked Step)) (room k : ℕ) (n : Notes) (rest : List (Checked Step)) → Ahead k all rest → Filled P k all room (n .set) → AllGood rest
     → noteAll P n rest .full ≡ false → noteAll P n rest .set .used .states ≡ newWithin P (k + length rest) all
 unfolding noteAll
 noted-held P all room k n [] a f g e = let z : k + 0 ≡ k = omega arith in rw z (f .number)
 noted-held P all room k n (refused j ∷ others) a f g e = absurd g
 noted-held P all room k n (good s ∷ others) a f g e =
     let z : k + suc (length others) ≡ suc k + length others = omega arith in
-    let b = neither (n .full) (takeOf (P (s .to)) (n .set) (s .to) .0) (full-before P (noteTo P n (s .to)) others e) .1 in
+    let b = or-false (n .full) (takeOf (P (s .to)) (n .set) (s .to) .0) (full-before P (noteTo P n (s .to)) others e) .1 in
     let t = offered P k all room (n .set) f s others a (takeOf (P (s .to)) (n .set) (s .to)) refl .1 b in
     rw z (noted-held P all room (suc k) (noteTo P n (s .to)) others (ahead-next k all s others a) t (g .1) e)
 
 -- more steps go to no fewer triples
-pub new-more : (P : Triple → Bool) (k l : ℕ) (steps : List (Checked Step)) → k ≤ l → newWithin P k steps ≤ newWithin P l steps
+new-more : (P : Triple → Bool) (k l : ℕ) (steps : List (Checked Step)) → k ≤ l → newWithin P k steps ≤ newWithin P l steps
 unfolding newWithin
 new-more P zero l steps h = omega arith
 new-more P (suc k) zero steps h = absurd (omega (arith, h))
@@ -62,14 +58,14 @@ take-none b d t h = go (b && not (holds d t))
     go false = refl
 
 -- and so stays as it is
-pub noted-none : (P : Triple → Bool) (d : Store) (n : Notes) (steps : List (Checked Step)) → n .set ≡ d → stateRoom (d .memory) ≤ d .used .states → noteAll P n steps .set ≡ d
+noted-none : (P : Triple → Bool) (d : Store) (n : Notes) (steps : List (Checked Step)) → n .set ≡ d → stateRoom (d .memory) ≤ d .used .states → noteAll P n steps .set ≡ d
 unfolding noteAll
 noted-none P d n [] e h = e
 noted-none P d n (refused k ∷ others) e h = noted-none P d n others e h
 noted-none P d n (good s ∷ others) e h = noted-none P d (noteTo P n (s .to)) others (ap (λ x. takeOf (P (s .to)) x (s .to) .1) e ∙ take-none (P (s .to)) d (s .to) h) h
 
 -- the set holds what it should after the first k steps: after all it holds no more than it should, full or not
-pub noted-least : (P : Triple → Bool) (all : List (Checked Step)) (room k : ℕ) (n : Notes) (rest : List (Checked Step)) → Ahead k all rest → Filled P k all room (n .set) → AllGood rest
+noted-least : (P : Triple → Bool) (all : List (Checked Step)) (room k : ℕ) (n : Notes) (rest : List (Checked Step)) → Ahead k all rest → Filled P k all room (n .set) → AllGood rest
     → noteAll P n rest .set .used .states ≤ newWithin P (k + length rest) all
 unfolding noteAll
 noted-least P all room k n [] a f g = let z : k + 0 ≡ k = omega arith in let e = f .number in rw z (omega (arith, e))
@@ -93,7 +89,7 @@ noted-least P all room k n (good s ∷ others) a f g =
         rw z (rec (offered P k all room (n .set) f s others a (takeOf (P (s .to)) (n .set) (s .to)) refl .1 p))
 
 -- each step counts, up to MAX
-pub noted-moves : (P : Triple → Bool) (n : Notes) (steps : List (Checked Step)) → AllGood steps → n .moves ≤ MAX → noteAll P n steps .moves ≡ min (n .moves + length steps) MAX
+noted-moves : (P : Triple → Bool) (n : Notes) (steps : List (Checked Step)) → AllGood steps → n .moves ≤ MAX → noteAll P n steps .moves ≡ min (n .moves + length steps) MAX
 unfolding noteAll
 noted-moves P n [] g h = omega (arith, h)
 noted-moves P n (refused k ∷ others) g h = absurd g
@@ -102,10 +98,10 @@ noted-moves P n (good s ∷ others) g h =
     omega (arith, r, h)
 
 -- words that are all 0: a set that holds nothing, of the code's sizes
-abbrev pub noNotes : Notes
+abbrev noNotes : Notes
 noNotes = record { set = setOf (replicate 2039 0) (replicate 12288 0) 0; full = false; moves = 0 }
 
-pub none-held : (P : Triple → Bool) (steps : List (Checked Step)) → Filled P 0 steps setRoom (noNotes .set)
+none-held : (P : Triple → Bool) (steps : List (Checked Step)) → Filled P 0 steps setRoom (noNotes .set)
 unfolding newWithin reachedWithin stateRoomWith
 none-held P steps = record {
   chained = headed-none 2039 12288 (omega arith);

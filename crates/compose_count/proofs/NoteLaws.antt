@@ -1,7 +1,7 @@
 -- Laws of noting: one list of steps after another, and a step of which only the target counts. And a loop that notes: what is left leaves what all leaves.
 use mathlib.Core.Path.{_≡_, refl, sym, _∙_, ap, subst}
 use mathlib.Core.Bool.{Bool, true, _||_}
-use mathlib.Core.List.{List, [], _∷_, _++_, map, flatMap}
+use mathlib.Core.List.{List, [], _∷_, _++_, map}
 use mathlib.Core.Option.{Option, none, some}
 use Prim.Native.Nat.{ℕ, _+_, _≤_, min}
 use native.Mathlib.Omega.{arith}
@@ -20,6 +20,7 @@ use Rattle.sorted_lists.specs.Runs.{rising}
 use Rattle.sorted_lists.proofs.Along.{with-on}
 use Rattle.stored_steps.specs.Storing.{AllGood}
 use Rattle.compose_walk.specs.Plans.{joinedBy, withRecords}
+use Rattle.compose_walk.proofs.Turns.{no-records, stepsOn, steps-here}
 use Rattle.compose_count.specs.Notes.{Notes, notesMeans, wantedBy, targetBy, noteTo, noteGood, noteAll}
 use Rattle.compose_count.specs.declared.notes.Counting.{Counting}
 use Rattle.compose_count.specs.declared.notes.Noted.{Noted}
@@ -41,7 +42,7 @@ noted-is P n t w x full moves e q f m =
     λ i. record { set = y i .1; full = (f ∙ ap (λ (z : Bool × Store). n .full || z .0) y) i; moves = m i }
 
 -- one list after the other
-pub note-append : (P : Triple → Bool) (n : Notes) (a b : List (Checked Step)) → noteAll P n (a ++ b) ≡ noteAll P (noteAll P n a) b
+note-append : (P : Triple → Bool) (n : Notes) (a b : List (Checked Step)) → noteAll P n (a ++ b) ≡ noteAll P (noteAll P n a) b
 unfolding noteAll
 note-append P n [] b = refl
 note-append P n (st ∷ a) b = note-append P (noteGood P n st) a b
@@ -71,7 +72,7 @@ note-weighed P n a b f (some v) others h = (h .1, refl)
 note-weighed P n a b f none others h = absurd h
 
 -- in either direction
-pub note-joined : (P : Triple → Bool) (n : Notes) (on : MatchType) (k : Kind) (w l : Transition) (f : ℕ) (others : List (Checked Step)) → AllGood (joinedBy on k w l (some f) ++ others)
+note-joined : (P : Triple → Bool) (n : Notes) (on : MatchType) (k : Kind) (w l : Transition) (f : ℕ) (others : List (Checked Step)) → AllGood (joinedBy on k w l (some f) ++ others)
     → AllGood others × (noteAll P (noteTo P n (targetBy on f (w .target) (l .target))) others ≡ noteAll P n (joinedBy on k w l (some f) ++ others))
 note-joined P n inputs k w l f others h = note-weighed P n w l f (times k (w .weight) (l .weight)) others h
 note-joined P n outputs k w l f others h = note-weighed P n l w f (times k (l .weight) (w .weight)) others h
@@ -88,36 +89,25 @@ pub rising-end : (on : MatchType) (m : List ℕ) (x t : ℕ) → t ≡ 0 → ris
 unfolding rising noFall
 rising-end on m x t e = subst (λ (l : List ℕ). noFall x (map (labelOn on (machineOf m)) l) ≡ true) (sym (records-inside m t (omega (arith, e)) ∙ list-end m t e)) refl
 
--- the steps from record u on
-abbrev pub stepsFrom : MatchType → Kind → List ℕ → Transition → ℕ → ℕ → ℕ → List (Checked Step)
-stepsFrom on k m w f x u = withRecords on k m w (some f) (withLabel on m x u)
-
-no-steps : (on : MatchType) (k : Kind) (m : List ℕ) (w : Transition) (f : ℕ) → withRecords on k m w (some f) [] ≡ []
-unfolding withRecords flatMap
-no-steps on k m w f = refl
-
 -- Where a loop over the records with a label stands, at record u: whatever walked transition to s is meant, what is left is good and leaves what all from the first on leaves.
 pub record Stand (on : MatchType) (m : List ℕ) (s f x first : ℕ) (P : List ℕ → Triple → Bool) (n₀ n : Notes) (u : ℕ) : Type 0 where
   pub inside : u ≤ trCount m
   pub rises : rising on m x u ≡ true
-  pub left : (trs : List ℕ) (k : Kind) (w : Transition) → w .target ≡ s → AllGood (stepsFrom on k m w f x first)
-      → AllGood (stepsFrom on k m w f x u) × (noteAll (P trs) n (stepsFrom on k m w f x u) ≡ noteAll (P trs) n₀ (stepsFrom on k m w f x first))
+  pub left : (trs : List ℕ) (k : Kind) (w : Transition) → w .target ≡ s → AllGood (stepsOn on k m w f x first)
+      → AllGood (stepsOn on k m w f x u) × (noteAll (P trs) n (stepsOn on k m w f x u) ≡ noteAll (P trs) n₀ (stepsOn on k m w f x first))
 
 pub stand-first : (on : MatchType) (m : List ℕ) (s f x first : ℕ) (P : List ℕ → Triple → Bool) (n : Notes) → first ≤ trCount m → rising on m x first ≡ true → Stand on m s f x first P n n first
 stand-first on m s f x first P n h r = record { inside = h; rises = r; left = λ trs k w e g. (g, refl) }
 
 module _ {on : MatchType} {m : List ℕ} {s f x first : ℕ} {P : List ℕ → Triple → Bool} {n₀ n : Notes} {u : ℕ} (a : Stand on m s f x first P n₀ n u) where
   -- no record is left
-  pub stand-end : withLabel on m x u ≡ [] → (trs : List ℕ) (k : Kind) (w : Transition) → w .target ≡ s → AllGood (stepsFrom on k m w f x first) → n ≡ noteAll (P trs) n₀ (stepsFrom on k m w f x first)
-  stand-end e trs k w t g = note-none (P trs) n (stepsFrom on k m w f x u) (ap (withRecords on k m w (some f)) e ∙ no-steps on k m w f) ∙ a .left trs k w t g .1
+  pub stand-end : withLabel on m x u ≡ [] → (trs : List ℕ) (k : Kind) (w : Transition) → w .target ≡ s → AllGood (stepsOn on k m w f x first) → n ≡ noteAll (P trs) n₀ (stepsOn on k m w f x first)
+  stand-end e trs k w t g = note-none (P trs) n (stepsOn on k m w f x u) (ap (withRecords on k m w (some f)) e ∙ no-records on k m w f) ∙ a .left trs k w t g .1
 
   -- a record with the label is in hand, and its target is noted
   module _ (z : u ≡ 0 → ⊥) (y : labelOn on (machineOf m) u ≡ x) {l : Transition} (t : l ≡ trOf (machineOf m) u) where
-    here : (k : Kind) (w : Transition) → stepsFrom on k m w f x u ≡ joinedBy on k w l (some f) ++ stepsFrom on k m w f x (nextOf m u)
-    unfolding withRecords flatMap
-    here k w =
-        ap (withRecords on k m w (some f)) (with-on on m x u z (a .inside) (a .rises) y .0)
-        ∙ ap (λ (r : Transition). joinedBy on k w r (some f) ++ stepsFrom on k m w f x (nextOf m u)) (sym t)
+    here : (k : Kind) (w : Transition) → stepsOn on k m w f x u ≡ joinedBy on k w l (some f) ++ stepsOn on k m w f x (nextOf m u)
+    here k w = steps-here on k m w f x u l (with-on on m x u z (a .inside) (a .rises) y .0) t
 
     pub stand-turn : (o : Notes) (c : Triple) → c ≡ targetBy on f s (l .target) → ((trs : List ℕ) → o ≡ noteTo (P trs) n c) → Stand on m s f x first P n₀ o (nextOf m u)
     stand-turn o c d p = record {
@@ -125,7 +115,7 @@ module _ {on : MatchType} {m : List ℕ} {s f x first : ℕ} {P : List ℕ → T
       rises = with-on on m x u z (a .inside) (a .rises) y .1;
       left = λ trs k w e g.
           let old = a .left trs k w e g in
-          let j = note-joined (P trs) n on k w l f (stepsFrom on k m w f x (nextOf m u)) (subst AllGood (here k w) (old .0)) in
+          let j = note-joined (P trs) n on k w l f (stepsOn on k m w f x (nextOf m u)) (subst AllGood (here k w) (old .0)) in
           let to = p trs ∙ ap (λ (b : Triple). noteTo (P trs) n b) (d ∙ ap (λ (b : ℕ). targetBy on f b (l .target)) (sym e)) in
-          (j .0, ap (λ (q : Notes). noteAll (P trs) q (stepsFrom on k m w f x (nextOf m u))) to ∙ (j .1 ∙ (ap (noteAll (P trs) n) (sym (here k w)) ∙ old .1)));
+          (j .0, ap (λ (q : Notes). noteAll (P trs) q (stepsOn on k m w f x (nextOf m u))) to ∙ (j .1 ∙ (ap (noteAll (P trs) n) (sym (here k w)) ∙ old .1)));
     }

@@ -18,6 +18,7 @@ ghost use Rattle.store_records.specs.Meaning.{storeIn};
 ghost use Rattle.stored_steps.specs.Storing.{AllGood};
 ghost use Rattle.compose_walk.specs.Plans.{sideBy, withRecords, epsBy, edgeBy, restBy, planSteps, Planned};
 ghost use Rattle.compose_count.specs.Notes.{notesMeans, classOf, wantedBy, targetBy, noteTo, noteAll};
+use crate::either;
 use compose_filters::Filtered;
 use compose_state_tuple::ComposeStateTuple;
 use compose_walk::Plan;
@@ -112,10 +113,9 @@ fn note(
         wanted(heads, states, c, tuple),
         tuple,
     );
-    let full = if seen.full { true } else { taken.full };
     Noted {
         held: taken.held,
-        full,
+        full: either(seen.full, taken.full),
         moves: counted(seen.moves),
     }
 }

@@ -1,24 +1,18 @@
--- "else 0" of the alternate filter; every cell of trivial is 0; and what a filter sees does not depend on sigma.
+-- "else 0" of the alternate filter; and what a filter sees does not depend on sigma.
 use mathlib.Core.Path.{_≡_, refl}
 use mathlib.Core.Option.{some}
 use Prim.Native.Nat.{ℕ, zero, suc}
-use Rattle.papers.specs.Filter.{MoveKind, lone1, lone2, bothEpsilon, aLabel, Facts}
+use Rattle.papers.specs.Filter.{lone2, Facts}
 use Rattle.words.specs.Labels.{noLabel}
 use Rattle.words.specs.Matches.{inputs, outputs}
 use Rattle.words.specs.Settings.{Settings, Lent, operand1, operand2}
-use Rattle.words.specs.Filters.{noneAt, allAt, factsAt, alternate, trivial}
+use Rattle.words.specs.Filters.{noneAt, allAt, factsAt, alternate}
 use Rattle.fst.specs.Meaning.{asOperand}
 
 pub alternate-else : (φ : Facts) (f : ℕ) → (f ≡ 1 → ⊥) → alternate lone2 φ f ≡ some 0
 alternate-else φ zero e = refl
 alternate-else φ (suc zero) e = absurd (e refl)
 alternate-else φ (suc (suc f)) e = refl
-
-pub trivial-keeps : (k : MoveKind) (φ : Facts) (f : ℕ) → some 0 ≡ trivial k φ f
-trivial-keeps lone1 φ f = refl
-trivial-keeps lone2 φ f = refl
-trivial-keeps bothEpsilon φ f = refl
-trivial-keeps aLabel φ f = refl
 
 -- what a filter sees at a call's operands is what `facts_at` answers
 pub facts-of-call : (s : Settings) (l : Lent) (s1 s2 : ℕ)

@@ -81,7 +81,7 @@ some-here on m x u h r n = (some-record, go (eqb (labelOn on (machineOf m) u) x)
     go true e = eqb-true _ _ e
     go false e = absurd (omega (arith, n, ap length (with-stops on m x u some-record h r (eqb-false _ _ e))))
 
-no-records : (on : MatchType) (k : Kind) (m : List ℕ) (w : Transition) (f : ℕ) → withRecords on k m w (some f) [] ≡ []
+pub no-records : (on : MatchType) (k : Kind) (m : List ℕ) (w : Transition) (f : ℕ) → withRecords on k m w (some f) [] ≡ []
 unfolding withRecords flatMap
 no-records on k m w f = refl
 
@@ -92,7 +92,7 @@ module _ (on : MatchType) (k : Kind) (m : List ℕ) (w : Transition) (f x : ℕ)
   stepsOn u = withRecords on k m w (some f) (withLabel on m x u)
 
   -- at a record with the label, whose transition is l: its step comes first
-  steps-here : (u : ℕ) (l : Transition) → withLabel on m x u ≡ u ∷ withLabel on m x (nextOf m u) → l ≡ trOf (machineOf m) u
+  pub steps-here : (u : ℕ) (l : Transition) → withLabel on m x u ≡ u ∷ withLabel on m x (nextOf m u) → l ≡ trOf (machineOf m) u
       → stepsOn u ≡ joinedBy on k w l (some f) ++ stepsOn (nextOf m u)
   unfolding withRecords flatMap
   steps-here u l e t = ap (withRecords on k m w (some f)) e ∙ ap (λ (r : Transition). joinedBy on k w r (some f) ++ stepsOn (nextOf m u)) (sym t)

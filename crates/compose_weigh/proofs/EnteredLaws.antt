@@ -16,7 +16,7 @@ use Rattle.compose_weigh.specs.Weigh.{weighOf}
 use Rattle.compose_weigh.proofs.WeighLaws.{weigh-exact}
 
 module _ (l : Lent) (s : Session) (m : Memory) (c : Composition) (h : Entered l s m c) where
-  pub targets-in-range : (n : ℕ) → n < s .used .states → (st : Step) → In (good st) (stepsAt c (tripleAt (m .states) n)) → InRange (stateCount (l .m1)) (stateCount (l .m2)) (st .to)
+  targets-in-range : (n : ℕ) → n < s .used .states → (st : Step) → In (good st) (stepsAt c (tripleAt (m .states) n)) → InRange (stateCount (l .m1)) (stateCount (l .m2)) (st .to)
   targets-in-range n found st i =
       let z = sided (s .settings) l (h .side) (h .rule) in
       let t = tripleAt (m .states) n in

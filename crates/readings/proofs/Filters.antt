@@ -22,7 +22,7 @@ use Rattle.readings.proofs.Theorem.{readings}
 use Rattle.readings.proofs.Swap.{same-by-pick}
 
 -- "inner labels (outputs of the first, inputs of the second) agree"
-pub equal-readings : (k : Kind) (value : ℕ → semiring k .Element) (A B : Machine) (filter : Filter) (live : ℕ → Bool → Bool → Bool) (pick : Bool → Bool → MoveKind)
+equal-readings : (k : Kind) (value : ℕ → semiring k .Element) (A B : Machine) (filter : Filter) (live : ℕ → Bool → Bool → Bool) (pick : Bool → Bool → MoveKind)
     → Lawful filter live pick → ReadingsOf k value A B filter pick
 equal-readings k value A B filter live pick L = readings k value _≡_ (plainComposed A B filter) (λ q1 q2 t u l l′ n n′. (λ e. e, λ e. e)) live pick L
 
@@ -56,13 +56,13 @@ module _ (k : Kind) (value : ℕ → semiring k .Element) (A B : Machine) where
 
 -- 2b, 3c: "none" and "all" change no accepting path, whichever labels meet, sigma among them. 01's filters, which look at them, accept just what the papers' accept.
 module _ (k : Kind) (value : ℕ → semiring k .Element) (C : Composed) where
-  pub sequence-as-papers : SamePaths (semiring k) value (filteredBy sequence C) (filteredBy epsilonSequencing C)
+  sequence-as-papers : SamePaths (semiring k) value (filteredBy sequence C) (filteredBy epsilonSequencing C)
   sequence-as-papers = same-by-pick (semiring k) (semiring-laws k) value C sequencePick sequence epsilonSequencing sequenceLive sequenceLive sequence-laws sequencing-laws
 
   pub alternate-as-papers : SamePaths (semiring k) value (filteredBy alternate C) (filteredBy epsilonSequencingMirrored C)
   alternate-as-papers = same-by-pick (semiring k) (semiring-laws k) value C alternatePick alternate epsilonSequencingMirrored alternateLive mirroredLive alternate-laws mirrored-laws
 
-  pub match-as-papers : SamePaths (semiring k) value (filteredBy matching C) (filteredBy epsilonMatching C)
+  match-as-papers : SamePaths (semiring k) value (filteredBy matching C) (filteredBy epsilonMatching C)
   match-as-papers = same-by-pick (semiring k) (semiring-laws k) value C matchingPick matching epsilonMatching matchingLive matchingLive matching-laws epsilon-matching-laws
 
   -- two filters that are equal cell by cell

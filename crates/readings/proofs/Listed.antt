@@ -19,9 +19,6 @@ use Rattle.words.specs.Filters.{filterOf}
 use Rattle.words.specs.Steps.{Composition, Kept, keptAt}
 use Rattle.words.specs.Settings.{Settings, Lent, operand1, operand2, compositionOf}
 use Rattle.words.specs.AsPapers.{exact, edgesOf, composedOf, plain, directionOf, WalkedSigma}
-use Rattle.papers.specs.Pick.{sequenceLive, matchingLive}
-use Rattle.words.specs.Filters.{alternateLive}
-use Rattle.words.proofs.TableLaws.{sequence-laws, alternate-laws, matching-laws}
 use Rattle.words.proofs.CheckedLaws.{good-is}
 use Rattle.words.specs.Links.{Composable}
 use Rattle.words.proofs.PapersOpened.{kept-as-papers, at-direction, directed, plain-composition, sound-of}
@@ -30,7 +27,7 @@ use Rattle.readings.specs.Merge.{merge}
 use Rattle.readings.specs.Readings.{at, pairOf, PairFrom, Readings, ReadingsOf}
 use Rattle.readings.specs.Places.{Lists, movesAt, placesOf, AcceptingPlaces}
 use Rattle.readings.specs.Listed.{goods, entryOf, listedAt, pickOf}
-use Rattle.readings.proofs.Filters.{equal-readings}
+use Rattle.readings.proofs.Filters.{sequence-readings, alternate-readings, match-readings}
 use Rattle.readings.proofs.Placed.{placed-readings}
 
 -- a list without refusals is its values
@@ -88,14 +85,14 @@ module _ (c : Composition) (S : Composable c) (none1 : c .operand1 .sigma .label
   plainly : Enumerates (listedAt c s) (λ e. KeptMove (composedOf c) s (e .0) (e .1))
   plainly = let r = directed c s none1 in enumerated c s kept-good S (r .0) (r .1)
 
-  pub exactly-listed : (m : Edges) (g : ℕ) → In (m, g) (listedAt c s) ↔ KeptMove (plain c) s m g
+  exactly-listed : (m : Edges) (g : ℕ) → In (m, g) (listedAt c s) ↔ KeptMove (plain c) s m g
   exactly-listed m g = Iff·trans (plainly .exactly (m, g)) (plain-composition c S none1 none2 s m g)
 
   once-listed : Distinct (listedAt c s)
   once-listed = plainly .once
 
 -- at every triple
-pub words-lists : (c : Composition) → Composable c → c .operand1 .sigma .label ≡ noLabel → c .operand2 .sigma .label ≡ noLabel → Lists (plain c) (λ s. Unit {0}) (listedAt c)
+words-lists : (c : Composition) → Composable c → c .operand1 .sigma .label ≡ noLabel → c .operand2 .sigma .label ≡ noLabel → Lists (plain c) (λ s. Unit {0}) (listedAt c)
 words-lists c S none1 none2 = record {
   exactly = λ s f. exactly-listed c S none1 none2 s;
   once = λ s f. once-listed c S none1 none2 s;
@@ -108,9 +105,9 @@ pub readings-of : (c : Composition) (n : ℕ) → n ≤ 2 → c .filter ≡ filt
 readings-of c n h e = subst (λ F. ReadingsOf (c .kind) (exact (c .kind)) (c .operand1 .machine) (c .operand2 .machine) F (pickOf n)) (sym e) (go n h)
   where
     go : (n : ℕ) → n ≤ 2 → ReadingsOf (c .kind) (exact (c .kind)) (c .operand1 .machine) (c .operand2 .machine) (filterOf n) (pickOf n)
-    go zero h = equal-readings (c .kind) (exact (c .kind)) (c .operand1 .machine) (c .operand2 .machine) _ sequenceLive _ sequence-laws
-    go (suc zero) h = equal-readings (c .kind) (exact (c .kind)) (c .operand1 .machine) (c .operand2 .machine) _ alternateLive _ alternate-laws
-    go (suc (suc zero)) h = equal-readings (c .kind) (exact (c .kind)) (c .operand1 .machine) (c .operand2 .machine) _ matchingLive _ matching-laws
+    go zero h = sequence-readings (c .kind) (exact (c .kind)) (c .operand1 .machine) (c .operand2 .machine)
+    go (suc zero) h = alternate-readings (c .kind) (exact (c .kind)) (c .operand1 .machine) (c .operand2 .machine)
+    go (suc (suc zero)) h = match-readings (c .kind) (exact (c .kind)) (c .operand1 .machine) (c .operand2 .machine)
     go (suc (suc (suc m))) h = absurd (omega (arith, h))
 
 -- 3c, but for the store: of an opening with well-formed machines, an accepted side and no sigma label set, from any two states

@@ -86,7 +86,7 @@ claims cs h =
     let r = demand-2 set lent got memory opens in
     subst (λ x. Demand2 set lent (compositionOf set lent x) (after lent (worldOf (openOf set lent got memory)) cs)) (good-is (sym (r .1) ∙ rule)) (r .2 cs h)
 
-below-two : (P : ℕ → Type 0) → P 0 → P 1 → (n : ℕ) → n < 2 → P n
+pub below-two : (P : ℕ → Type 0) → P 0 → P 1 → (n : ℕ) → n < 2 → P n
 below-two P a b zero h = a
 below-two P a b (suc zero) h = b
 below-two P a b (suc (suc n)) h = absurd (omega arith)

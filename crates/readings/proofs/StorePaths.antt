@@ -2,8 +2,8 @@
 -- match (3c). The records of a state are its moves (PathRecords, PathFollows), and the moves are read by the theorem on the papers' composition (Filters); here the two are chained,
 -- from the start.
 use mathlib.Core.Path.{_≡_, refl, sym, _∙_, ap, ap₂, subst}
-use mathlib.Core.Bool.{Bool, true}
-use mathlib.Core.List.{List, [], _∷_, map, List·Memᴰ as In}
+use mathlib.Core.Bool.{Bool}
+use mathlib.Core.List.{List, [], _∷_, map}
 use mathlib.Core.Logic.{_↔_}
 use mathlib.Core.Option.{Option, none, some, Option·none-ne-some}
 use Prim.Native.Nat.{ℕ, _<_}
@@ -16,15 +16,12 @@ use Rattle.papers.specs.Sums.{weightFrom, weightOfPair}
 use Rattle.papers.proofs.SemiringLaws.{semiring-laws}
 use Rattle.papers.proofs.PathLaws.{agree-equal, input-word, output-word, moves-weigh}
 use Rattle.words.specs.Labels.{noLabel, good}
-use Rattle.words.specs.Machines.{listOf, wellFormed}
 use Rattle.words.specs.Sides.{Side}
 use Rattle.words.specs.Steps.{Composition, startAt}
 use Rattle.words.specs.Settings.{Settings, Lent, compositionOf}
 use Rattle.words.specs.AsPapers.{exact, composedOf, plain}
 use Rattle.words.specs.Links.{Composable}
-use Rattle.words.proofs.ListLaws.{list-member}
-use Rattle.words.proofs.FormLaws.{TrForm, form}
-use Rattle.words.proofs.PapersOpened.{plain-composition, sound-of}
+use Rattle.words.proofs.PapersOpened.{plain-composition, listed-form, sound-of}
 use Rattle.words.proofs.PapersSteps.{start-as-papers}
 use Rattle.calls.specs.Checks.{sideFor}
 use Rattle.calls.specs.Sequences.{World}
@@ -39,10 +36,6 @@ use Rattle.readings.proofs.Correspondences.{chained, exchanged}
 use Rattle.readings.proofs.Listed.{readings-of}
 use Rattle.readings.proofs.PathRecords.{Whole}
 use Rattle.readings.proofs.PathFollows.{AcceptingAt, records-alike, records-moves, records-labels}
-
--- a record in a list of a well-formed machine
-tr-of : (m : List ℕ) → wellFormed m ≡ true → (q t : ℕ) → In t (listOf m q) → TrForm m t
-tr-of m ok q t i = let r = list-member m q i in form m ok .tr t (r .0) (r .1)
 
 pub whole : (s : Settings) (l : Lent) (side : Side) → sideFor s l ≡ good side → (w : World) → Sound l (compositionOf s l side) w → AllRead l w → Whole l (compositionOf s l side) w
 whole s l side rule w S R =
@@ -133,7 +126,7 @@ module _ (s : Settings) (l : Lent) (side : Side) (rule : sideFor s l ≡ good si
   labels rs h =
       let z = sided s l side rule in
       records-labels l c w all-whole (N .sigma1) (N .sigma2)
-      (λ q t i e. let h = tr-of (l .m1) (z .formed1) q t i .input in omega (arith, h, e)) (λ q t i e. let h = tr-of (l .m2) (z .formed2) q t i .output in omega (arith, h, e))
+      (λ q t i e. let h = listed-form (l .m1) (z .formed1) q t i .input in omega (arith, h, e)) (λ q t i e. let h = listed-form (l .m2) (z .formed2) q t i .output in omega (arith, h, e))
       rs 0 (h .0) (h .1)
 
   -- what they tell of their pairs

@@ -4,7 +4,7 @@ use mathlib.Core.Path.{_≡_, refl, sym, _∙_, ap, subst}
 use mathlib.Core.List.{List, [], _∷_, List·Memᴰ as In, List·Memᴰ·head as here, List·Memᴰ·tail as there, List·Memᴰ·not-nil, List·Memᴰ·cases-cons}
 use mathlib.Core.Logic.{⊎-elim}
 use mathlib.Core.Option.{none, some, Option·none-ne-some}
-use Prim.Native.Nat.{ℕ, zero, suc, _<_}
+use Prim.Native.Nat.{ℕ}
 use native.Mathlib.Omega.{arith}
 use lib.ListN.{replicate}
 use Rattle.lists.specs.Lists.{Distinct, keepIf, Enumerates}
@@ -34,6 +34,7 @@ use Rattle.readings.specs.StorePaths.{AcceptingFrom, movesOfRecords, pai
 use Rattle.readings.specs.Follows.{ReadsAs}
 use Rattle.readings.specs.Demands.{Demand2}
 use Rattle.readings.proofs.Demand2.{demand-2}
+use Rattle.readings.proofs.SigmaCase.{below-two}
 
 abbrev words1 : List ℕ
 words1 = 2 ∷ 3 ∷ 1 ∷ 0 ∷ 0 ∷ 0 ∷ 1 ∷ 0 ∷ 0 ∷ 0 ∷ 1 ∷ 1 ∷ 1 ∷ 5 ∷ 2 ∷ 1 ∷ 2 ∷ 1 ∷ 5 ∷ 3 ∷ 1 ∷ 3 ∷ 1 ∷ 6 ∷ 4 ∷ 1 ∷ 0 ∷ []
@@ -79,11 +80,6 @@ claimed2 =
     let r = demand-2 set lent got memory opens in
     subst (Demand2 set lent c) runs
     (subst (λ x. Demand2 set lent (compositionOf set lent x) (after lent (worldOf (openOf set lent got memory)) (run ∷ []))) (good-is (sym (r .1) ∙ rule)) (r .2 (run ∷ []) tt))
-
-below-two : (P : ℕ → Type 0) → P 0 → P 1 → (n : ℕ) → n < 2 → P n
-below-two P a b zero h = a
-below-two P a b (suc zero) h = b
-below-two P a b (suc (suc n)) h = absurd (omega arith)
 
 finished : Finished set lent left
 unfolding Holds

@@ -42,7 +42,7 @@ straight-by m (suc n) (suc t) b h e =
     go (inr z) rec = let q : nextOf m (suc t) ≡ suc (suc t) = eqb-true _ _ z ∙ omega arith in subst (λ (a : ℕ). listFrom m (nextOf m (suc t)) ≡ interval a (length (listFrom m (nextOf m (suc t))))) q rec
 
 -- the list's records are consecutive
-pub straight-interval : (m : List ℕ) (t : ℕ) → t ≤ trCount m → straight m t ≡ true → listFrom m t ≡ interval t (length (listFrom m t))
+straight-interval : (m : List ℕ) (t : ℕ) → t ≤ trCount m → straight m t ≡ true → listFrom m t ≡ interval t (length (listFrom m t))
 straight-interval m t h e = straight-by m (length (listFrom m t)) t (omega arith) h e
 
 room-by : (m : List ℕ) (n t : ℕ) → length (listFrom m t) ≤ n → t ≤ trCount m → straight m t ≡ true → t + length (listFrom m t) ≤ trCount m + 1
@@ -78,13 +78,13 @@ keep-length P (u ∷ us) = go (P u) (keep-length P us)
     go false h = omega arith
 
 -- the labels of consecutive records stand as many words apart as a record has
-pub place-label : (on : MatchType) (m : List ℕ) (a i : ℕ) → labelAt m (labelPlace on m a) i ≡ labelOn on (machineOf m) (a + i)
+place-label : (on : MatchType) (m : List ℕ) (a i : ℕ) → labelAt m (labelPlace on m a) i ≡ labelOn on (machineOf m) (a + i)
 unfolding labelPlace trWord
 place-label inputs m a i = let z : recordBase m + trWords * a + 0 + trWords * i ≡ recordBase m + trWords * (a + i) + 0 = omega arith in ap (λ (k : ℕ). getD m k 0) z
 place-label outputs m a i = let z : recordBase m + trWords * a + 1 + trWords * i ≡ recordBase m + trWords * (a + i) + 1 = omega arith in ap (λ (k : ℕ). getD m k 0) z
 
 -- the record of a place
-pub place-number : (on : MatchType) (m : List ℕ) (a n r : ℕ) → r ≡ labelPlace on m a + trWords * n → a + n ≡ (r - (recordBase m + wordOn on)) / trWords
+place-number : (on : MatchType) (m : List ℕ) (a n r : ℕ) → r ≡ labelPlace on m a + trWords * n → a + n ≡ (r - (recordBase m + wordOn on)) / trWords
 unfolding labelPlace
 place-number inputs m a n r e = omega (arith, e)
 place-number outputs m a n r e = omega (arith, e)
@@ -102,19 +102,19 @@ interval-get a (suc n) zero h = omega arith
 interval-get a (suc n) (suc i) h = interval-get (suc a) n i (omega arith) ∙ omega arith
 
 -- consecutive records whose labels do not fall
-pub interval-falls : (f : ℕ → ℕ) (low a n : ℕ) → noFall low (map f (interval a n)) ≡ true → (i j : ℕ) → i ≤ j → j < n → f (a + i) ≤ f (a + j)
+interval-falls : (f : ℕ → ℕ) (low a n : ℕ) → noFall low (map f (interval a n)) ≡ true → (i j : ℕ) → i ≤ j → j < n → f (a + i) ≤ f (a + j)
 interval-falls f low a n e i j h l =
     let p = fall-places low (map f (interval a n)) e i j h (omega (arith, length-map (interval a n) f, length-interval a n, l)) in
     omega (arith, p, interval-at f a n i (omega arith), interval-at f a n j l)
 
 module _ (f : ℕ → ℕ) (x a n k : ℕ) (in-n : k ≤ n) (before : (i : ℕ) → i < k → f (a + i) < x) where
   -- the search came to the end
-  pub found-none : n ≤ k → keepIf (λ u. eqb (f u) x) (interval a n) ≡ []
+  found-none : n ≤ k → keepIf (λ u. eqb (f u) x) (interval a n) ≡ []
   unfolding keepIf interval
   found-none h = let z : n - k ≡ 0 = omega arith in keep-past f x k a n in-n before ∙ ap (λ (j : ℕ). keepIf (λ u. eqb (f u) x) (interval (a + k) j)) z
 
   -- it came to a larger label
-  pub found-other : ((i : ℕ) → k ≤ i → i < n → x < f (a + i)) → keepIf (λ u. eqb (f u) x) (interval a n) ≡ []
+  found-other : ((i : ℕ) → k ≤ i → i < n → x < f (a + i)) → keepIf (λ u. eqb (f u) x) (interval a n) ≡ []
   found-other h = keep-past f x k a n in-n before ∙ keep-none (λ u. eqb (f u) x) (interval (a + k) (n - k)) go
     where
       go : (u : ℕ) → In u (interval (a + k) (n - k)) → eqb (f u) x ≡ false
@@ -125,7 +125,7 @@ module _ (f : ℕ → ℕ) (x a n k : ℕ) (in-n : k ≤ n) (before : (i : ℕ) 
           ne-eqb (f u) x (λ e. omega (arith, e, p))
 
   -- it came to the label
-  pub found-label : k < n → f (a + k) ≡ x → head0 (keepIf (λ u. eqb (f u) x) (interval a n)) ≡ a + k
+  found-label : k < n → f (a + k) ≡ x → head0 (keepIf (λ u. eqb (f u) x) (interval a n)) ≡ a + k
   unfolding keepIf interval
   found-label h e =
       let z : n - k ≡ suc (n - k - 1) = omega arith in
@@ -172,7 +172,7 @@ module _ (on : MatchType) (m : List ℕ) (t : ℕ) (inside : t ≤ trCount m) (r
   pub eps-few : length (withLabel on m 0 t) ≤ len
   eps-few = omega (arith, ap length (kept 0), keep-length (λ u. eqb (label u) 0) (interval t len), ap length (straight-interval m t inside row))
 
-  pub eps-first : (i : ℕ) → i < length (withLabel on m 0 t) → label (t + i) ≡ 0
+  eps-first : (i : ℕ) → i < length (withLabel on m 0 t) → label (t + i) ≡ 0
   eps-first i h =
       let e = ap length (kept 0) in
       let q : i < length (keepIf (λ u. eqb (label u) 0) (interval t len)) = omega (arith, e, h) in

@@ -46,7 +46,7 @@ module _ (f : ℕ → ℕ) where
           omega (arith, z, q, h)
 
   -- every label
-  pub run-bounds : (x last same run : ℕ) (l : List ℕ) → noFall last (map f l) ≡ true → same ≤ run → times x l ≤ longest f last same run l
+  run-bounds : (x last same run : ℕ) (l : List ℕ) → noFall last (map f l) ≡ true → same ≤ run → times x l ≤ longest f last same run l
   unfolding longest keepIf
   run-bounds x last same run [] e h = omega arith
   run-bounds x last same run (u ∷ us) e h =
@@ -75,7 +75,7 @@ module _ (f : ℕ → ℕ) where
   start-any last other [] = refl
   start-any last other (u ∷ us) = rw (first-one (eqb (f u) last), first-one (eqb (f u) other))
 
-  pub run-bounds-any : (x last : ℕ) (l : List ℕ) → noFall 0 (map f l) ≡ true → times x l ≤ longest f last 0 0 l
+  run-bounds-any : (x last : ℕ) (l : List ℕ) → noFall 0 (map f l) ≡ true → times x l ≤ longest f last 0 0 l
   run-bounds-any x last l e = subst (λ (n : ℕ). times x l ≤ n) (start-any 0 last l) (run-bounds x 0 0 0 l e (omega arith))
 
 -- in a state's list

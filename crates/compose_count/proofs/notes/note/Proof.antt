@@ -1,7 +1,4 @@
 -- The set is what `take` leaves, and the rest is kept beside it.
-use mathlib.Core.Path.{_≡_, _∙_}
-use mathlib.Core.Bool.{_||_}
-use mathlib.Core.Logic.{⊎-elim}
 use Rattle.compose_state_tuple.specs.Meaning.{tupleMeans}
 use Rattle.triple_set.specs.Sets.{takenMeans}
 use Rattle.compose_count.specs.Notes.{notesMeans}
@@ -10,27 +7,20 @@ use borrow.Author.Needs.{needs}
 use Rattle.compose_count.proofs.notes.note.Statement.{statement}
 use Rattle.compose_count.proofs.notes.note.Tie as tie
 
--- full before, or now
-filled : (c : tie.After-counted) → c .before .if1 .full ≡ (c .before .before .before .before .before .before .before .before .before .before .before .before .before .before .args .seen .full || c .before .before .before .before .before .before .take .result .full)
-filled c =
-    ⊎-elim
-    (λ w. w .1 ∙ rw (w .0 .taken))
-    (λ w. w .1 ∙ rw (w .0 .left))
-    (c .before .if1 .came)
-
 returns : tie.Need-returns
 returns c =
     let a = c .before .before .before .before .before .before .before .before .before .before .before .before .before .before .args in
     let x = c .before .before .before .before .before .before .take in
     λ trs.
     noted-is (wantedIn (a .heads .now) (a .states .now) (a .c) trs) (notesMeans (a .chains .now) (a .records .now) (a .seen)) (tupleMeans (a .tuple))
-    (c .before .before .before .before .before .before .before .wanted .result) (takenMeans (x .result) (x .last .0) (x .last .1 .0)) (c .before .if1 .full) (c .counted .result)
-    (c .before .before .before .before .before .before .before .wanted .ensures trs) (x .ensures) (filled c) (c .counted .ensures)
+    (c .before .before .before .before .before .before .before .wanted .result) (takenMeans (x .result) (x .last .0) (x .last .1 .0)) (c .before .either .result) (c .counted .result)
+    (c .before .before .before .before .before .before .before .wanted .ensures trs) (x .ensures) (c .before .either .ensures) (c .counted .ensures)
 
 pub note-spec : {M : Type 1} → statement M
 note-spec =
     tie.close
     (tie.spec
+    (λ c κs. search needs)
     (λ c κs. search needs)
     (λ c κs. search needs)
     (λ c κs. search needs)
