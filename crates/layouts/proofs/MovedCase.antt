@@ -14,7 +14,7 @@ use Rattle.words.specs.Matches.{labelled, sortedMatches, outputs}
 use Rattle.words.specs.Machines.{stateCount, trCount, startWord, sideMark, acceptorMark, stateWord, trWord, firstOk, nextOk, firstOf, nextOf, listBy, listFrom, listOf, noFall, sorted, stateOk, trOk, acceptor, marksOk, sizeUpTo, wellFormedUpTo}
 use Rattle.words.specs.Sides.{only, sideOf, directionAt}
 use Rattle.words.specs.Filters.{noneAt, allAt}
-use Rattle.words.specs.Sigmas.{has, sigmaTrs, restMatches, lookup, given}
+use Rattle.words.specs.Sigmas.{has, sigmaTrs, sigmaMatches, lookup, given}
 use Rattle.words.specs.Steps.{Composition, walk, keptAlong, keptAt, stepOf, stepsAt, finalAt, sameTriple}
 use Rattle.words.specs.Settings.{settingsOk, compositionOf}
 use Rattle.words.proofs.CheckedLaws.{good≢refused}
@@ -116,7 +116,7 @@ module _ (trs : List ℕ) (size : length trs ≡ 327680) (zeros : (i : ℕ) → 
   pub thirteen-moves :
       (callWith five both (old 65535) (expand 0) .reply ≡ answered (refusal 13) (holding 65535))
       × (callOf both (new 65535) (expand 0) .reply ≡ answered (listPart 65536 1) (session (plain 0 0) 1 2 65536))
-  unfolding callWith expandWith enteredAtWith expansionWith storeStepsWith storeStepWith expandedWith fieldOf reachWith findWith first linked chainWith sameTriple addWith append markWith slot headOf put nextWith tripleAt stateRoomWith roomWith stepsAt stepOf given keptAt keptAlong flatMap walk lookup has sigmaTrs restMatches labelled keepIf sortedMatches noneAt allAt every directionAt times isZero stateCount trCount stateWord trWord firstOk nextOk firstOf nextOf listBy listFrom listOf
+  unfolding callWith expandWith enteredAtWith expansionWith storeStepsWith storeStepWith expandedWith fieldOf reachWith findWith first linked chainWith sameTriple addWith append markWith slot headOf put nextWith tripleAt stateRoomWith roomWith stepsAt stepOf given keptAt keptAlong flatMap walk lookup has sigmaTrs sigmaMatches labelled keepIf sortedMatches noneAt allAt every directionAt times isZero stateCount trCount stateWord trWord firstOk nextOk firstOf nextOf listBy listFrom listOf
   thirteen-moves =
       let e = enters 65535 (omega arith) in
       (rw (enters-old both small (holding 65535) (old 65535 .memory) (new 65535 .memory) (pair 65535) c e (omega arith, omega arith), old-room), rw (e, new-room))

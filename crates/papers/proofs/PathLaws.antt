@@ -23,7 +23,7 @@ pub word-label : (x : ℕ) (l : List ℕ) → x ≢ ε → word (x ∷ l) ≡ x 
 unfolding word keepIf
 word-label x l n = rw (ne-eqb x ε n)
 
-word-same : (x : ℕ) (k l : List ℕ) → word k ≡ word l → word (x ∷ k) ≡ word (x ∷ l)
+pub word-same : (x : ℕ) (k l : List ℕ) → word k ≡ word l → word (x ∷ k) ≡ word (x ∷ l)
 unfolding word keepIf
 word-same x k l e = ap (putIf (not (eqb x ε)) x) e
 

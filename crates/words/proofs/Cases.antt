@@ -12,7 +12,7 @@ use Rattle.words.specs.Matches.{inputs, outputs, labelled, sortedMatches
 use Rattle.words.specs.Machines.{stateCount, trCount, startWord, sideMark, acceptorMark, stateWord, trWord, firstOk, nextOk, firstOf, nextOf, listBy, listFrom, listOf, noFall, sorted, wellFormed}
 use Rattle.words.specs.Sides.{Side, only, both, sideOf, directionAt}
 use Rattle.words.specs.Filters.{noneAt, allAt}
-use Rattle.words.specs.Sigmas.{has, sigmaTrs, restMatches, lookup, given}
+use Rattle.words.specs.Sigmas.{has, sigmaTrs, sigmaMatches, lookup, given}
 use Rattle.words.specs.Steps.{Composition, Triple, Step, walk, keptAlong, keptAt, stepOf, stepsAt, startAt, finalAt}
 use Rattle.words.specs.Settings.{Settings, settingsOk, Lent, operand1, operand2, compositionOf}
 
@@ -66,7 +66,7 @@ answerBy s l t (good side) = sideNumber side ∷ stateWords (compositionOf s l s
 
 -- its own `unfolding` line opens all that it calls: a closed case names `answer` alone
 unfoldable pub answer : Settings → Lent → Triple → List ℕ
-unfolding collect startAt finalAt isZero times stepsAt stepOf given keptAt keptAlong flatMap walk lookup has sigmaTrs restMatches labelled keepIf sortedMatches noneAt allAt every directionAt sideOf sorted noFall interval sideMark acceptorMark stateCount trCount startWord stateWord trWord firstOk nextOk firstOf nextOf listBy listFrom listOf
+unfolding collect startAt finalAt isZero times stepsAt stepOf given keptAt keptAlong flatMap walk lookup has sigmaTrs sigmaMatches labelled keepIf sortedMatches noneAt allAt every directionAt sideOf sorted noFall interval sideMark acceptorMark stateCount trCount startWord stateWord trWord firstOk nextOk firstOf nextOf listBy listFrom listOf
 answer s l t = answerBy s l t (sideOf (operand1 s l) (operand2 s l))
 
 -- the settings are in their ranges, the machines are well formed, and the answer is the one wanted

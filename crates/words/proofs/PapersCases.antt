@@ -1,7 +1,7 @@
 -- Closed instances, so that nothing above is empty: the machines of 01's listing are an accepted opening and have an accepting list of moves of the papers; a sigma transition serves
--- for a label without a match of its own, and for no other.
+-- for each letter, beside the letter's own match.
 use mathlib.Core.Path.{_≡_, refl}
-use mathlib.Core.List.{List, [], _∷_, List·Memᴰ as In, List·Memᴰ·head as here, List·Memᴰ·tail as there, List·Memᴰ·not-nil, List·Memᴰ·cases-cons}
+use mathlib.Core.List.{List, [], _∷_, List·Memᴰ·head as here, List·Memᴰ·tail as there}
 use mathlib.Core.Logic.{_≢_, _⊎_, inl, inr, ⊎-elim}
 use mathlib.Core.Option.{none}
 use Prim.Native.Nat.{ℕ}
@@ -19,7 +19,6 @@ use Rattle.words.specs.Weights.{cost}
 use Rattle.words.specs.Matches.{inputs, outputs}
 use Rattle.words.specs.Machines.{stateCount, trCount, startWord, sideMark, acceptorMark, stateWord, trWord, firstOk, nextOk, firstOf, nextOf, listBy, listFrom, listOf, noFall, sorted, stateOk, trOk, acceptor, marksOk, sizeUpTo, wellFormedUpTo}
 use Rattle.words.specs.Sides.{only, sideOf, directionAt}
-use Rattle.words.specs.Sigmas.{inner}
 use Rattle.words.specs.Steps.{Composition}
 use Rattle.words.specs.Settings.{Settings, Lent, compositionOf}
 use Rattle.words.specs.AsPapers.{exact, composedOf}
@@ -89,37 +88,27 @@ sigmas-sound = sound-of (settings 9) served (only inputs) refl refl refl
 abbrev origin : Triple
 origin = record { s1 = 0; s2 = 0; f = 0 }
 
--- 3 has a match of its own; 4 has none, and 9:7 serves for it
+-- 3 has a match of its own
 pub own-kept : KeptMove (composedOf sigmas) origin (pair (along 1) (along 1)) 0
 unfolding directionAt stateCount trCount stateWord trWord firstOk nextOk firstOf nextOf listBy listFrom listOf
 own-kept = (aLabel, (here refl, here refl, (3, 3, refl, refl, λ e. omega arith, λ e. omega arith, (λ e. omega arith, inl refl))), refl)
 
-pub sigma-kept : KeptMove (composedOf sigmas) origin (pair (along 2) (along 2)) 0
+-- beside it 9:7 serves for 3, and it serves for 4, which has none
+pub sigma-kept : KeptMove (composedOf sigmas) origin (pair (along 1) (along 2)) 0 × KeptMove (composedOf sigmas) origin (pair (along 2) (along 2)) 0
 unfolding directionAt stateCount trCount stateWord trWord firstOk nextOk firstOf nextOf listBy listFrom listOf
-sigma-kept = (aLabel, (there (here refl), there (here refl), (4, 9, refl, refl, λ e. omega arith, λ e. omega arith, (λ e. omega arith, inr (refl, refl, no-four)))), refl)
-  where
-    no-four : (t : ℕ) → In t (1 ∷ 2 ∷ []) → inner (sigmas .operand2) t ≡ 4 → ⊥
-    no-four t i e =
-        ⊎-elim
-        (λ h. let z : _≡_ {A = ℕ} 3 4 = rw h at e in omega arith)
-        (λ j. ⊎-elim (λ h. let z : _≡_ {A = ℕ} 9 4 = rw h at e in omega arith) List·Memᴰ·not-nil (List·Memᴰ·cases-cons j))
-        (List·Memᴰ·cases-cons i)
-
--- so 9:7 does not serve for 3, nor 3:6 for 4
-pub sigma-not-kept : (g : ℕ) → (KeptMove (composedOf sigmas) origin (pair (along 1) (along 2)) g → ⊥) × (KeptMove (composedOf sigmas) origin (pair (along 2) (along 1)) g → ⊥)
-unfolding directionAt stateCount trCount stateWord trWord firstOk nextOk firstOf nextOf listBy listFrom listOf
-sigma-not-kept g = (
-  λ h.
-      ⊎-elim
-      (λ e. let z : _≡_ {A = ℕ} 3 0 = e .0 in omega arith)
-      (λ e. ⊎-elim (λ y. let z : _≡_ {A = ℕ} 9 3 = y in omega arith) (λ r. r .2 1 (here refl) refl) (e .2 .1))
-      (pairs (h .0) 1 2 (h .1)),
-  λ h.
-      ⊎-elim
-      (λ e. let z : _≡_ {A = ℕ} 4 0 = e .0 in omega arith)
-      (λ e. ⊎-elim (λ y. let z : _≡_ {A = ℕ} 3 4 = y in omega arith) (λ r. let z : _≡_ {A = ℕ} 3 9 = r .0 in omega arith) (e .2 .1))
-      (pairs (h .0) 2 1 (h .1)),
+sigma-kept = (
+  (aLabel, (here refl, there (here refl), (3, 9, refl, refl, λ e. omega arith, λ e. omega arith, (λ e. omega arith, inr (refl, refl)))), refl),
+  (aLabel, (there (here refl), there (here refl), (4, 9, refl, refl, λ e. omega arith, λ e. omega arith, (λ e. omega arith, inr (refl, refl)))), refl),
 )
+
+-- 3:6 does not serve for 4
+pub other-not-kept : (g : ℕ) → KeptMove (composedOf sigmas) origin (pair (along 2) (along 1)) g → ⊥
+unfolding directionAt stateCount trCount stateWord trWord firstOk nextOk firstOf nextOf listBy listFrom listOf
+other-not-kept g h =
+    ⊎-elim
+    (λ e. let z : _≡_ {A = ℕ} 4 0 = e .0 in omega arith)
+    (λ e. ⊎-elim (λ y. let z : _≡_ {A = ℕ} 3 4 = y in omega arith) (λ r. let z : _≡_ {A = ℕ} 3 9 = r .0 in omega arith) (e .2 .1))
+    (pairs (h .0) 2 1 (h .1))
   where
     A : Machine
     A = sigmas .operand1 .machine

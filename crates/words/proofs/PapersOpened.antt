@@ -1,7 +1,7 @@
 -- The moves of a composed state: in the direction that its side gives; without sigma; and that every opening of well-formed machines with an accepted side is sound.
 use mathlib.Core.Path.{_≡_, refl, sym, _∙_, ap, subst}
-use mathlib.Core.Bool.{Bool, true, false, _||_, cond}
-use mathlib.Core.List.{List, [], _∷_, List·Memᴰ as In}
+use mathlib.Core.Bool.{Bool, true, false, _||_, cond, true≢false}
+use mathlib.Core.List.{List, [], _∷_, List·Memᴰ as In, List·Memᴰ·not-nil}
 use mathlib.Core.Logic.{_≢_, _↔_, Iff·trans, inl, ⊎-elim}
 use Prim.Native.Nat.{ℕ}
 use native.Mathlib.Omega.{arith}
@@ -22,7 +22,7 @@ use Rattle.words.specs.Settings.{Settings, Lent, operand1, operand2, com
 use Rattle.words.specs.AsPapers.{edgesOf, meetsIn, composedIn, composedOf, plain, directionOf, matchesOf}
 use Rattle.words.proofs.ListLaws.{list-member, list-distinct}
 use Rattle.words.proofs.FormLaws.{TrForm, form}
-use Rattle.words.proofs.CheckedLaws.{good≢refused}
+use Rattle.words.proofs.CheckedLaws.{good-is, good≢refused}
 use Rattle.words.specs.Links.{Composable, Exactly}
 use Rattle.words.proofs.PapersMoves.{kept-along, outputs1, inputs2}
 
@@ -67,6 +67,13 @@ at-direction c s d e m g = (
 pub no-direction : (c : Composition) (s : Triple) (n x y : ℕ) → directionOf c s ≡ refused n → composedOf c .meets (s .s1) (s .s2) x y → ⊥
 no-direction c s n x y e h = rw e at h
 
+-- "MAX is `NO_LABEL`, never a label of a machine.": of machine 1's outputs, and of machine 2's inputs
+pub inner-label1 : (c : Composition) → Composable c → (q t : ℕ) → In t (c .operand1 .machine .list q) → c .operand1 .machine .output t ≢ noLabel
+inner-label1 c S q t i e = S .labels1 q t i (ap (λ (l : ℕ → ℕ). l t) (outputs1 c S (record { s1 = q; s2 = q; f = 0 })) ∙ e)
+
+pub inner-label2 : (c : Composition) → Composable c → (q u : ℕ) → In u (c .operand2 .machine .list q) → c .operand2 .machine .input u ≢ noLabel
+inner-label2 c S q u i e = S .labels2 q u i (ap (λ (l : ℕ → ℕ). l u) (inputs2 c S (record { s1 = q; s2 = q; f = 0 })) ∙ e)
+
 -- without sigma labels the papers' relation is the plain one, in both directions
 module _ (c : Composition) (S : Composable c) (none1 : c .operand1 .sigma .label ≡ noLabel) (none2 : c .operand2 .sigma .label ≡ noLabel) (s : Triple) where
   abbrev M : Machine
@@ -89,20 +96,14 @@ module _ (c : Composition) (S : Composable c) (none1 : c .operand1 .sigma .label
       (formε M N (M .output) (N .input) G (s .s1) (s .s2))
       (λ t u i j n o m. formx M N (M .output) (N .input) G (s .s1) (s .s2) t u i j n o (f t u i j m))
 
-  label1 : (t : ℕ) → In t (M .list (s .s1)) → M .output t ≢ noLabel
-  label1 t i e = S .labels1 (s .s1) t i (ap (λ (l : ℕ → ℕ). l t) (outputs1 c S s) ∙ e)
-
-  label2 : (u : ℕ) → In u (N .list (s .s2)) → N .input u ≢ noLabel
-  label2 u i e = S .labels2 (s .s2) u i (ap (λ (l : ℕ → ℕ). l u) (inputs2 c S s) ∙ e)
-
   pub no-sigma : (d : MatchType) (m : Edges) (g : ℕ) → KeptMove (composedIn d c) s m g ↔ KeptMove (plain c) s m g
   no-sigma inputs m g = (
-    λ h. (h .0, change (meetsIn inputs (c .operand1) (c .operand2)) equal (λ t u i j x. ⊎-elim (λ e. sym e) (λ r. absurd (label2 u j (r .0 ∙ none2))) (x .1)) (h .0) (m .first) (m .second) (h .1), h .2),
-    λ h. (h .0, change equal (meetsIn inputs (c .operand1) (c .operand2)) (λ t u i j x. (λ e. label1 t i (e ∙ none2), inl (sym x))) (h .0) (m .first) (m .second) (h .1), h .2),
+    λ h. (h .0, change (meetsIn inputs (c .operand1) (c .operand2)) equal (λ t u i j x. ⊎-elim (λ e. sym e) (λ r. absurd (inner-label2 c S (s .s2) u j (r .0 ∙ none2))) (x .1)) (h .0) (m .first) (m .second) (h .1), h .2),
+    λ h. (h .0, change equal (meetsIn inputs (c .operand1) (c .operand2)) (λ t u i j x. (λ e. inner-label1 c S (s .s1) t i (e ∙ none2), inl (sym x))) (h .0) (m .first) (m .second) (h .1), h .2),
   )
   no-sigma outputs m g = (
-    λ h. (h .0, change (meetsIn outputs (c .operand1) (c .operand2)) equal (λ t u i j x. ⊎-elim (λ e. e) (λ r. absurd (label1 t i (r .0 ∙ none1))) (x .1)) (h .0) (m .first) (m .second) (h .1), h .2),
-    λ h. (h .0, change equal (meetsIn outputs (c .operand1) (c .operand2)) (λ t u i j x. (λ e. label2 u j (e ∙ none1), inl x)) (h .0) (m .first) (m .second) (h .1), h .2),
+    λ h. (h .0, change (meetsIn outputs (c .operand1) (c .operand2)) equal (λ t u i j x. ⊎-elim (λ e. e) (λ r. absurd (inner-label1 c S (s .s1) t i (r .0 ∙ none1))) (x .1)) (h .0) (m .first) (m .second) (h .1), h .2),
+    λ h. (h .0, change equal (meetsIn outputs (c .operand1) (c .operand2)) (λ t u i j x. (λ e. inner-label2 c S (s .s2) u j (e ∙ none1), inl x)) (h .0) (m .first) (m .second) (h .1), h .2),
   )
 
   -- no transition serves as sigma, so the matches are the same whichever machine is walked
@@ -152,6 +153,18 @@ directed c s e = go (c .side)
     go : (side : Side) → (d : MatchType) × (directionAt side (c .operand1) (c .operand2) (s .s1) (s .s2) ≡ good d)
     go (only on) = (on, refl)
     go both = rw (unset (c .operand1) (s .s1) e) (by (nonEmpty (sigmaTrs (c .operand2) (s .s2))) (length (c .operand1 .machine .list (s .s1))) (length (c .operand2 .machine .list (s .s2))))
+
+pub inputs≢outputs : inputs ≡ outputs → ⊥
+inputs≢outputs h = true≢false cc
+
+-- with a sigma label on machine 2 alone, direction output is taken under "both" only where its state has no sigma transition
+pub unwalked-sigma : (c : Composition) (s : Triple) → c .operand1 .sigma .label ≡ noLabel → c .side ≡ both → directionOf c s ≡ good outputs → (u : ℕ) → In u (sigmaTrs (c .operand2) (s .s2)) → ⊥
+unfolding directionAt
+unwalked-sigma c s e b d u i = go (sigmaTrs (c .operand2) (s .s2)) i (rw (b, unset (c .operand1) (s .s1) e) at d)
+  where
+    go : (l : List ℕ) → In u l → directionBy false (nonEmpty l) (length (c .operand1 .machine .list (s .s1))) (length (c .operand2 .machine .list (s .s2))) ≡ good outputs → ⊥
+    go [] j h = List·Memᴰ·not-nil j
+    go (t ∷ ts) j h = inputs≢outputs (good-is h)
 
 -- so 01's composition without sigma is the papers' plain one
 pub plain-composition : (c : Composition) → Composable c → c .operand1 .sigma .label ≡ noLabel → c .operand2 .sigma .label ≡ noLabel → (s : Triple) (m : Edges) (g : ℕ)

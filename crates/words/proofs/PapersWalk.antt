@@ -1,7 +1,7 @@
 -- The walk of one machine, looked up in the other, lists just the pairs of edges whose inner labels meet, each once; and 11 just where a walked label is sigma.
 use mathlib.Core.Path.{_≡_, refl, sym, _∙_, ap, subst}
 use mathlib.Core.Bool.{Bool, true, false, cond}
-use mathlib.Core.List.{List, [], _∷_, map, List·Memᴰ as In, List·Memᴰ·head as here, List·Memᴰ·tail as there, Memᴰ·map, Memᴰ·of-map, Memᴰ·cast, List·Memᴰ·not-nil, List·Memᴰ·cases-cons}
+use mathlib.Core.List.{List, [], _∷_, _++_, map, List·Memᴰ as In, List·Memᴰ·head as here, List·Memᴰ·tail as there, Memᴰ·map, Memᴰ·of-map, Memᴰ·cast, List·Memᴰ·not-nil, List·Memᴰ·cases-cons}
 use mathlib.Core.Logic.{_≢_, _↔_, inl, inr, ⊎-elim}
 use Prim.Native.Nat.{ℕ}
 use lib.Dec.{eqb}
@@ -17,13 +17,13 @@ use Rattle.papers.proofs.Forms.{Meeting, by-form, form1, form2, formε, formx}
 use Rattle.papers.proofs.Mirror.{mirrorKind}
 use Rattle.words.specs.Labels.{epsLabel, noLabel, Checked, good, refused, refuseIf}
 use Rattle.words.specs.Matches.{MatchType, inputs, outputs, Match, loop, own, viaSigma}
-use Rattle.words.specs.Sigmas.{Operand, inner, otherwise, lookup}
+use Rattle.words.specs.Sigmas.{Operand, inner, sigmaMatches, lookup}
 use Rattle.words.specs.Steps.{Move, walked, asks, moveOf, movesOf, walk, moveKind}
 use Rattle.words.specs.AsPapers.{edgeOf, edgesOf, specialOf, walkedOf, matchOf}
 use Rattle.words.proofs.CheckedLaws.{refused-is, good≢refused, good-is}
 use Rattle.words.specs.Links.{epsilons}
 use Rattle.words.proofs.WalkLaws.{lookup-eps, lookup-none}
-use Rattle.words.proofs.PapersLookup.{in-labelled, of-labelled, owns, rests, lookup-label, found, find-own, find-sigma, SameEdge, apart-own, rest≢along, looked}
+use Rattle.words.proofs.PapersLookup.{in-labelled, of-labelled, owns, lookup-label, found, find-own, find-sigma, SameEdge, apart-own, rest≢along, looked}
 
 -- two entries of a list are alike: both are values, with one key
 abbrev pub Alike : {A : Type 0} → (A → Edges) → Checked A → Checked A → Type 0
@@ -58,9 +58,9 @@ module _ (d : MatchType) (W : Operand) (sw : ℕ) (M : Operand) (sm : ℕ) where
   apart-walked : Distinct (W .machine .list sw) → Apart SameEdge (walked W sw)
   apart-walked h = (λ m i e. let r = Memᴰ·of-map own (W .machine .list sw) i in rest≢along (e ∙ sym (ap edgeOf (r .2))), apart-own (W .machine .list sw) h)
 
-  apart-moves : (w : Match) (b : Bool) (l : List Match) → Apart SameEdge l → Apart (Alike edgesOf) (movesOf d w (refuseIf b 11 (good l)))
+  apart-moves : (w : Match) (b : Bool) (l : List Match) → (b ≡ false → Apart SameEdge l) → Apart (Alike edgesOf) (movesOf d w (refuseIf b 11 (good l)))
   apart-moves w true l h = (λ y i r. r, tt)
-  apart-moves w false l h = apart-map (Alike edgesOf) (λ m. good (moveOf d w m)) l (pairs l h)
+  apart-moves w false l h = apart-map (Alike edgesOf) (λ m. good (moveOf d w m)) l (pairs l (h refl))
     where
       pairs : (l : List Match) → Apart SameEdge l → Apart (λ m n. edgesOf (moveOf d w m) ≡ edgesOf (moveOf d w n)) l
       pairs [] h = tt
@@ -107,8 +107,8 @@ module _ (d : MatchType) (W : Operand) (sw : ℕ) (M : Operand) (sm : ℕ) (nonz
   at-eps t e = ap (lookup M sm) e ∙ lookup-eps M sm nonzero
 
   at-label : (t : ℕ) → In t (W .machine .list sw) → inner W t ≢ epsLabel → inner W t ≢ M .sigma .label
-      → lookup M sm (inner W t) ≡ good (otherwise (map own (owns M sm (inner W t))) (rests M sm (inner W t)))
-  at-label t i n o = lookup-label M sm (inner W t) n (labelled1 t i) ∙ ap (λ b. refuseIf b 11 (good (otherwise (map own (owns M sm (inner W t))) (rests M sm (inner W t))))) (ne-eqb _ _ o)
+      → lookup M sm (inner W t) ≡ good (map own (owns M sm (inner W t)) ++ sigmaMatches M sm (inner W t))
+  at-label t i n o = lookup-label M sm (inner W t) n (labelled1 t i) ∙ ap (λ b. refuseIf b 11 (good (map own (owns M sm (inner W t)) ++ sigmaMatches M sm (inner W t)))) (ne-eqb _ _ o)
 
   taken : {t : ℕ} → In t (W .machine .list sw) → In (own t) (walked W sw)
   taken i = there (Memᴰ·map own i)
@@ -136,7 +136,7 @@ module _ (d : MatchType) (W : Operand) (sw : ℕ) (M : Operand) (sm : ℕ) (nonz
       (λ t u i j n o m.
       ⊎-elim
       (λ h. listed (as-own t u h) (put-in (own t) (own u) _ (taken i) (at-label t i n (m .0)) (find-own M sm (inner W t) j h)))
-      (λ h. listed (as-sigma t u (λ e. m .0 (sym e ∙ h .0))) (put-in (own t) (viaSigma u) _ (taken i) (at-label t i n (m .0)) (find-sigma M sm (inner W t) j (h .0) (labelled2 u j) (h .1) (h .2))))
+      (λ h. listed (as-sigma t u (λ e. m .0 (sym e ∙ h .0))) (put-in (own t) (viaSigma u) _ (taken i) (at-label t i n (m .0)) (find-sigma M sm (inner W t) n (labelled1 t i) j (h .0) (labelled2 u j) (h .1))))
       (m .1))
 
   -- what is listed is such a pair, with just these matches
@@ -186,15 +186,15 @@ module _ (d : MatchType) (W : Operand) (sw : ℕ) (M : Operand) (sm : ℕ) (nonz
         aLabel,
         along t,
         along (q .0),
-        formx (W .machine) (M .machine) (inner W) (inner M) (specialOf2 (specialOf M)) sw sm t (q .0) h (q .1) n (λ e. nonzero (sym (q .2) ∙ e)) (o, inr (q .2, q .3, q .4)),
-        as-sigma t (q .0) (λ e. o (sym e ∙ q .2)) ∙ made (own t) (r .0) (viaSigma (q .0)) (q .5) (r .4),
+        formx (W .machine) (M .machine) (inner W) (inner M) (specialOf2 (specialOf M)) sw sm t (q .0) h (q .1) n (λ e. nonzero (sym (q .2) ∙ e)) (o, inr (q .2, q .3)),
+        as-sigma t (q .0) (λ e. o (sym e ∙ q .2)) ∙ made (own t) (r .0) (viaSigma (q .0)) (q .4) (r .4),
       ))
       (found M sm (inner W t) l)
 
   at-sigma : (t : ℕ) → In t (W .machine .list sw) → inner W t ≡ M .sigma .label → lookup M sm (inner W t) ≡ refused 11
   at-sigma t i e =
       lookup-label M sm (inner W t) (λ z. nonzero (sym e ∙ z)) (labelled1 t i)
-      ∙ ap (λ b. refuseIf b 11 (good (otherwise (map own (owns M sm (inner W t))) (rests M sm (inner W t))))) (eq-eqb _ _ e)
+      ∙ ap (λ b. refuseIf b 11 (good (map own (owns M sm (inner W t)) ++ sigmaMatches M sm (inner W t)))) (eq-eqb _ _ e)
 
   pub of-walk : (v : Move) → In (good v) (walk d W sw M sm) → IsPair v
   unfolding walk

@@ -1,24 +1,20 @@
 -- The second paragraph of "Choosing the side", word for word, follows from the look-ups of which the walk is made.
 use mathlib.Core.Path.{_≡_, refl, sym, ap, ap₂}
-use mathlib.Core.Bool.{Bool, true, false, not, _&&_, and-false}
-use mathlib.Core.List.{List, [], _∷_, _++_, map, map-map, flatMap}
+use mathlib.Core.Bool.{Bool, true, false, not, _&&_, and-false, cond}
+use mathlib.Core.List.{List, [], _∷_, _++_, map, map-map, flatMap, append-nil}
 use Prim.Native.Nat.{ℕ}
 use lib.Dec.{eqb}
-use borrow.Author.Tests.{eqb-true, eqb-false, ne-eqb}
+use borrow.Author.Tests.{eqb-true, eqb-false, eq-eqb, ne-eqb}
 use Rattle.words.specs.Labels.{epsLabel, noLabel, good}
-use Rattle.words.specs.Matches.{MatchType, Match, loop, own, sortedMatches}
-use Rattle.words.specs.Sigmas.{Operand, inner, restMatches, otherwise, lookup}
+use Rattle.words.specs.Matches.{MatchType, loop, own, viaSigma, sortedMatches}
+use Rattle.words.specs.Sigmas.{Operand, inner, isAllowed, sigmaTrs, sigmaMatches, lookup}
 use Rattle.words.specs.Steps.{asks, moveOf, movesOf, walk}
 use Rattle.words.specs.Links.{epsilons, movesOfTr}
 
-or-nothing : (ms : List Match) → otherwise ms [] ≡ ms
-or-nothing [] = refl
-or-nothing (x ∷ xs) = refl
-
 -- asked for 0: the loop, and then the epsilon transitions
 pub lookup-eps : (o : Operand) (s : ℕ) → (o .sigma .label ≡ epsLabel → ⊥) → lookup o s epsLabel ≡ good (loop ∷ map own (epsilons o s))
-unfolding lookup sortedMatches
-lookup-eps o s h = rw (ne-eqb epsLabel (o .sigma .label) (λ e. h (sym e)), and-false)
+unfolding lookup sortedMatches sigmaMatches
+lookup-eps o s h = rw (ne-eqb epsLabel (o .sigma .label) (λ e. h (sym e)), and-false, append-nil (map own (epsilons o s)))
 
 not-asked : (l : ℕ) → not (eqb l noLabel) && eqb noLabel l ≡ false
 not-asked l = go (eqb l noLabel) refl
@@ -29,8 +25,17 @@ not-asked l = go (eqb l noLabel) refl
 
 -- asked for MAX: the epsilon transitions alone
 pub lookup-none : (o : Operand) (s : ℕ) → lookup o s noLabel ≡ good (map own (epsilons o s))
-unfolding lookup sortedMatches restMatches
-lookup-none o s = rw (not-asked (o .sigma .label), or-nothing)
+unfolding lookup sortedMatches sigmaMatches
+lookup-none o s = rw (not-asked (o .sigma .label), append-nil (map own (epsilons o s)))
+
+-- where no sigma label is set: any label's own matches alone
+pub lookup-unset : (o : Operand) (s x : ℕ) → o .sigma .label ≡ noLabel → lookup o s x ≡ good (sortedMatches (o .on) (o .machine) s x)
+unfolding lookup sigmaMatches sigmaTrs
+lookup-unset o s x e = rw (eq-eqb (o .sigma .label) noLabel e, none-left (not (eqb x epsLabel) && (not (eqb x noLabel) && isAllowed (o .sigma .allowed) x)), append-nil (sortedMatches (o .on) (o .machine) s x))
+  where
+    none-left : (b : Bool) → cond b (map viaSigma []) [] ≡ []
+    none-left true = refl
+    none-left false = refl
 
 moves-of-tr : (d : MatchType) (W M : Operand) (sm t : ℕ) → (M .sigma .label ≡ epsLabel → ⊥) → movesOf d (own t) (lookup M sm (inner W t)) ≡ movesOfTr d W M sm t
 moves-of-tr d W M sm t h = go (eqb (inner W t) epsLabel) refl

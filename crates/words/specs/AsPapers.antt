@@ -6,7 +6,7 @@ use Prim.Native.Nat.{ℕ, _≤_, _<_}
 use lib.Dec.{eqb}
 use Rattle.papers.specs.Weight.{finite, infinite, semiring}
 use Rattle.papers.specs.Composition.{Edge, rest, along, Meets, equal, Composed, Edges, composedInput, composedOutput, moveWeight, finalProduct}
-use Rattle.papers.specs.Sigma.{Special, asRest, specialOf1, specialOf2}
+use Rattle.papers.specs.Sigma.{Special, specialOf1, specialOf2}
 use Rattle.words.specs.Labels.{MAX, Checked, good, refused}
 use Rattle.words.specs.Weights.{Kind, cost, count}
 use Rattle.words.specs.Matches.{MatchType, inputs, outputs, Match, loop, own, viaSigma}
@@ -34,9 +34,9 @@ edgeOf (viaSigma t) = along t
 abbrev pub edgesOf : Move → Edges
 edgesOf v = record { first = edgeOf (v .first); second = edgeOf (v .second) }
 
--- "Sigma": the label, the labels that are allowed, and "If the label has matches, those only."
+-- "Sigma": the label, and the labels that are allowed
 abbrev pub specialOf : Operand → Special
-specialOf o = record { sigma = o .sigma .label; allowed = λ x. isAllowed (o .sigma .allowed) x ≡ true; when = asRest (o .machine) (inner o) }
+specialOf o = record { sigma = o .sigma .label; allowed = λ x. isAllowed (o .sigma .allowed) x ≡ true }
 
 -- the sigma of the machine that is looked up: machine 2 in direction input, machine 1 in direction output
 abbrev pub meetsIn : MatchType → Operand → Operand → Meets

@@ -1,6 +1,6 @@
--- 01, "Sigma": the look-up of a label in one machine of the composition.
+-- 01, "Sigma", with 02, 2.4, "Sigma means any letter": the look-up of a label in one machine of the composition.
 use mathlib.Core.Bool.{Bool, true, false, not, _&&_, _||_, cond}
-use mathlib.Core.List.{List, [], _∷_, map}
+use mathlib.Core.List.{List, [], _∷_, _++_, map}
 use mathlib.Core.Option.{Option, none, some}
 use Prim.Native.Nat.{ℕ, zero, suc}
 use lib.Dec.{eqb}
@@ -47,24 +47,21 @@ isAllowed (some xs) x = has x xs
 abbrev pub isSet : Sigma → Bool
 isSet σ = not (eqb (σ .label) noLabel)
 
+-- x is the sigma label
+abbrev pub isSigma : Sigma → ℕ → Bool
+isSigma σ x = isSet σ && eqb x (σ .label)
+
 -- the sigma transitions of state s, by matched label
 unfoldable pub sigmaTrs : Operand → ℕ → List ℕ
 sigmaTrs o s = cond (isSet (o .sigma)) (labelled (o .on) (o .machine) s (o .sigma .label)) []
 
 -- "for a label neither 0 nor MAX and in the allowed list (no list: all; empty list: none), each sigma transition is given rewritten"
-unfoldable pub restMatches : Operand → ℕ → ℕ → List Match
-restMatches o s x = cond (not (eqb x epsLabel) && (not (eqb x noLabel) && isAllowed (o .sigma .allowed) x)) (map viaSigma (sigmaTrs o s)) []
+unfoldable pub sigmaMatches : Operand → ℕ → ℕ → List Match
+sigmaMatches o s x = cond (not (eqb x epsLabel) && (not (eqb x noLabel) && isAllowed (o .sigma .allowed) x)) (map viaSigma (sigmaTrs o s)) []
 
--- "If the label has matches, those only. Otherwise" the others.
-abbrev pub otherwise : List Match → List Match → List Match
-otherwise [] others = others
-otherwise (x ∷ xs) others = x ∷ xs
-
--- "Asked for the sigma label: refusal 11." Else the matches of label x at state s, in their order.
+-- "Asked for the sigma label: refusal 11." Else the matches of label x at state s, in their order. 02, 2.4: "After the own matches .. the rewritten sigma matches now follow".
 unfoldable pub lookup : Operand → ℕ → ℕ → Checked (List Match)
-lookup o s x =
-    refuseIf (isSet (o .sigma) && eqb x (o .sigma .label)) 11
-    (good (otherwise (sortedMatches (o .on) (o .machine) s x) (restMatches o s x)))
+lookup o s x = refuseIf (isSigma (o .sigma) x) 11 (good (sortedMatches (o .on) (o .machine) s x ++ sigmaMatches o s x))
 
 -- x in the place of sigma
 abbrev pub replace : ℕ → ℕ → ℕ → ℕ
