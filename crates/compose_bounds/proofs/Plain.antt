@@ -1,15 +1,13 @@
--- Compositions without sigma: the direction is known from the two lengths, and no label of a machine is a sigma label.
+-- Compositions without sigma: the direction is known from the two lengths.
 use mathlib.Core.Path.{_≡_, refl}
-use mathlib.Core.List.{List·Memᴰ as In}
-use Prim.Native.Nat.{ℕ, _<_}
-use native.Mathlib.Omega.{arith}
+use Prim.Native.Nat.{ℕ}
 use lib.ListN.{length}
 use borrow.Author.Tests.{eq-eqb}
-use Rattle.words.specs.Labels.{MAX, noLabel, good}
-use Rattle.words.specs.Sigmas.{Operand, inner, sigmaTrs}
+use Rattle.words.specs.Labels.{noLabel, good}
+use Rattle.words.specs.Sigmas.{Operand, sigmaTrs}
 use Rattle.words.specs.Sides.{Side, only, both, directionAt}
 use Rattle.words.specs.Steps.{Composition, Triple}
-use Rattle.compose_bounds.specs.Serving.{NoSigma, plainDirection}
+use Rattle.compose_bounds.specs.Serving.{plainDirection}
 
 direction : (side : Side) (A B : Operand) (s1 s2 : ℕ) → A .sigma .label ≡ noLabel → B .sigma .label ≡ noLabel
     → directionAt side A B s1 s2 ≡ good (plainDirection side (length (A .machine .list s1)) (length (B .machine .list s2)))
@@ -21,7 +19,3 @@ direction both A B s1 s2 e f = rw (eq-eqb (A .sigma .label) noLabel e, eq-eqb (B
 pub plain-direction : (c : Composition) (s : Triple) → c .operand1 .sigma .label ≡ noLabel → c .operand2 .sigma .label ≡ noLabel
     → directionAt (c .side) (c .operand1) (c .operand2) (s .s1) (s .s2) ≡ good (plainDirection (c .side) (length (c .operand1 .machine .list (s .s1))) (length (c .operand2 .machine .list (s .s2))))
 plain-direction c s = direction (c .side) (c .operand1) (c .operand2) (s .s1) (s .s2)
-
--- "MAX is `NO_LABEL`, never a label of a machine."
-pub plain-labels : (W : Operand) (sw : ℕ) (M : Operand) → M .sigma .label ≡ noLabel → ((t : ℕ) → In t (W .machine .list sw) → inner W t < MAX) → NoSigma W sw M
-plain-labels W sw M e h t i z = omega (arith, h t i, z, e)

@@ -8,64 +8,57 @@ use Prim.Native.Nat.{ℕ, suc, _+_, _-_, _*_, _≤_}
 use native.Mathlib.Omega.{arith}
 use lib.ListN.{length, length-map, length-append}
 use Rattle.papers.specs.Filter.{Facts, Filter}
-use Rattle.words.specs.Labels.{MAX, epsLabel, noLabel, Checked, good, refused, refuseIf, andThen}
+use Rattle.words.specs.Labels.{MAX, noLabel, Checked, good, refused, andThen}
 use Rattle.words.specs.Weights.{Kind, cost, count, one}
-use Rattle.words.specs.Matches.{MatchType, inputs, outputs, Match, loop, own, viaSigma, trOf}
-use Rattle.words.specs.Sigmas.{Operand, inner, rewrite, lookup, given}
+use Rattle.words.specs.Matches.{MatchType, inputs, outputs, Match, loop, own, viaSigma, trOf, sortedMatches}
+use Rattle.words.specs.Sigmas.{Operand, rewrite, lookup, given}
 use Rattle.words.specs.Sides.{directionAt}
 use Rattle.words.specs.Filters.{factsAt}
 use Rattle.words.specs.Links.{epsilons}
 use Rattle.words.specs.Steps.{Composition, Triple, Move, walked, asks, moveOf, movesOf, walk, movesAt, moveKind, Kept, keptBy, keep, keptAlong, keptAt, Step, weighed, stepOf, stepsAt}
-use Rattle.words.proofs.WalkLaws.{lookup-none}
+use Rattle.words.proofs.WalkLaws.{lookup-none, lookup-unset}
 use Rattle.calls.specs.Store.{Store, stateRoom, trRoom}
 use Rattle.stored_steps.specs.Storing.{Accepted, All, AllGood, Fits}
 use Rattle.stored_steps.proofs.Rooms.{few-fit}
-use Rattle.compose_bounds.specs.Serving.{Listed, Light, weightsFit, NoSigma, Runs, Walks}
+use Rattle.compose_bounds.specs.Serving.{Listed, Light, weightsFit, Runs, Walks}
 use Rattle.compose_bounds.proofs.Alls.{all-flat, all-map, flat-length}
 use Rattle.compose_bounds.proofs.Weigh.{Small, times-fit}
-use Rattle.compose_bounds.proofs.Lookups.{own-listed, label-listed, matches, matches-listed, lookup-good, lookup-by, matches-few}
+use Rattle.compose_bounds.proofs.Lookups.{own-listed, sorted-listed, sorted-few}
 
--- the moves of a walk: no look-up is refused, and each match is of its list
+-- the moves of a walk without sigma: no look-up is refused, and each match is of its list
 module _ (d : MatchType) (W : Operand) (sw : ℕ) (M : Operand) (sm : ℕ) where
   walked-listed : (w : Match) → In w (walked W sw) → Listed (W .machine .list sw) w
   walked-listed w i = ⊎-elim (λ e. subst (Listed (W .machine .list sw)) (sym e) tt) (λ j. own-listed (W .machine .list sw) (W .machine .list sw) (λ t k. k) w j) (List·Memᴰ·cases-cons i)
 
-  module _ (P : Move → Type 0) (h : (w m : Match) → Listed (W .machine .list sw) w → Listed (M .machine .list sm) m → P (moveOf d w m)) (n : NoSigma W sw M) where
-    rests : All P (movesOf d loop (lookup M sm noLabel))
-    rests = rw (lookup-none M sm) (all-map P (moveOf d loop) (map own (epsilons M sm)) (λ m i. h loop m tt (label-listed M sm epsLabel m i)))
+  module _ (unset : M .sigma .label ≡ noLabel) where
+    module _ (P : Move → Type 0) (h : (w m : Match) → Listed (W .machine .list sw) w → Listed (M .machine .list sm) m → P (moveOf d w m)) where
+      edge : (w : Match) → Listed (W .machine .list sw) w → All P (movesOf d w (lookup M sm (asks W w)))
+      edge w l =
+          let x = asks W w in
+          rw (lookup-unset M sm x unset) (all-map P (moveOf d w) (sortedMatches (M .on) (M .machine) sm x) (λ m j. h w m l (sorted-listed M sm x m j)))
 
-    takes : (w : Match) (t : ℕ) → Listed (W .machine .list sw) w → In t (W .machine .list sw) → All P (movesOf d w (lookup M sm (inner W t)))
-    takes w t l i = rw (lookup-good M sm (inner W t) (n t i)) (all-map P (moveOf d w) (matches M sm (inner W t)) (λ m j. h w m l (matches-listed M sm (inner W t) m j)))
+      pub walk-all : All P (walk d W sw M sm)
+      unfolding walk
+      walk-all = all-flat P (λ w. movesOf d w (lookup M sm (asks W w))) (walked W sw) (λ w i. edge w (walked-listed w i))
 
-    edge : (w : Match) → Listed (W .machine .list sw) w → All P (movesOf d w (lookup M sm (asks W w)))
-    edge loop l = rests
-    edge (own t) l = takes (own t) t l l
-    edge (viaSigma t) l = takes (viaSigma t) t l l
+    -- and they are few
+    module _ (run : ℕ) (runs : Runs M sm run) where
+      moves-few : (w : Match) (x : ℕ) → length (movesOf d w (lookup M sm x)) ≤ run + 1
+      moves-few w x =
+          rw (lookup-unset M sm x unset)
+          (omega (arith, length-map (sortedMatches (M .on) (M .machine) sm x) (λ m. good (moveOf d w m)), sorted-few M sm run runs x))
 
-    pub walk-all : All P (walk d W sw M sm)
-    unfolding walk
-    walk-all = all-flat P (λ w. movesOf d w (lookup M sm (asks W w))) (walked W sw) (λ w i. edge w (walked-listed w i))
+      rests-few : length (movesOf d loop (lookup M sm noLabel)) ≡ length (epsilons M sm)
+      rests-few = rw (lookup-none M sm) (length-map (map own (epsilons M sm)) (λ m. good (moveOf d loop m)) ∙ length-map (epsilons M sm) own)
 
-  -- and they are few, refused or not
-  module _ (run : ℕ) (runs : Runs M sm run) where
-    moves-few : (w : Match) (x : ℕ) → length (movesOf d w (lookup M sm x)) ≤ run + 1
-    moves-few w x = let r = lookup-by M sm x in rw (r .1) (go (r .0))
-      where
-        go : (b : Bool) → length (movesOf d w (refuseIf b 11 (good (matches M sm x)))) ≤ run + 1
-        go true = omega arith
-        go false = omega (arith, length-map (matches M sm x) (λ m. good (moveOf d w m)), matches-few M sm run runs x)
-
-    rests-few : length (movesOf d loop (lookup M sm noLabel)) ≡ length (epsilons M sm)
-    rests-few = rw (lookup-none M sm) (length-map (map own (epsilons M sm)) (λ m. good (moveOf d loop m)) ∙ length-map (epsilons M sm) own)
-
-    pub walk-few : length (walk d W sw M sm) ≤ length (epsilons M sm) + length (W .machine .list sw) * (run + 1)
-    unfolding walk flatMap
-    walk-few =
-        let g : Match → List (Checked Move) = λ w. movesOf d w (lookup M sm (asks W w)) in
-        let p = length-append (g loop) (flatMap g (map own (W .machine .list sw))) in
-        let q = flat-length g (map own (W .machine .list sw)) (run + 1) (λ w i. moves-few w (asks W w)) in
-        let z : length (map own (W .machine .list sw)) * (run + 1) ≡ length (W .machine .list sw) * (run + 1) = ap (λ (k : ℕ). k * (run + 1)) (length-map (W .machine .list sw) own) in
-        omega (arith, p, q, z, rests-few)
+      pub walk-few : length (walk d W sw M sm) ≤ length (epsilons M sm) + length (W .machine .list sw) * (run + 1)
+      unfolding walk flatMap
+      walk-few =
+          let g : Match → List (Checked Move) = λ w. movesOf d w (lookup M sm (asks W w)) in
+          let p = length-append (g loop) (flatMap g (map own (W .machine .list sw))) in
+          let q = flat-length g (map own (W .machine .list sw)) (run + 1) (λ w i. moves-few w (asks W w)) in
+          let z : length (map own (W .machine .list sw)) * (run + 1) ≡ length (W .machine .list sw) * (run + 1) = ap (λ (k : ℕ). k * (run + 1)) (length-map (W .machine .list sw) own) in
+          omega (arith, p, q, z, rests-few)
 
 -- the filter keeps some of them
 module _ (filter : Filter) (A : Operand) (φ : Facts) (f : ℕ) where
@@ -138,12 +131,12 @@ module _ (c : Composition) (s : Triple) (p q : ℕ) (light1 : Light (c .kind) (c
   moves-all : (d : MatchType) (run n : ℕ) → Walks d (c .operand1) (c .operand2) (s .s1) (s .s2) run n
       → All Both (movesAt d (c .operand1) (c .operand2) (s .s1) (s .s2)) × (length (movesAt d (c .operand1) (c .operand2) (s .s1) (s .s2)) ≤ n)
   moves-all inputs run n w = (
-    walk-all inputs (c .operand1) (s .s1) (c .operand2) (s .s2) Both (λ a b x y. (x, y)) (w .no-sigma),
-    omega (arith, walk-few inputs (c .operand1) (s .s1) (c .operand2) (s .s2) run (w .runs), w .few),
+    walk-all inputs (c .operand1) (s .s1) (c .operand2) (s .s2) (w .unset) Both (λ a b x y. (x, y)),
+    omega (arith, walk-few inputs (c .operand1) (s .s1) (c .operand2) (s .s2) (w .unset) run (w .runs), w .few),
   )
   moves-all outputs run n w = (
-    walk-all outputs (c .operand2) (s .s2) (c .operand1) (s .s1) Both (λ a b x y. (y, x)) (w .no-sigma),
-    omega (arith, walk-few outputs (c .operand2) (s .s2) (c .operand1) (s .s1) run (w .runs), w .few),
+    walk-all outputs (c .operand2) (s .s2) (c .operand1) (s .s1) (w .unset) Both (λ a b x y. (y, x)),
+    omega (arith, walk-few outputs (c .operand2) (s .s2) (c .operand1) (s .s1) (w .unset) run (w .runs), w .few),
   )
 
   -- every step is good, and there are at most n

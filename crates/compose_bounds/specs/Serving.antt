@@ -2,14 +2,14 @@
 use mathlib.Core.Path.{_≡_}
 use mathlib.Core.Bool.{Bool, cond}
 use mathlib.Core.List.{List, List·Memᴰ as In}
-use mathlib.Core.Logic.{_≢_, _⊎_}
+use mathlib.Core.Logic.{_⊎_}
 use Prim.Native.Nat.{ℕ, _+_, _*_, _≤_}
 use lib.Dec.{ltb, leb}
 use lib.ListN.{length}
-use Rattle.words.specs.Labels.{MAX}
+use Rattle.words.specs.Labels.{MAX, noLabel}
 use Rattle.words.specs.Weights.{Kind, cost, count, zeroOf}
 use Rattle.words.specs.Matches.{MatchType, inputs, outputs, Match, loop, own, viaSigma, labelled}
-use Rattle.words.specs.Sigmas.{Operand, inner}
+use Rattle.words.specs.Sigmas.{Operand}
 use Rattle.words.specs.Sides.{Side, only, both}
 use Rattle.words.specs.Links.{epsilons}
 
@@ -29,17 +29,13 @@ abbrev pub weightsFit : Kind → ℕ → ℕ → Bool
 weightsFit cost p q = ltb (p + q) MAX
 weightsFit count p q = leb (p * q) MAX
 
--- no inner label of W's list at sw is M's sigma label
-abbrev pub NoSigma : Operand → ℕ → Operand → Type 0
-NoSigma W sw M = (t : ℕ) → In t (W .machine .list sw) → inner W t ≢ M .sigma .label
-
 -- no inner label stands more than `run` times in M's list at sm
 abbrev pub Runs : Operand → ℕ → ℕ → Type 0
 Runs M sm run = (x : ℕ) → length (labelled (M .on) (M .machine) sm x) ≤ run
 
--- What a walk of W at sw, looked up in M at sm, is bounded by: no walked label is sigma, each has at most `run` transitions of M, and so there are at most n moves.
+-- What a walk of W at sw, looked up in M at sm, is bounded by: M has no sigma label, each walked label has at most `run` transitions of M, and so there are at most n moves.
 pub record Bounded (W : Operand) (sw : ℕ) (M : Operand) (sm run n : ℕ) : Type 0 where
-  pub no-sigma : NoSigma W sw M
+  pub unset : M .sigma .label ≡ noLabel
   pub runs : Runs M sm run
   pub few : length (epsilons M sm) + length (W .machine .list sw) * (run + 1) ≤ n
 

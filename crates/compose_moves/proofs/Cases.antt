@@ -9,7 +9,7 @@ use Rattle.words.specs.Labels.{noLabel, Checked, good}
 use Rattle.words.specs.Weights.{times}
 use Rattle.words.specs.Matches.{labelled, sortedMatches}
 use Rattle.words.specs.Machines.{stateCount, trCount, stateWord, trWord, firstOk, nextOk, firstOf, nextOf, listBy, listFrom, listOf}
-use Rattle.words.specs.Sigmas.{sigmaTrs, restMatches, lookup}
+use Rattle.words.specs.Sigmas.{sigmaTrs, sigmaMatches, lookup}
 use Rattle.words.specs.Settings.{Settings, Lent}
 use Rattle.words.specs.Steps.{Step}
 use Rattle.fst.specs.declared.MatchType.the-variants.{MatchOutput}
@@ -39,12 +39,12 @@ cursor walked label loops = record {
   facts = record { none1 = true; all1 = false; none2 = false; all2 = true };
   on = MatchOutput;
   walked = walked;
-  matches = record { on = MatchOutput; label = record { 0 = label }; sigma = record { 0 = noLabel }; both = false; phase = Own; loops = loops; tr = 2; rest = 0 };
+  matches = record { on = MatchOutput; label = record { 0 = label }; sigma = record { 0 = noLabel }; both = false; phase = Own; loops = loops; tr = 2; sigmas = 0 };
 }
 
 -- its own `unfolding` line opens all that it calls
 unfoldable left : ℕ → ℕ → Bool → List (Checked Step)
-unfolding stepsLeft walkLeft trsSteps trSteps edgeSteps stepsOf times flatMap lookupItems lookup sortedMatches restMatches sigmaTrs labelled itemsLeft matchesLeft ownLeft sigmaLeft withLabel recordsFrom keepIf stateCount trCount stateWord trWord firstOk nextOk firstOf nextOf listBy listFrom listOf
+unfolding stepsLeft walkLeft trsSteps trSteps edgeSteps stepsOf times flatMap lookupItems lookup sortedMatches sigmaMatches sigmaTrs labelled itemsLeft matchesLeft ownLeft sigmaLeft withLabel recordsFrom keepIf stateCount trCount stateWord trWord firstOk nextOk firstOf nextOf listBy listFrom listOf
 left walked label loops = stepsLeft settings machines (cursor walked label loops)
 
 abbrev transition : List (Checked Step)

@@ -49,7 +49,7 @@ fits o s x ms e (own t) i = tt
 fits o s x ms e (viaSigma t) i =
     let r = sigma-label o s x ms e i in
     let p = past-check (eqb x (o .sigma .label)) 11 _ ms (sym (lookup-label o s x (r .0) (r .1)) ∙ e) .1 in
-    (r .0, ⊎-elim (λ q. absurd (true≢false (ap isOwn (q .3)))) (λ q. same (q .0) (q .5) (q .2)) (found o s x (rw (← good-is p) at i)))
+    (r .0, ⊎-elim (λ q. absurd (true≢false (ap isOwn (q .3)))) (λ q. same (q .0) (q .4) (q .2)) (found o s x (rw (← good-is p) at i)))
   where
     same : (u : ℕ) → viaSigma u ≡ viaSigma t → inner o u ≡ o .sigma .label → inner o t ≡ o .sigma .label
     same u h k = let z : u ≡ t = cc in rw z at k

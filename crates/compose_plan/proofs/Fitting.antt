@@ -12,13 +12,12 @@ use Rattle.lists.proofs.Members.{and-left, and-right, every-in, in-interval}
 use Rattle.words.specs.Labels.{MAX, noLabel}
 use Rattle.words.specs.Weights.{Kind, cost, count, zeroOf, kindOf}
 use Rattle.words.specs.Matches.{MatchType, inputs, outputs, labelOn}
-use Rattle.words.specs.Machines.{stateCount, listOf, machineOf, noFall, sorted, wellFormed}
+use Rattle.words.specs.Machines.{stateCount, listOf, machineOf, noFall, sorted}
 use Rattle.words.specs.Sigmas.{Sigma}
 use Rattle.words.specs.Steps.{Triple, stepsAt}
 use Rattle.calls.specs.Store.{Store, stateRoom, trRoom}
 use Rattle.stored_steps.specs.Storing.{AllGood, Fits}
 use Rattle.compose_bounds.specs.Serving.{Light, weightsFit, Bounded, Walks, plainDirection}
-use Rattle.compose_bounds.proofs.Plain.{plain-labels}
 use Rattle.compose_bounds.proofs.Serves.{serves-steps, serves-fit}
 use Rattle.compose_fst_op.specs.Composing.{optionSettings, composing}
 use Rattle.compose_fst_op.specs.declared.ComposeFstOpOptions.{ComposeFstOpOptions}
@@ -30,7 +29,7 @@ use Rattle.match_type.specs.Chosen.{sideMeans}
 use Rattle.sorted_lists.proofs.Longest.{labelled-run}
 use Rattle.compose_plan.specs.Serves.{noSigma, mostMoves, roomFor, mostBy, servesOf}
 use Rattle.compose_plan.specs.Planning.{Present}
-use Rattle.compose_plan.proofs.Plain.{operandWith, label-below, unset, direction-plain}
+use Rattle.compose_plan.proofs.Plain.{operandWith, unset, direction-plain}
 use Rattle.compose_plan.proofs.Sorted.{looked-sorted}
 
 zero-word : (k : Kind) → zeroOf k ≤ MAX
@@ -63,10 +62,10 @@ list-sorted on m s e h = every-in (λ q. noFall 0 (map (labelOn on (machineOf m)
 
 -- a walk of the one list, looked up in the other
 bounded : {k : Kind} (side on : MatchType) (mw mm : List ℕ) (sw sm : ℕ) (fw fm : ListFacts) (σw σm : Sigma)
-    → TrueOf side k mw sw fw → TrueOf on k mm sm fm → wellFormed mw ≡ true → sorted on (machineOf mm) ≡ true → sm < stateCount mm → σm .label ≡ noLabel
+    → TrueOf side k mw sw fw → TrueOf on k mm sm fm → sorted on (machineOf mm) ≡ true → sm < stateCount mm → σm .label ≡ noLabel
     → Bounded (operandWith side mw σw) sw (operandWith on mm σm) sm (fm .run) (mostMoves fw fm)
-bounded side on mw mm sw sm fw fm σw σm tw tm w e h z = record {
-  no-sigma = plain-labels (operandWith side mw σw) sw (operandWith on mm σm) z (label-below side mw w sw);
+bounded side on mw mm sw sm fw fm σw σm tw tm e h z = record {
+  unset = z;
   runs = λ x. rw (run-is tm) (labelled-run on (machineOf mm) sm noLabel (list-sorted on mm sm e h) x);
   few = rw (eps-is tm, len-is tw) (le-refl _);
 }
@@ -75,8 +74,8 @@ module _ {o : ComposeFstOpOptions} {m1 m2 a1 a2 : List ℕ} {t : Triple} {f1 f2 
   -- in either direction: machine 1 is walked, or machine 2
   walks : noSigma (optionSettings o) ≡ true → (d : MatchType) → sorted d (machineOf (lookedWords d m1 m2)) ≡ true
       → (run : ℕ) × Walks d (composing o m1 m2 a1 a2 .operand1) (composing o m1 m2 a1 a2 .operand2) (t .s1) (t .s2) run (mostBy d f1 f2)
-  walks n inputs e = (f2 .run, bounded outputs inputs m1 m2 (t .s1) (t .s2) f1 f2 _ _ (p .facts1) (p .facts2) (p .formed1) e (p .inside2) (unset (optionSettings o) n .1))
-  walks n outputs e = (f1 .run, bounded inputs outputs m2 m1 (t .s2) (t .s1) f2 f1 _ _ (p .facts2) (p .facts1) (p .formed2) e (p .inside1) (unset (optionSettings o) n .0))
+  walks n inputs e = (f2 .run, bounded outputs inputs m1 m2 (t .s1) (t .s2) f1 f2 _ _ (p .facts1) (p .facts2) e (p .inside2) (unset (optionSettings o) n .1))
+  walks n outputs e = (f1 .run, bounded inputs outputs m2 m1 (t .s2) (t .s1) f2 f1 _ _ (p .facts2) (p .facts1) e (p .inside1) (unset (optionSettings o) n .0))
 
   -- no step is a refusal, by the weights alone
   pub good-steps : noSigma (optionSettings o) ≡ true → weightsFit (kindOf (o .kind)) (f1 .most) (f2 .most) ≡ true → f1 .most ≤ MAX → f2 .most ≤ MAX → AllGood (stepsAt (composing o m1 m2 a1 a2) t)

@@ -1,21 +1,22 @@
 -- Compositions without sigma: labels, the direction by the facts, the look-up of a label.
-use mathlib.Core.Path.{_≡_, refl, sym, _∙_, ap₂}
-use mathlib.Core.Bool.{Bool, true, false, cond}
-use mathlib.Core.List.{List, [], _∷_, map, List·Memᴰ as In}
+use mathlib.Core.Path.{_≡_, sym, _∙_, ap₂}
+use mathlib.Core.Bool.{true}
+use mathlib.Core.List.{List, map, List·Memᴰ as In}
 use mathlib.Core.Logic.{_≢_}
 use Prim.Native.Nat.{ℕ, _<_}
 use lib.Dec.{eqb}
-use borrow.Author.Tests.{eqb-true, eq-eqb, ne-eqb}
+use borrow.Author.Tests.{eqb-true, ne-eqb}
 use Rattle.lists.proofs.Members.{and-left, and-right}
 use Rattle.words.specs.Labels.{MAX, epsLabel, noLabel, good}
-use Rattle.words.specs.Matches.{MatchType, inputs, outputs, labelOn, Match, own}
+use Rattle.words.specs.Matches.{MatchType, inputs, outputs, labelOn, own, sortedMatches}
 use Rattle.words.specs.Machines.{sideMark, listOf, machineOf, wellFormed}
-use Rattle.words.specs.Sigmas.{Sigma, Operand, isAllowed, sigmaTrs, otherwise, lookup}
+use Rattle.words.specs.Sigmas.{Sigma, Operand, lookup}
 use Rattle.words.specs.Sides.{directionAt}
 use Rattle.words.specs.Settings.{Settings, operand1, operand2}
 use Rattle.words.specs.Steps.{Triple}
 use Rattle.words.proofs.PapersOpened.{listed-form}
-use Rattle.words.proofs.PapersLookup.{owns, lookup-label}
+use Rattle.words.proofs.PapersLookup.{owns}
+use Rattle.words.proofs.WalkLaws.{lookup-unset}
 use Rattle.compose_bounds.specs.Serving.{plainDirection}
 use Rattle.compose_bounds.proofs.Plain.{plain-direction}
 use Rattle.compose_fst_op.specs.Composing.{optionSettings, lentOf, composing}
@@ -47,14 +48,7 @@ direction-plain {o} {m1} {m2} {a1} {a2} {t} p e =
     let n = unset (optionSettings o) e in
     plain-direction (composing o m1 m2 a1 a2) t (n .0) (n .1) ∙ ap₂ (λ (i j : ℕ). good (plainDirection (sideMeans (o .side)) i j)) (sym (len-is (p .facts1))) (sym (len-is (p .facts2)))
 
--- no sigma transition serves as the rest
-no-others : (b : Bool) (ms : List Match) → otherwise ms (cond b [] []) ≡ ms
-no-others true [] = refl
-no-others false [] = refl
-no-others b (m ∷ ms) = refl
-
 -- the look-up of a label gives its own transitions alone
 pub lookup-plain : (o : Operand) (s x : ℕ) → o .sigma .label ≡ noLabel → x ≢ epsLabel → x ≢ noLabel → lookup o s x ≡ good (map own (owns o s x))
-unfolding sigmaTrs
-lookup-plain o s x e nε nm =
-    rw (lookup-label o s x nε nm, ne-eqb x (o .sigma .label) (λ d. nm (d ∙ e)), eq-eqb (o .sigma .label) noLabel e, no-others (isAllowed (o .sigma .allowed) x) (map own (owns o s x)))
+unfolding sortedMatches
+lookup-plain o s x e nε nm = rw (lookup-unset o s x e, ne-eqb x epsLabel nε, ne-eqb x noLabel nm)

@@ -1,6 +1,6 @@
--- Where a look-up begins: the loop, the label's own transitions and, where there is none of these, the sigma transitions are what `words` defines.
-use mathlib.Core.Path.{_≡_, refl, sym, ap, _∙_}
-use mathlib.Core.Bool.{Bool, true, false, not, _&&_, _||_, cond}
+-- Where a look-up begins: the loop, the label's own transitions and the sigma transitions after them are what `words` defines.
+use mathlib.Core.Path.{_≡_, refl, ap, ap₂, _∙_}
+use mathlib.Core.Bool.{Bool, true, false, not, _&&_, cond}
 use mathlib.Core.List.{List, [], _∷_, _++_, map, append-nil}
 use mathlib.Core.Option.{Option}
 use Prim.Native.Nat.{ℕ}
@@ -10,12 +10,11 @@ use Rattle.lists.specs.Lists.{putIf}
 use Rattle.words.specs.Labels.{epsLabel, noLabel}
 use Rattle.words.specs.Matches.{MatchType, Match, loop, own, viaSigma, Tr, trOf, labelled, sortedMatches}
 use Rattle.words.specs.Machines.{firstOf, machineOf}
-use Rattle.words.specs.Sigmas.{isAllowed, sigmaTrs, restMatches, otherwise}
-use Rattle.words.specs.Sides.{nonEmpty}
+use Rattle.words.specs.Sigmas.{isAllowed, sigmaTrs, sigmaMatches}
 use Rattle.words.specs.Settings.{operandOf}
 use Rattle.matchers.specs.Meaning.{Item, theLoop, whole, itemOf, sortedItems, standsFor}
 use Rattle.matchers.specs.Cursors.{withLabel, head0, looked}
-use Rattle.matchers.proofs.Seeks.{with-end, with-first, sought-any, sought-again}
+use Rattle.matchers.proofs.Seeks.{with-end, with-first, sought-again}
 
 -- the first of a label's own transitions at a state; 0: none
 abbrev pub firstOwn : MatchType → List ℕ → ℕ → ℕ → ℕ
@@ -39,7 +38,7 @@ put-append : (b : Bool) (l r : List Match) → putIf b loop (l ++ r) ≡ putIf b
 put-append true l r = refl
 put-append false l r = refl
 
--- a cursor that has no rest
+-- a cursor without sigma transitions
 pub own-start : (on : MatchType) (m : List ℕ) (sigma s x : ℕ)
     → putIf (eqb x epsLabel) loop (map own (withLabel on m (looked x) (firstOwn on m s x)) ++ map viaSigma (withLabel on m sigma 0)) ≡ sortedMatches on (machineOf m) s x
 own-start on m sigma s x = rw (with-end on m sigma 0 refl, append-nil (map own (withLabel on m (looked x) (firstOwn on m s x)))) (own-is on m s x)
@@ -57,11 +56,11 @@ sorted-items on m s x rewritten = rw (← sorted-is on m s x) (go (eqb x epsLabe
     go true = ap (λ (is : List Item). theLoop ∷ is) (along (labelled on (machineOf m) s (looked x)))
     go false = along (labelled on (machineOf m) s (looked x))
 
--- the sigma transitions that serve as the rest
-rest-is : (on : MatchType) (m : List ℕ) (sigma mode : ℕ) (allowed : Option (List ℕ)) (s x : ℕ)
-    → map viaSigma (withLabel on m sigma (cond (standsFor sigma allowed x) (firstOf m s) 0)) ≡ restMatches (operandOf on m sigma mode allowed) s x
-unfolding restMatches sigmaTrs standsFor
-rest-is on m sigma mode allowed s x = go (not (eqb sigma noLabel)) (not (eqb x epsLabel) && (not (eqb x noLabel) && isAllowed allowed x))
+-- the sigma transitions, where sigma may stand for the label
+sigma-is : (on : MatchType) (m : List ℕ) (sigma mode : ℕ) (allowed : Option (List ℕ)) (s x : ℕ)
+    → map viaSigma (withLabel on m sigma (cond (standsFor sigma allowed x) (firstOf m s) 0)) ≡ sigmaMatches (operandOf on m sigma mode allowed) s x
+unfolding sigmaMatches sigmaTrs standsFor
+sigma-is on m sigma mode allowed s x = go (not (eqb sigma noLabel)) (not (eqb x epsLabel) && (not (eqb x noLabel) && isAllowed allowed x))
   where
     go : (a b : Bool) → map viaSigma (withLabel on m sigma (cond (a && b) (firstOf m s) 0)) ≡ cond b (map viaSigma (cond a (labelled on (machineOf m) s sigma) [])) []
     go true true = rw (with-first on m sigma s)
@@ -69,34 +68,9 @@ rest-is on m sigma mode allowed s x = go (not (eqb sigma noLabel)) (not (eqb x e
     go false true = rw (with-end on m sigma 0 refl)
     go false false = rw (with-end on m sigma 0 refl)
 
--- whether a label has own matches, by its first own transition
-abbrev hasOwn : ℕ → ℕ → Bool
-hasOwn x t = eqb x epsLabel || not (eqb t 0)
-
-own-any : (l : List ℕ) → nonEmpty (map own l) ≡ nonEmpty l
-own-any [] = refl
-own-any (t ∷ ts) = refl
-
-has-own-is : (on : MatchType) (m : List ℕ) (s x : ℕ) → hasOwn x (firstOwn on m s x) ≡ nonEmpty (sortedMatches on (machineOf m) s x)
-has-own-is on m s x = rw (← own-is on m s x) (go (eqb x epsLabel))
-  where
-    go : (b : Bool) → b || not (eqb (firstOwn on m s x) 0) ≡ nonEmpty (putIf b loop (map own (withLabel on m (looked x) (firstOwn on m s x))))
-    go true = refl
-    go false = rw (sought-again on m (looked x) (firstOf m s), own-any) (sym (sought-any on m (looked x) (firstOf m s)))
-
--- "If the label has matches, those only. Otherwise" the others.
-append-otherwise : (ms others : List Match) → ms ++ cond (nonEmpty ms) [] others ≡ otherwise ms others
-append-otherwise [] others = refl
-append-otherwise (x ∷ xs) others = append-nil (x ∷ xs)
-
 -- the sigma look-up's cursor
 pub sigma-start : (on : MatchType) (m : List ℕ) (sigma mode : ℕ) (allowed : Option (List ℕ)) (s x : ℕ)
-    → putIf (eqb x epsLabel) loop (map own (withLabel on m (looked x) (firstOwn on m s x)) ++ map viaSigma (withLabel on m sigma (cond (hasOwn x (firstOwn on m s x)) 0 (cond (standsFor sigma allowed x) (firstOf m s) 0))))
-    ≡ otherwise (sortedMatches on (machineOf m) s x) (restMatches (operandOf on m sigma mode allowed) s x)
+    → putIf (eqb x epsLabel) loop (map own (withLabel on m (looked x) (firstOwn on m s x)) ++ map viaSigma (withLabel on m sigma (cond (standsFor sigma allowed x) (firstOf m s) 0)))
+    ≡ sortedMatches on (machineOf m) s x ++ sigmaMatches (operandOf on m sigma mode allowed) s x
 sigma-start on m sigma mode allowed s x =
-    put-append (eqb x epsLabel) (map own (withLabel on m (looked x) (firstOwn on m s x))) _
-    ∙ rw (own-is on m s x, has-own-is on m s x, no-rest (nonEmpty (sortedMatches on (machineOf m) s x)) (cond (standsFor sigma allowed x) (firstOf m s) 0), rest-is on m sigma mode allowed s x) (append-otherwise (sortedMatches on (machineOf m) s x) (restMatches (operandOf on m sigma mode allowed) s x))
-  where
-    no-rest : (b : Bool) (t : ℕ) → map viaSigma (withLabel on m sigma (cond b 0 t)) ≡ cond b [] (map viaSigma (withLabel on m sigma t))
-    no-rest true t = rw (with-end on m sigma 0 refl)
-    no-rest false t = refl
+    put-append (eqb x epsLabel) (map own (withLabel on m (looked x) (firstOwn on m s x))) _ ∙ ap₂ _++_ (own-is on m s x) (sigma-is on m sigma mode allowed s x)

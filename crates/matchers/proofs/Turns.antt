@@ -12,7 +12,7 @@ use Rattle.fst.specs.Meaning.{onOf}
 use Rattle.matchers.specs.Meaning.{Item, theLoop, whole}
 use Rattle.matchers.specs.Cursors.{withLabel, head0, looked, movedTo, sigmaLeft, ownLeft, inPhase, matchesLeft, itemsOf, itemsLeft, Asked, asked}
 use Rattle.matchers.specs.declared.Phase.{Phase}
-use Rattle.matchers.specs.declared.Phase.the-variants.{Own, Rest}
+use Rattle.matchers.specs.declared.Phase.the-variants.{Own, Sigmas}
 use Rattle.matchers.specs.declared.Cursor.{Cursor}
 use Rattle.matchers.proofs.Seeks.{with-end, sought-none, sought-first}
 
@@ -32,37 +32,37 @@ loop-turn m c e =
   where
     go : (p : Phase) → itemsOf m c (inPhase p m (movedTo c (c .phase) (c .tr))) ≡ itemsOf m c (inPhase p m c)
     go Own = refl
-    go Rest = refl
+    go Sigmas = refl
 
 -- it is not: by the phase
 pub in-own : (m : List ℕ) (c : Cursor) → c .loops ≡ false → c .phase ≡ Own → itemsLeft m c ≡ itemsOf m c (ownLeft m c (c .tr))
 unfolding itemsLeft matchesLeft
 in-own m c e p = rw (e, p)
 
-pub in-rest : (m : List ℕ) (c : Cursor) → c .loops ≡ false → c .phase ≡ Rest → itemsLeft m c ≡ itemsOf m c (sigmaLeft m c (c .tr))
+pub in-sigmas : (m : List ℕ) (c : Cursor) → c .loops ≡ false → c .phase ≡ Sigmas → itemsLeft m c ≡ itemsOf m c (sigmaLeft m c (c .tr))
 unfolding itemsLeft matchesLeft
-in-rest m c e p = rw (e, p)
+in-sigmas m c e p = rw (e, p)
 
 -- the first sigma transition from the cursor's place on; 0: none
 abbrev pub nextSigma : List ℕ → Cursor → ℕ
 nextSigma m c = head0 (withLabel (onOf (c .on)) m (c .sigma .0) (c .tr))
 
-pub rest-end : (m : List ℕ) (c : Cursor) → nextSigma m c ≡ 0 → record { given = none; left = itemsLeft m (movedTo c Rest 0) } ≡ asked (itemsOf m c (sigmaLeft m c (c .tr)))
+pub sigma-end : (m : List ℕ) (c : Cursor) → nextSigma m c ≡ 0 → record { given = none; left = itemsLeft m (movedTo c Sigmas 0) } ≡ asked (itemsOf m c (sigmaLeft m c (c .tr)))
 unfolding itemsLeft matchesLeft sigmaLeft
-rest-end m c z = rw (sought-none (onOf (c .on)) m (c .sigma .0) (c .tr) z, with-end (onOf (c .on)) m (c .sigma .0) 0)
+sigma-end m c z = rw (sought-none (onOf (c .on)) m (c .sigma .0) (c .tr) z, with-end (onOf (c .on)) m (c .sigma .0) 0)
 
-pub rest-turn : (m : List ℕ) (c : Cursor) → (nextSigma m c ≡ 0 → ⊥)
-    → gives m (rewrite (c .both) (onOf (c .on)) (c .sigma .0) (c .label .0) (trOf (machineOf m) (nextSigma m c))) (movedTo c Rest (nextOf m (nextSigma m c)))
+pub sigma-turn : (m : List ℕ) (c : Cursor) → (nextSigma m c ≡ 0 → ⊥)
+    → gives m (rewrite (c .both) (onOf (c .on)) (c .sigma .0) (c .label .0) (trOf (machineOf m) (nextSigma m c))) (movedTo c Sigmas (nextOf m (nextSigma m c)))
     ≡ asked (itemsOf m c (sigmaLeft m c (c .tr)))
 unfolding itemsLeft matchesLeft sigmaLeft
-rest-turn m c n = sym (rw (sought-first (onOf (c .on)) m (c .sigma .0) (c .tr) n))
+sigma-turn m c n = sym (rw (sought-first (onOf (c .on)) m (c .sigma .0) (c .tr) n))
 
 -- the first own transition from the cursor's place on; 0: none
 abbrev pub nextOwn : List ℕ → Cursor → ℕ
 nextOwn m c = head0 (withLabel (onOf (c .on)) m (looked (c .label .0)) (c .tr))
 
--- where there is none, the cursor d in phase Rest gives the same
-pub own-end : (m : List ℕ) (c d : Cursor) → d ≡ movedTo c Rest (c .rest) → nextOwn m c ≡ 0 → asked (itemsOf m d (sigmaLeft m d (d .tr))) ≡ asked (itemsOf m c (ownLeft m c (c .tr)))
+-- where there is none, the cursor d in phase Sigmas gives the same
+pub own-end : (m : List ℕ) (c d : Cursor) → d ≡ movedTo c Sigmas (c .sigmas) → nextOwn m c ≡ 0 → asked (itemsOf m d (sigmaLeft m d (d .tr))) ≡ asked (itemsOf m c (ownLeft m c (c .tr)))
 unfolding ownLeft sigmaLeft
 own-end m c d e z = rw (e, sought-none (onOf (c .on)) m (looked (c .label .0)) (c .tr) z)
 

@@ -14,7 +14,7 @@ use Rattle.words.specs.Sigmas.{rewrite}
 use Rattle.fst.specs.Meaning.{onOf}
 use Rattle.matchers.specs.Meaning.{Item, matchMeans, itemOf}
 use Rattle.matchers.specs.declared.Phase.{Phase}
-use Rattle.matchers.specs.declared.Phase.the-variants.{Own, Rest}
+use Rattle.matchers.specs.declared.Phase.the-variants.{Own, Sigmas}
 use Rattle.matchers.specs.declared.Cursor.{Cursor}
 use Rattle.matchers.specs.declared.Step.{Step}
 use Rattle.matchers.specs.declared.Step.the-variants.{Match as AMatch, End}
@@ -48,21 +48,21 @@ movedTo c phase t = record {
   phase = phase;
   loops = false;
   tr = t;
-  rest = c .rest;
+  sigmas = c .sigmas;
 }
 
 -- the sigma transitions from place t on
 unfoldable pub sigmaLeft : List ℕ → Cursor → ℕ → List Match
 sigmaLeft m c t = map viaSigma (withLabel (onOf (c .on)) m (c .sigma .0) t)
 
--- the transitions with the label from place t on, and then the sigma transitions from the cursor's place of the rest on
+-- the transitions with the label from place t on, and then the sigma transitions from the cursor's place for these on
 unfoldable pub ownLeft : List ℕ → Cursor → ℕ → List Match
-ownLeft m c t = map own (withLabel (onOf (c .on)) m (looked (c .label .0)) t) ++ sigmaLeft m c (c .rest)
+ownLeft m c t = map own (withLabel (onOf (c .on)) m (looked (c .label .0)) t) ++ sigmaLeft m c (c .sigmas)
 
 -- by the phase, from the cursor's place on
 abbrev pub inPhase : Phase → List ℕ → Cursor → List Match
 inPhase Own m c = ownLeft m c (c .tr)
-inPhase Rest m c = sigmaLeft m c (c .tr)
+inPhase Sigmas m c = sigmaLeft m c (c .tr)
 
 -- the matches that a cursor has still to give, in their order
 unfoldable pub matchesLeft : List ℕ → Cursor → List Match

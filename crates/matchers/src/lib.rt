@@ -30,7 +30,7 @@ pub enum IterItemMatcher {
 // The transitions with the label itself; then the sigma transitions.
 pub enum Phase {
     Own,
-    Rest,
+    Sigmas,
 }
 
 // What was asked, and how far the answer is given.
@@ -47,8 +47,8 @@ pub struct Cursor {
     pub loops: bool,
     // The record from which the phase goes on; 0: its end.
     pub tr: u32,
-    // The record from which phase Rest goes on after phase Own; 0: nothing comes after it.
-    pub rest: u32,
+    // The record from which phase Sigmas goes on after phase Own; 0: nothing comes after it.
+    pub sigmas: u32,
 }
 
 // The next match, or the end; with the cursor to ask on with.
@@ -142,28 +142,28 @@ fn moved(cursor: Cursor, phase: Phase, tr: u32) -> Cursor
         phase,
         loops: false,
         tr,
-        rest: cursor.rest,
+        sigmas: cursor.sigmas,
     }
 }
 
-// Phase Rest, from the cursor's place on.
-fn rest_next(m: &[u32], cursor: Cursor) -> Step
+// Phase Sigmas, from the cursor's place on.
+fn sigma_next(m: &[u32], cursor: Cursor) -> Step
     ensures { λ r. ⌜ stepMeans (now (m .entry)) r ≡ asked (itemsOf (now (m .entry)) cursor (sigmaLeft (now (m .entry)) cursor (cursor .tr))) ⌝ }
 {
     let on = cursor.on;
     let sigma = cursor.sigma;
     let t = seek(m, on, sigma, cursor.tr);
     if t == 0 {
-        return Step::End(moved(cursor, Phase::Rest, 0));
+        return Step::End(moved(cursor, Phase::Sigmas, 0));
     }
     let found = rewrite(cursor, get_tr(m, on, t));
     Step::Match(
         IterItemMatcher::Tr(found),
-        moved(cursor, Phase::Rest, next_tr(m, t)),
+        moved(cursor, Phase::Sigmas, next_tr(m, t)),
     )
 }
 
-// Phase Own, from the cursor's place on; where it gives nothing more, phase Rest.
+// Phase Own, from the cursor's place on; where it gives nothing more, phase Sigmas.
 fn own_next(m: &[u32], cursor: Cursor) -> Step
     ensures { λ r. ⌜ stepMeans (now (m .entry)) r ≡ asked (itemsOf (now (m .entry)) cursor (ownLeft (now (m .entry)) cursor (cursor .tr))) ⌝ }
 {
@@ -171,7 +171,7 @@ fn own_next(m: &[u32], cursor: Cursor) -> Step
     let label = cursor.label;
     let t = seek(m, on, looked(label), cursor.tr);
     if t == 0 {
-        return rest_next(m, moved(cursor, Phase::Rest, cursor.rest));
+        return sigma_next(m, moved(cursor, Phase::Sigmas, cursor.sigmas));
     }
     let found = get_tr(m, on, t);
     Step::Match(
@@ -190,7 +190,7 @@ pub fn next_match(m: &[u32], cursor: Cursor) -> Step
     }
     match phase {
         Phase::Own => own_next(m, cursor),
-        Phase::Rest => rest_next(m, cursor),
+        Phase::Sigmas => sigma_next(m, cursor),
     }
 }
 

@@ -1,9 +1,9 @@
-// The sigma look-up (sigma_matcher.rs): a label's own matches; otherwise each sigma transition, rewritten.
+// The sigma look-up (sigma_matcher.rs): a label's own matches, and after them each sigma transition, rewritten.
 ghost use mathlib.Core.Path.{_≡_};
-ghost use mathlib.Core.Bool.{not, _&&_, _||_, cond};
+ghost use mathlib.Core.Bool.{not, _&&_, cond};
 ghost use mathlib.Core.Option.{none};
 ghost use lib.Dec.{eqb};
-ghost use Rattle.words.specs.Labels.{epsLabel, noLabel};
+ghost use Rattle.words.specs.Labels.{noLabel};
 ghost use Rattle.words.specs.Machines.{acceptorMark};
 ghost use Rattle.words.specs.Sides.{nonEmpty};
 ghost use Rattle.words.specs.Sigmas.{isAllowed, rewritesBoth, sigmaTrs};
@@ -82,23 +82,10 @@ fn stands_for(sigma: Sigma, allowed: &[u32], label: Label) -> bool
     is_match_label_allowed(sigma.listed, allowed, label)
 }
 
-// A label has matches of its own where its first is one, and where it is epsilon: the loop.
-fn has_own(label: Label, tr: u32) -> bool
-    ensures { λ r. ⌜ r ≡ (eqb (label .0) epsLabel || not (eqb tr 0)) ⌝ }
+// Where the sigma matches begin: at the state's first record; 0: there are none.
+fn sigma_from(sigma: Sigma, allowed: &[u32], label: Label, first: u32) -> u32
+    ensures { λ r. ⌜ r ≡ cond (standsFor (sigma .label .0) (allowedOf (sigma .listed) (now (allowed .entry))) (label .0)) first 0 ⌝ }
 {
-    if label.0 == EPS_LABEL.0 {
-        return true;
-    }
-    tr != 0
-}
-
-// Where the rest begins; 0: there is none. "If the label has matches, those only. Otherwise" the sigma transitions, from the state's first record on.
-fn rest_from(own: bool, sigma: Sigma, allowed: &[u32], label: Label, first: u32) -> u32
-    ensures { λ r. ⌜ r ≡ cond own 0 (cond (standsFor (sigma .label .0) (allowedOf (sigma .listed) (now (allowed .entry))) (label .0)) first 0) ⌝ }
-{
-    if own {
-        return 0;
-    }
     if stands_for(sigma, allowed, label) {
         first
     } else {
@@ -138,7 +125,7 @@ pub fn sigma_iter(
     }
     let first = first_tr(m, s);
     let tr = seek(m, on, looked(label), first);
-    let rest = rest_from(has_own(label, tr), sigma, allowed, label, first);
+    let sigmas = sigma_from(sigma, allowed, label, first);
     SigmaIter::At(Cursor {
         on,
         label,
@@ -147,7 +134,7 @@ pub fn sigma_iter(
         phase: Phase::Own,
         loops: label.0 == EPS_LABEL.0,
         tr,
-        rest,
+        sigmas,
     })
 }
 

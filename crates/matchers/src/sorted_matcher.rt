@@ -27,6 +27,6 @@ pub fn sorted_iter(m: &[u32], on: MatchType, s: StateId, label: Label) -> Cursor
         phase: Phase::Own,
         loops: label.0 == EPS_LABEL.0,
         tr,
-        rest: 0,
+        sigmas: 0,
     }
 }

@@ -2,7 +2,7 @@
 use mathlib.Core.Path.{sym, ap, _∙_}
 use denote.Ref.{now}
 use Rattle.matchers.specs.Cursors.{asked}
-use Rattle.matchers.proofs.Turns.{loop-turn, in-own, in-rest}
+use Rattle.matchers.proofs.Turns.{loop-turn, in-own, in-sigmas}
 use borrow.Author.Needs.{needs}
 use Rattle.matchers.proofs.next_match.Statement.{statement}
 use Rattle.matchers.proofs.next_match.Tie as tie
@@ -14,7 +14,7 @@ returns-2 : tie.Need-returns-2
 returns-2 c = let a = c .before .before .before .before .before .args in c .own-next .ensures ∙ ap asked (sym (in-own (now (a .m)) (a .cursor) (c .before .before .before .if1 .left) (c .before .enum-told .given .1)))
 
 returns-3 : tie.Need-returns-3
-returns-3 c = let a = c .before .before .before .before .before .args in c .rest-next .ensures ∙ ap asked (sym (in-rest (now (a .m)) (a .cursor) (c .before .before .before .if1 .left) (c .before .enum-told2 .given .1)))
+returns-3 c = let a = c .before .before .before .before .before .args in c .sigma-next .ensures ∙ ap asked (sym (in-sigmas (now (a .m)) (a .cursor) (c .before .before .before .if1 .left) (c .before .enum-told2 .given .1)))
 
 pub next-match-spec : {M : Type 1} → statement M
 next-match-spec =

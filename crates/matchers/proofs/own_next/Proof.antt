@@ -1,4 +1,4 @@
--- The first own transition from the place on, and after it what its link leads to; where there is none, the rest.
+-- The first own transition from the place on, and after it what its link leads to; where there is none, the sigma transitions.
 use mathlib.Core.Path.{sym, _∙_}
 use denote.Ref.{now}
 use Rattle.matchers.proofs.Turns.{same-gives, own-end, own-turn}
@@ -9,7 +9,7 @@ use Rattle.matchers.proofs.own_next.Tie as tie
 returns : tie.Need-returns
 returns c =
     let a = c .before .before .before .before .before .before .before .args in
-    c .rest-next .ensures ∙ own-end (now (a .m)) (a .cursor) (c .before .moved .result) (c .before .moved .ensures) (sym (rw (c .before .before .before .before .looked .ensures) at (c .before .before .before .seek .ensures)) ∙ c .before .before .if1 .taken)
+    c .sigma-next .ensures ∙ own-end (now (a .m)) (a .cursor) (c .before .moved .result) (c .before .moved .ensures) (sym (rw (c .before .before .before .before .looked .ensures) at (c .before .before .before .seek .ensures)) ∙ c .before .before .if1 .taken)
 
 returns-2 : tie.Need-returns-2
 returns-2 c =

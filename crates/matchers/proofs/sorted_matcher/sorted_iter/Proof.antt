@@ -1,4 +1,4 @@
--- The cursor begins at the first own transition and has no rest.
+-- The cursor begins at the first own transition and has no sigma transitions.
 use denote.Ref.{now}
 use Rattle.words.specs.Labels.{noLabel}
 use Rattle.fst.specs.Meaning.{onOf}
