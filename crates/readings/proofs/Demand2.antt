@@ -27,7 +27,7 @@ use Rattle.readings.proofs.Filters.{filter-as-papers}
 use Rattle.readings.proofs.PapersLists.{papers-list}
 use Rattle.readings.proofs.Refused.{refused-for}
 use Rattle.readings.proofs.PathEnds.{final-answer}
-use Rattle.readings.proofs.StorePaths.{begins, papers-paths, store-paths}
+use Rattle.readings.proofs.StorePaths.{begins, papers-paths, store-paths, finished}
 use Rattle.readings.proofs.WordPaths.{by-words}
 use Rattle.readings.proofs.Grows.{KeptWorld}
 use Rattle.readings.proofs.CallsKept.{expand-onto, expand-lists}
@@ -59,7 +59,7 @@ follows s l side rule w k =
       finals = λ n u. subst (FinalExactly c (stateAt w n)) (sym (final-answer l c w (S .enters) n u)) (final-as-papers c (stateAt w n));
       paths = papers-paths s l side rule w S;
       filters = filter-as-papers (c .kind) (exact (c .kind)) (composedOf c) (s .filter);
-      words = λ F x y. by-words l c (pickOf (s .filter)) w S (store-paths s l side rule w S F) x y;
+      words = λ h N x y. by-words l c (pickOf (s .filter)) w (N .sigma2) S (store-paths s l side rule w S (finished s l side w N h)) x y;
     }
 
 -- and so what holds in those worlds holds after every list of calls that demand 3 speaks of

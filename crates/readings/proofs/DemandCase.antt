@@ -162,13 +162,13 @@ pub given-there : (t : Session) × (replyAfter both (from large) (expand 0 ∷ o
 unfolding Holds
 given-there = claimed .given [] (opening (settingsOf (plain 2 0)) both ∷ run ∷ records 1 ∷ []) (finalWeight 3 ∷ []) (expand 0) refl
 
-finished-left : Finished set both left
+finished-left : Finished set both c left
 unfolding Holds finishedTest
-finished-left = test-finished set both left refl
+finished-left = test-finished set both (only outputs) left refl
 
 -- every found state is expanded there, and has a final weight or none: 3c speaks of it
-pub finished-there : Finished set both (after both (from large) calls)
-finished-there = subst (Finished set both) (sym left-there) finished-left
+pub finished-there : Finished set both c (after both (from large) calls)
+finished-there = subst (Finished set both c) (sym left-there) finished-left
 
 pub paths-there : Paths both c (pickOf 0) (after both (from large) calls)
 paths-there = claimed .paths finished-there

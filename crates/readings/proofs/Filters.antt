@@ -2,7 +2,8 @@
 -- no accepting path. 02's three filters are OpenFst's.
 use mathlib.Core.Path.{_≡_, subst}
 use mathlib.Core.Bool.{Bool}
-use Prim.Native.Nat.{ℕ, zero, suc}
+use Prim.Native.Nat.{ℕ, zero, suc, _≤_}
+use native.Mathlib.Omega.{arith}
 use Rattle.papers.specs.Machine.{Machine}
 use Rattle.papers.specs.Weight.{Kind, semiring}
 use Rattle.papers.specs.Filter.{MoveKind, Facts, Filter, epsilonSequencing, epsilonSequencingMirrored, epsilonMatching}
@@ -17,9 +18,17 @@ use Rattle.words.proofs.TableLaws.{sequence-laws, alternate-laws, matching-laws
 use Rattle.readings.specs.Correspondence.{OneToOne}
 use Rattle.readings.specs.Merge.{merge}
 use Rattle.readings.specs.Readings.{plainComposed, ReadingsOf, filteredBy, SamePaths}
+use Rattle.readings.specs.Listed.{pickOf}
 use Rattle.readings.proofs.Correspondences.{turned, chained}
 use Rattle.readings.proofs.Theorem.{readings}
 use Rattle.readings.proofs.Swap.{same-by-pick}
+
+-- 01's three obey the laws
+pub lawful-of : (n : ℕ) → n ≤ 2 → (live : ℕ → Bool → Bool → Bool) × Lawful (filterOf n) live (pickOf n)
+lawful-of zero h = (sequenceLive, sequence-laws)
+lawful-of (suc zero) h = (alternateLive, alternate-laws)
+lawful-of (suc (suc zero)) h = (matchingLive, matching-laws)
+lawful-of (suc (suc (suc m))) h = absurd (omega (arith, h))
 
 -- "inner labels (outputs of the first, inputs of the second) agree"
 equal-readings : (k : Kind) (value : ℕ → semiring k .Element) (A B : Machine) (filter : Filter) (live : ℕ → Bool → Bool → Bool) (pick : Bool → Bool → MoveKind)

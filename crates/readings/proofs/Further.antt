@@ -2,7 +2,7 @@
 -- FurtherFilters.
 use mathlib.Core.Path.{_≡_, sym, subst}
 use mathlib.Core.List.{List}
-use mathlib.Core.Logic.{_↔_}
+use mathlib.Core.Logic.{_↔_, inl}
 use Prim.Native.Nat.{ℕ}
 use Rattle.papers.specs.Weight.{semiring}
 use Rattle.papers.specs.Filter.{Filter, epsilonSequencing}
@@ -26,7 +26,8 @@ use Rattle.readings.specs.StorePaths.{Settled, machine1, machine2, recor
 use Rattle.readings.specs.Further.{OneEpsilonFree, NoneLost, EqualPair, together, StepByStep, Further, FurtherClaim}
 use Rattle.readings.proofs.Correspondences.{chained, chained-onto, exchanged, exchanged-onto, same-least}
 use Rattle.readings.proofs.FurtherFilters.{Wider, trivial-wider, no-match-wider, none-lost, once-where-free, StepPair, step-by-step}
-use Rattle.readings.proofs.StorePaths.{pair-weighs, agreeing, plain-records, weigh-both, read-first, write-second}
+use Rattle.readings.proofs.Letters.{write-own}
+use Rattle.readings.proofs.StorePaths.{pair-weighs, agreeing-plain, no-sigmas, plain-records, weigh-both, read-first, write-second}
 use Rattle.readings.proofs.WordPaths.{of-words, by-words}
 use Rattle.readings.proofs.Demand2.{after-calls}
 
@@ -63,30 +64,31 @@ module _ (s : Settings) (l : Lent) (side : Side) (rule : sideFor s l ≡ good si
 
   none-lost-there : AllListed c (filterOf (s .filter)) → NoneLost l c w
   none-lost-there o =
-      let B = weigh-both s l side rule w S N in
-      let read = read-first s l side rule w S N in
-      let written = write-second s l side rule w S N in
-      let p = chained-onto (plain-records s l side rule w S N) (exchanged-onto (agreeing c) (o .listed)) in
+      let B = weigh-both s l side rule w S (N .read) (no-sigmas s l side w N) in
+      let read = read-first s l side rule w S (N .read) (no-sigmas s l side w N) in
+      let written = write-second s l side rule w S (N .read) (no-sigmas s l side w N) in
+      let wrote = write-own l c w (inl (N .sigma2)) written in
+      let p = chained-onto (plain-records s l side w N rule S) (exchanged-onto (agreeing-plain c (N .sigma2)) (o .listed)) in
       let once : OneEpsilonFree c → Paths l c sequencePick w
-      = λ n. record { paths = chained (plain-records s l side rule w S N) (exchanged (agreeing c) (o .once n)); weights = B; inputs = read; outputs = written } in
+      = λ n. record { paths = chained (plain-records s l side w N rule S) (exchanged (agreeing-plain c (N .sigma2)) (o .once n)); weights = B; inputs = read; outputs = written } in
       record {
         paths = p;
         weights = B;
         inputs = read;
-        outputs = written;
+        outputs = wrote;
         least = λ e. same-least (semiring (c .kind)) (recordsWeight (c .kind) l w 0) weight e p (pair-weighs l c w S B);
         least-of-words = λ x y e. same-least (semiring (c .kind)) (recordsWeight (c .kind) l w 0) weight e
-            (of-words l c w (recordsOfPair c sequencePick w) p read written x y) (λ rs h. pair-weighs l c w S B rs (h .0));
+            (of-words l c w (N .sigma2) (recordsOfPair c sequencePick w) p read wrote x y) (λ rs h. pair-weighs l c w S B rs (h .0));
         once = once;
-        totals = λ n. by-words l c sequencePick w S (once n);
+        totals = λ n. by-words l c sequencePick w (N .sigma2) S (once n);
       }
 
   stepped : Stepped c (filterOf (s .filter)) → StepByStep l c w
   stepped o = record {
-    paths = chained (plain-records s l side rule w S N) (exchanged (equal-pair c) o);
-    weights = weigh-both s l side rule w S N;
-    inputs = read-first s l side rule w S N;
-    outputs = write-second s l side rule w S N;
+    paths = chained (plain-records s l side w N rule S) (exchanged (equal-pair c) o);
+    weights = weigh-both s l side rule w S (N .read) (no-sigmas s l side w N);
+    inputs = read-first s l side rule w S (N .read) (no-sigmas s l side w N);
+    outputs = write-own l c w (inl (N .sigma2)) (write-second s l side rule w S (N .read) (no-sigmas s l side w N));
   }
 
 -- in every sound world

@@ -9,6 +9,7 @@ pub mod Filters
 pub mod FurtherFilters
 pub mod Placed
 pub mod Example
+pub mod Letters
 pub mod Listed
 pub mod PathMoves
 pub mod PapersLists
@@ -47,3 +48,4 @@ pub mod RoomCase
 pub mod OwnedCase
 pub mod WordCase
 pub mod SigmaCase
+pub mod LetterCase

@@ -3,31 +3,35 @@
 use mathlib.Core.Path.{_≡_, refl, sym, _∙_, ap, subst}
 use mathlib.Core.Bool.{true}
 use mathlib.Core.List.{List, [], _∷_, map, List·Memᴰ as In, List·Memᴰ·head as here, List·Memᴰ·tail as there}
-use mathlib.Core.Logic.{_↔_, Iff·trans}
-use Prim.Native.Nat.{ℕ, zero, suc, _≤_}
-use native.Mathlib.Omega.{arith}
-use Rattle.lists.specs.Lists.{At, Distinct, Enumerates}
+use mathlib.Core.Logic.{_↔_}
+use Prim.Native.Nat.{ℕ, _≤_}
+use Rattle.lists.specs.Lists.{At, Enumerates}
 use Rattle.lists.proofs.Places.{at-in, in-at, at-map, of-at-map}
 use Rattle.lists.proofs.Once.{distinct-of}
 use Rattle.papers.specs.Weight.{semiring}
 use Rattle.papers.specs.Composition.{Triple, Edges, KeptMove}
-use Rattle.words.specs.Labels.{noLabel, Checked, good, refused}
+use Rattle.papers.specs.Laws.{Lawful}
+use Rattle.words.specs.Labels.{Checked, good, refused}
 use Rattle.words.specs.Matches.{MatchType, inputs, outputs}
 use Rattle.words.specs.Machines.{wellFormed}
 use Rattle.words.specs.Sides.{Side, sideOf}
 use Rattle.words.specs.Filters.{filterOf}
 use Rattle.words.specs.Steps.{Composition, Kept, keptAt}
 use Rattle.words.specs.Settings.{Settings, Lent, operand1, operand2, compositionOf}
-use Rattle.words.specs.AsPapers.{exact, edgesOf, composedOf, plain, directionOf, WalkedSigma}
+use Rattle.words.specs.AsPapers.{exact, edgesOf, composedOf, directionOf, WalkedSigma}
 use Rattle.words.proofs.CheckedLaws.{good-is}
 use Rattle.words.specs.Links.{Composable}
-use Rattle.words.proofs.PapersOpened.{kept-as-papers, at-direction, directed, plain-composition, sound-of}
+use Rattle.words.proofs.PapersMoves.{outputs1}
+use Rattle.words.proofs.PapersOpened.{kept-as-papers, at-direction, directed, sound-of}
 use Rattle.readings.specs.Correspondence.{OneToOne}
 use Rattle.readings.specs.Merge.{merge}
-use Rattle.readings.specs.Readings.{at, pairOf, PairFrom, Readings, ReadingsOf}
+use Rattle.readings.specs.Readings.{at, pairOf, PairFrom, Readings}
 use Rattle.readings.specs.Places.{Lists, movesAt, placesOf, AcceptingPlaces}
 use Rattle.readings.specs.Listed.{goods, entryOf, listedAt, pickOf}
-use Rattle.readings.proofs.Filters.{sequence-readings, alternate-readings, match-readings}
+use Rattle.readings.specs.StorePaths.{machine1, machine2, sigma2, SigmaOn2AtMost, PairsWith}
+use Rattle.readings.proofs.Theorem.{readings}
+use Rattle.readings.proofs.Filters.{lawful-of}
+use Rattle.readings.proofs.Letters.{letter, pairs-meet}
 use Rattle.readings.proofs.Placed.{placed-readings}
 
 -- a list without refusals is its values
@@ -73,50 +77,43 @@ module _ (c : Composition) (s : Triple) (all : keptAt c s ≡ map good (goods (k
         );
       }
 
-module _ (c : Composition) (S : Composable c) (none1 : c .operand1 .sigma .label ≡ noLabel) (none2 : c .operand2 .sigma .label ≡ noLabel) (s : Triple) where
+-- with sigma on machine 2 alone, or none
+module _ (c : Composition) (S : Composable c) (N : SigmaOn2AtMost c) (s : Triple) where
   no-walked : (d : MatchType) → WalkedSigma d (c .operand1) (c .operand2) (s .s1) (s .s2) → ⊥
-  no-walked inputs w = S .labels1 (s .s1) (w .0) (w .1) (w .2 ∙ none2)
-  no-walked outputs w = S .labels2 (s .s2) (w .0) (w .1) (w .2 ∙ none1)
+  no-walked inputs w = letter c S N (s .s1) (w .0) (w .1) (sym (ap (λ (l : ℕ → ℕ). l (w .0)) (outputs1 c S s)) ∙ w .2)
+  no-walked outputs w = S .labels2 (s .s2) (w .0) (w .1) (w .2 ∙ N .alone)
 
   -- no kept move is refused
   kept-good : keptAt c s ≡ map good (goods (keptAt c s))
-  kept-good = let r = directed c s none1 in all-good (keptAt c s) (λ n i. no-walked (r .0) (kept-as-papers c S s (r .0) (r .1) .refusals n .0 i .1))
+  kept-good = let r = directed c s (N .alone) in all-good (keptAt c s) (λ n i. no-walked (r .0) (kept-as-papers c S s (r .0) (r .1) .refusals n .0 i .1))
 
-  plainly : Enumerates (listedAt c s) (λ e. KeptMove (composedOf c) s (e .0) (e .1))
-  plainly = let r = directed c s none1 in enumerated c s kept-good S (r .0) (r .1)
-
-  exactly-listed : (m : Edges) (g : ℕ) → In (m, g) (listedAt c s) ↔ KeptMove (plain c) s m g
-  exactly-listed m g = Iff·trans (plainly .exactly (m, g)) (plain-composition c S none1 none2 s m g)
-
-  once-listed : Distinct (listedAt c s)
-  once-listed = plainly .once
+  listed-moves : Enumerates (listedAt c s) (λ e. KeptMove (composedOf c) s (e .0) (e .1))
+  listed-moves = let r = directed c s (N .alone) in enumerated c s kept-good S (r .0) (r .1)
 
 -- at every triple
-words-lists : (c : Composition) → Composable c → c .operand1 .sigma .label ≡ noLabel → c .operand2 .sigma .label ≡ noLabel → Lists (plain c) (λ s. Unit {0}) (listedAt c)
-words-lists c S none1 none2 = record {
-  exactly = λ s f. exactly-listed c S none1 none2 s;
-  once = λ s f. once-listed c S none1 none2 s;
+words-lists : (c : Composition) → Composable c → SigmaOn2AtMost c → Lists (composedOf c) (λ s. Unit {0}) (listedAt c)
+words-lists c S N = record {
+  exactly = λ s f m g. listed-moves c S N s .exactly (m, g);
+  once = λ s f. listed-moves c S N s .once;
   onward = λ s f m g h. tt;
 }
 
--- whichever of the three filters a composition has
-pub readings-of : (c : Composition) (n : ℕ) → n ≤ 2 → c .filter ≡ filterOf n
-    → Readings (semiring (c .kind)) (exact (c .kind)) _≡_ (plain c) (merge (pickOf n) (c .operand1 .machine) (c .operand2 .machine))
-readings-of c n h e = subst (λ F. ReadingsOf (c .kind) (exact (c .kind)) (c .operand1 .machine) (c .operand2 .machine) F (pickOf n)) (sym e) (go n h)
-  where
-    go : (n : ℕ) → n ≤ 2 → ReadingsOf (c .kind) (exact (c .kind)) (c .operand1 .machine) (c .operand2 .machine) (filterOf n) (pickOf n)
-    go zero h = sequence-readings (c .kind) (exact (c .kind)) (c .operand1 .machine) (c .operand2 .machine)
-    go (suc zero) h = alternate-readings (c .kind) (exact (c .kind)) (c .operand1 .machine) (c .operand2 .machine)
-    go (suc (suc zero)) h = match-readings (c .kind) (exact (c .kind)) (c .operand1 .machine) (c .operand2 .machine)
-    go (suc (suc (suc m))) h = absurd (omega (arith, h))
+-- the reading theorem of a composition with one of the three filters
+pub readings-of : (c : Composition) → Composable c → SigmaOn2AtMost c → (n : ℕ) → n ≤ 2 → c .filter ≡ filterOf n
+    → Readings (semiring (c .kind)) (exact (c .kind)) (PairsWith (sigma2 c)) (composedOf c) (merge (pickOf n) (machine1 c) (machine2 c))
+readings-of c S N n h e =
+    let r = lawful-of n h in
+    readings (c .kind) (exact (c .kind)) (PairsWith (sigma2 c)) (composedOf c) (pairs-meet c S N) (r .0) (pickOf n) (subst (λ F. Lawful F (r .0) (pickOf n)) (sym e) (r .1))
 
--- 3c, but for the store: of an opening with well-formed machines, an accepted side and no sigma label set, from any two states
+-- 3c, but for the store: of an opening with well-formed machines and an accepted side, from any two states
 pub opened-readings : (s : Settings) (l : Lent) (side : Side) → wellFormed (l .m1) ≡ true → wellFormed (l .m2) ≡ true → sideOf (operand1 s l) (operand2 s l) ≡ good side
-    → s .sigma1 ≡ noLabel → s .sigma2 ≡ noLabel → s .filter ≤ 2 → (q1 q2 : ℕ)
+    → s .filter ≤ 2
     → let c = compositionOf s l side in
-    OneToOne (AcceptingPlaces (plain c) (listedAt c) (semiring (c .kind)) (exact (c .kind)) (at q1 q2)) (PairFrom (semiring (c .kind)) (exact (c .kind)) _≡_ (plain c) q1 q2)
-    (λ ks. pairOf (movesAt (plain c) (listedAt c) (at q1 q2) ks))
-    (λ p. placesOf (plain c) (listedAt c) (at q1 q2) (merge (pickOf (s .filter)) (c .operand1 .machine) (c .operand2 .machine) (p .0) (p .1)))
-opened-readings s l side w1 w2 e n1 n2 h q1 q2 =
+    SigmaOn2AtMost c → (q1 q2 : ℕ)
+    → OneToOne (AcceptingPlaces (composedOf c) (listedAt c) (semiring (c .kind)) (exact (c .kind)) (at q1 q2)) (PairFrom (semiring (c .kind)) (exact (c .kind)) (PairsWith (sigma2 c)) (composedOf c) q1 q2)
+    (λ ks. pairOf (movesAt (composedOf c) (listedAt c) (at q1 q2) ks))
+    (λ p. placesOf (composedOf c) (listedAt c) (at q1 q2) (merge (pickOf (s .filter)) (machine1 c) (machine2 c) (p .0) (p .1)))
+opened-readings s l side w1 w2 e h N q1 q2 =
     let c = compositionOf s l side in
-    placed-readings (plain c) (λ s. Unit {0}) (listedAt c) (words-lists c (sound-of s l side w1 w2 e) n1 n2) (semiring (c .kind)) (exact (c .kind)) _≡_ _ (readings-of c (s .filter) h refl) q1 q2 tt
+    let S = sound-of s l side w1 w2 e in
+    placed-readings (composedOf c) (λ s. Unit {0}) (listedAt c) (words-lists c S N) (semiring (c .kind)) (exact (c .kind)) (PairsWith (sigma2 c)) _ (readings-of c S N (s .filter) h refl) q1 q2 tt

@@ -25,7 +25,7 @@ use Rattle.readings.specs.Places.{placeAmong}
 use Rattle.readings.specs.Merge.{mergeUpTo}
 use Rattle.readings.specs.Listed.{goods, listedAt, pickOf}
 use Rattle.readings.specs.Worlds.{inputOf, outputOf}
-use Rattle.readings.specs.StorePaths.{Finished, AcceptingRecords, machine1, machine2, weightFrom, movesOfRecords, recordsOfMoves, pairOfRecords, recordsOfPair, recordsWeight, Paths}
+use Rattle.readings.specs.StorePaths.{Finished, AcceptingRecords, machine1, machine2, weightFrom, movesOfRecords, recordsOfMoves, pairOfRecords, recordsOfPair, recordsWeight, outputsFor, Paths}
 use Rattle.readings.proofs.Example.{words1, words2, long, short}
 use Rattle.readings.proofs.StoreWalks.{finishedTest, test-finished, walks, shallow, just-walks}
 use Rattle.readings.proofs.Demands.{demand-3}
@@ -36,7 +36,7 @@ pub record Shown (s : Settings) (l : Lent) (side : Side) (before left : World) (
   pub rule : sideFor s l ≡ good side
   pub opens : openOf s l (before .session) (before .memory) .answer ≡ good tt
   pub left-by : after l before (opening s l ∷ run ∷ []) ≡ left
-  pub finished : Finished s l left
+  pub finished : Finished s l (compositionOf s l side) left
   pub just-these : (rs : List ℕ) → AcceptingRecords l left rs ↔ In rs accepting
   pub their-pairs : map (pairOfRecords (compositionOf s l side) left) accepting ≡ pairs
   pub their-records : map (recordsOfPair (compositionOf s l side) (pickOf (s .filter)) left) pairs ≡ accepting
@@ -51,12 +51,12 @@ pub paths-of : {s : Settings} {l : Lent} {side : Side} {before left : World} {ac
 unfolding afterWith callWith
 paths-of {s} {l} {side} {before} {left} x =
     let d = demand-3 s l (before .session) (before .memory) (x .opens) in
-    let p = d .2 (run ∷ []) tt .paths (subst (Finished s l) (sym (x .left-by)) (x .finished)) in
-    subst (λ (z : Side). Paths l (compositionOf s l z) (pickOf (s .filter)) left) (good-is (sym (d .1) ∙ x .rule))
-    (subst (λ (w : World). Paths l (compositionOf s l (d .0)) (pickOf (s .filter)) w) (x .left-by) p)
+    let v = after l before (opening s l ∷ run ∷ []) in
+    let p = subst (λ (z : Side). Finished s l (compositionOf s l z) v → Paths l (compositionOf s l z) (pickOf (s .filter)) v) (good-is (sym (d .1) ∙ x .rule)) (d .2 (run ∷ []) tt .paths) in
+    subst (Paths l (compositionOf s l side) (pickOf (s .filter))) (x .left-by) (p (subst (Finished s l (compositionOf s l side)) (sym (x .left-by)) (x .finished)))
 
 -- a session and slices of words without meaning
-abbrev any : World
+abbrev pub any : World
 any = world (session (plain 1 2) 7 8 9) (9 ∷ 9 ∷ []) (replicate 32 8) (replicate 37 8)
 
 -- 1: costs, filter sequence. Both machines are sorted in fact: machine 1's side is taken. States (0, 0, 0), (1, 0, 0), (0, 1, 1), (2, 2, 0), (1, 1, 0).
@@ -84,7 +84,7 @@ costs-by-sequence = record {
   rule = refl;
   opens = refl;
   left-by = refl;
-  finished = test-finished _ _ _ refl;
+  finished = test-finished _ _ _ _ refl;
   just-these = just-walks _ _ 4 refl;
   their-pairs = refl;
   their-records = refl;
@@ -118,7 +118,7 @@ counts-by-alternate = record {
   rule = refl;
   opens = refl;
   left-by = refl;
-  finished = test-finished _ _ _ refl;
+  finished = test-finished _ _ _ _ refl;
   just-these = just-walks _ _ 4 refl;
   their-pairs = refl;
   their-records = refl;
@@ -159,7 +159,7 @@ costs-by-match = record {
   rule = refl;
   opens = refl;
   left-by = refl;
-  finished = test-finished _ _ _ refl;
+  finished = test-finished _ _ _ _ refl;
   just-these = just-walks _ _ 4 refl;
   their-pairs = refl;
   their-records = refl;
@@ -188,5 +188,5 @@ unfolding Holds movesOfRecords listedAt goods word
 pair-reads = sym (paths-of costs-by-match .inputs (1 ∷ 5 ∷ []) first3)
 
 pub pair-writes : word (map (machine2 c3 .output) long) ≡ 7 ∷ 8 ∷ []
-unfolding Holds movesOfRecords listedAt goods word
+unfolding Holds movesOfRecords listedAt goods word outputsFor
 pair-writes = sym (paths-of costs-by-match .outputs (1 ∷ 5 ∷ []) first3)

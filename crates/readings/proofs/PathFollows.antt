@@ -1,23 +1,23 @@
 -- A list of records and a list of moves that follow one another, link by link, to an end. What accepts on either side is followed by its image, and of two that follow one
--- another each is the image of the other, with the same weight and, without sigma, the same labels: so accepting records and accepting moves correspond one to one.
+-- another each is the image of the other, with the same weight and, with sigma on machine 2 alone or none, the labels that the moves have: so accepting records and accepting moves correspond one to one.
 use mathlib.Core.Path.{_≡_, refl, sym, _∙_, ap, ap₂, subst}
 use mathlib.Core.List.{List, [], _∷_, map, List·Memᴰ as In}
 use mathlib.Core.Logic.{_≢_}
-use Prim.Native.Nat.{ℕ, _-_, _<_}
+use Prim.Native.Nat.{ℕ, _<_}
 use Rattle.papers.specs.Weight.{semiring}
-use Rattle.papers.specs.Composition.{Triple, Edges, composedInput, composedOutput}
+use Rattle.papers.specs.Composition.{Triple, Edges, composedInput}
 use Rattle.papers.specs.Paths.{AcceptingMoves, movesWeight}
 use Rattle.words.specs.Labels.{noLabel}
 use Rattle.words.specs.Weights.{zeroOf}
 use Rattle.words.specs.Steps.{Composition}
 use Rattle.words.specs.AsPapers.{exact, composedOf}
 use Rattle.words.specs.Settings.{Lent}
-use Rattle.calls.specs.Store.{trField}
 use Rattle.calls.specs.Sequences.{World}
 use Rattle.readings.specs.Correspondence.{OneToOne}
-use Rattle.readings.specs.Worlds.{stateAt, targetOf}
-use Rattle.readings.specs.StorePaths.{AcceptingFrom, movesOfRecords, recordsOfMoves, answeredWeight, recordsWeight}
-use Rattle.readings.proofs.PathMoves.{unwritten-both}
+use Rattle.readings.specs.Worlds.{stateAt, inputOf, outputOf, targetOf}
+use Rattle.readings.specs.StorePaths.{machine1, SigmaOn2AtMost, AcceptingFrom, movesOfRecords, recordsOfMoves, answeredWeight, recordsWeight}
+use Rattle.readings.proofs.Letters.{writtenBy, output-by}
+use Rattle.readings.proofs.PathMoves.{input-by}
 use Rattle.readings.proofs.PathEnds.{IsEnd, answered-end, end-answered}
 use Rattle.readings.proofs.PathRecords.{Link, Whole, move-link, record-link, moves-turn, records-turn}
 
@@ -82,26 +82,28 @@ module _ (l : Lent) (c : Composition) (w : World) (W : Whole l c w) where
             (A .weight ∙ ap (λ (t : Triple). movesWeight (semiring (c .kind)) (exact (c .kind)) (composedOf c) (t .s1) (t .s2) ms) (k .same .target));
       }
 
-  -- where nothing is rewritten: no sigma label is set, and no outer label is MAX
-  module _ (none1 : c .operand1 .sigma .label ≡ noLabel) (none2 : c .operand2 .sigma .label ≡ noLabel)
-      (labels1 : (q t : ℕ) → In t (c .operand1 .machine .list q) → c .operand1 .machine .input t ≢ noLabel)
-      (labels2 : (q t : ℕ) → In t (c .operand2 .machine .list q) → c .operand2 .machine .output t ≢ noLabel) where
+  -- with sigma on machine 2 alone, or none, where no input of machine 1 is MAX
+  module _ (N : SigmaOn2AtMost c) (labels1 : (q t : ℕ) → In t (machine1 c .list q) → machine1 c .input t ≢ noLabel) where
+    -- the output that a move of such a composition has
+    abbrev written : Edges → ℕ
+    written m = writtenBy c (W .links) N (m .first) (m .second)
+
     labels : (rs : List ℕ) (ms : List Edges) (n : ℕ) → Follows l c w n rs ms
-        → (map (λ r. trField (w .memory .trs) (r - 1) 0) rs ≡ map (composedInput (composedOf c)) ms)
-        × (map (λ r. trField (w .memory .trs) (r - 1) 1) rs ≡ map (composedOutput (composedOf c)) ms)
+        → (map (inputOf w) rs ≡ map (composedInput (composedOf c)) ms) × (map (outputOf w) rs ≡ map written ms)
     labels [] [] n h = (refl, refl)
     labels [] (m ∷ ms) n h = absurd h
     labels (r ∷ rs) [] n h = absurd h
     labels (r ∷ rs) (m ∷ ms) n h =
         let k = h .1 in
         let q = labels rs ms (targetOf w r) (h .2) in
-        let u = unwritten-both c none1 none2 labels1 labels2 (stateAt w n) (k .direction) m (k .kept .1 .0) (k .kept .1 .1) in
-        (ap₂ _∷_ (k .same .input ∙ u .0) (q .0), ap₂ _∷_ (k .same .output ∙ u .1) (q .1))
+        let t = stateAt w n in (
+          ap₂ _∷_ (k .same .input ∙ input-by c (N .alone) labels1 t (k .direction) m (k .kept .1 .0)) (q .0),
+          ap₂ _∷_ (k .same .output ∙ output-by c (W .links) N (k .direction) t (k .rule) m (h .0) (k .kept)) (q .1),
+        )
 
     -- accepting records have the labels of their moves
     pub records-labels : (rs : List ℕ) (n : ℕ) → n < w .session .used .states → AcceptingFrom l w n rs
-        → (map (λ r. trField (w .memory .trs) (r - 1) 0) rs ≡ map (composedInput (composedOf c)) (movesOfRecords c w n rs))
-        × (map (λ r. trField (w .memory .trs) (r - 1) 1) rs ≡ map (composedOutput (composedOf c)) (movesOfRecords c w n rs))
+        → (map (inputOf w) rs ≡ map (composedInput (composedOf c)) (movesOfRecords c w n rs)) × (map (outputOf w) rs ≡ map written (movesOfRecords c w n rs))
     records-labels rs n u h = labels rs (movesOfRecords c w n rs) n (of-records rs n u h)
 
   module _ (n : ℕ) (u : n < w .session .used .states) where

@@ -1,4 +1,4 @@
--- A composed state all of whose kept moves have a step: it has a direction, and its k-th step is that of the k-th listed move. Without sigma labels nothing is rewritten.
+-- A composed state all of whose kept moves have a step: it has a direction, and its k-th step is that of the k-th listed move. Without a sigma label on machine 1 its labels stay.
 use mathlib.Core.Path.{_≡_, refl, sym, _∙_, ap, subst}
 use mathlib.Core.Bool.{Bool, true, false, cond}
 use mathlib.Core.List.{List, map, List·Memᴰ as In}
@@ -8,13 +8,13 @@ use lib.ListN.{length, length-map}
 use borrow.Author.Tests.{ne-eqb}
 use Rattle.lists.specs.Lists.{At}
 use Rattle.lists.proofs.Places.{at-map, of-at-map, in-at}
-use Rattle.papers.specs.Composition.{Leaves, outer, Triple, Edges, composedInput, composedOutput}
+use Rattle.papers.specs.Composition.{Leaves, outer, Triple, Edges, composedInput}
 use Rattle.papers.specs.Machine.{Machine}
 use Rattle.words.specs.Labels.{noLabel, Checked, good, refused, andThen}
 use Rattle.words.specs.Matches.{MatchType, Match, loop, own, viaSigma}
 use Rattle.words.specs.Sigmas.{Sigma, replace}
 use Rattle.words.specs.Steps.{Composition, Kept, Step, keptAt, stepOf, stepsAt}
-use Rattle.words.specs.AsPapers.{edgeOf, edgesOf, composedOf, directionOf, matchesOf, rewritten, inputBy, outputBy}
+use Rattle.words.specs.AsPapers.{edgeOf, edgesOf, composedOf, directionOf, matchesOf, rewritten, inputBy}
 use Rattle.words.specs.Links.{Composable, IsStep}
 use Rattle.words.proofs.CheckedLaws.{good≢refused}
 use Rattle.words.proofs.PapersMoves.{edges-matches}
@@ -34,21 +34,15 @@ unwritten σ M q x label (viaSigma t) e n i = go (σ .rewriteBoth)
     go true = rw (e, ne-eqb (label t) noLabel (n t i))
     go false = refl
 
--- neither label of a composed transition, in whichever direction it was found
-pub unwritten-both : (c : Composition) → c .operand1 .sigma .label ≡ noLabel → c .operand2 .sigma .label ≡ noLabel
-    → ((q t : ℕ) → In t (c .operand1 .machine .list q) → c .operand1 .machine .input t ≢ noLabel) → ((q t : ℕ) → In t (c .operand2 .machine .list q) → c .operand2 .machine .output t ≢ noLabel)
-    → (s : Triple) (d : MatchType) (m : Edges) → Leaves (c .operand1 .machine) (s .s1) (m .first) → Leaves (c .operand2 .machine) (s .s2) (m .second)
-    → (inputBy c (matchesOf d (c .operand1) (c .operand2) m) ≡ composedInput (composedOf c) m) × (outputBy c (matchesOf d (c .operand1) (c .operand2) m) ≡ composedOutput (composedOf c) m)
-unwritten-both c none1 none2 labels1 labels2 s d m l1 l2 =
+-- so without one on machine 1 the input of a composed transition is its own, in whichever direction it was found
+pub input-by : (c : Composition) → c .operand1 .sigma .label ≡ noLabel → ((q t : ℕ) → In t (c .operand1 .machine .list q) → c .operand1 .machine .input t ≢ noLabel)
+    → (s : Triple) (d : MatchType) (m : Edges) → Leaves (c .operand1 .machine) (s .s1) (m .first) → inputBy c (matchesOf d (c .operand1) (c .operand2) m) ≡ composedInput (composedOf c) m
+input-by c none1 labels1 s d m l1 =
     let v = matchesOf d (c .operand1) (c .operand2) m in
-    let e : edgesOf v ≡ m = edges-matches d (c .operand1) (c .operand2) m in (
-      unwritten (c .operand1 .sigma) (c .operand1 .machine) (s .s1) _ (c .operand1 .machine .input) (v .first) none1 (labels1 (s .s1))
-          (subst (λ (z : Edges). Leaves (c .operand1 .machine) (s .s1) (z .first)) (sym e) l1)
-          ∙ ap (composedInput (composedOf c)) e,
-      unwritten (c .operand2 .sigma) (c .operand2 .machine) (s .s2) _ (c .operand2 .machine .output) (v .second) none2 (labels2 (s .s2))
-          (subst (λ (z : Edges). Leaves (c .operand2 .machine) (s .s2) (z .second)) (sym e) l2)
-          ∙ ap (composedOutput (composedOf c)) e,
-    )
+    let e : edgesOf v ≡ m = edges-matches d (c .operand1) (c .operand2) m in
+    unwritten (c .operand1 .sigma) (c .operand1 .machine) (s .s1) _ (c .operand1 .machine .input) (v .first) none1 (labels1 (s .s1))
+    (subst (λ (z : Edges). Leaves (c .operand1 .machine) (s .s1) (z .first)) (sym e) l1)
+    ∙ ap (composedInput (composedOf c)) e
 
 -- where each kept move has a step
 module _ (c : Composition) (P : Composable c) (t : Triple) (steps : List Step) (all : stepsAt c t ≡ map good steps) where

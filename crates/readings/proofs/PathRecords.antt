@@ -11,7 +11,7 @@ use Rattle.papers.specs.Composition.{Edges, KeptMove}
 use Rattle.words.specs.Labels.{good}
 use Rattle.words.specs.Matches.{MatchType}
 use Rattle.words.specs.Steps.{Composition}
-use Rattle.words.specs.AsPapers.{composedOf}
+use Rattle.words.specs.AsPapers.{composedOf, directionOf}
 use Rattle.words.specs.Settings.{Lent}
 use Rattle.words.specs.Links.{Composable}
 use Rattle.calls.specs.Calls.{finalWeightOf}
@@ -29,6 +29,7 @@ pub record Link (c : Composition) (w : World) (n r : ℕ) (m : Edges) (g : ℕ) 
   pub place : At (movesIn c w n) (r - partIn w n .first) (m, g)
   pub kept : KeptMove (composedOf c) (stateAt w n) m g
   pub direction : MatchType
+  pub rule : directionOf c (stateAt w n) ≡ good direction
   pub same : IsTransition c w direction (stateAt w n) m g r
 
 -- What the correspondence asks: all used states are expanded, and none of their final weights is refused.
@@ -52,6 +53,7 @@ module _ (l : Lent) (c : Composition) (w : World) (W : Whole l c w) where
         place = subst (λ j. At (movesIn c w n) j (m, g)) (omega arith) h;
         kept = F .moves .exactly (m, g) .0 (at-in (movesIn c w n) k h);
         direction = F .direction;
+        rule = F .rule;
         same = F .record-of k m g h;
       }
 

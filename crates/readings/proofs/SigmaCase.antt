@@ -1,5 +1,5 @@
--- A closed instance of demand 2 with sigma set: machine 1 has 5:6 and 5:8, machine 2 has 8:4 and sigma 9:9, rewritten on both sides. The label 8 meets its own transition, 6 meets sigma,
--- whose output becomes 6. Each clause of the claim is used once.
+-- A closed instance of demand 2 with sigma set: machine 1 has 5:6 and 5:8, machine 2 has 8:4 and sigma 9:9, rewritten on both sides. The label 6 meets sigma, whose output becomes 6;
+-- 8 meets its own transition, and after it sigma, whose output becomes 8. Each clause of the claim is used once.
 use mathlib.Core.Path.{_≡_, refl, sym, _∙_, ap, subst}
 use mathlib.Core.List.{List, [], _∷_, List·Memᴰ·head as here}
 use mathlib.Core.Logic.{_⊎_}
@@ -51,16 +51,16 @@ abbrev got : Session
 got = session (plain 1 2) 7 8 9
 
 abbrev memory : Memory
-memory = record { heads = 9 ∷ 9 ∷ []; states = replicate 13 8; trs = replicate 12 8 }
+memory = record { heads = 9 ∷ 9 ∷ []; states = replicate 13 8; trs = replicate 17 8 }
 
 abbrev opened : World
-opened = world (session asked 0 1 0) (1 ∷ 0 ∷ []) (0 ∷ 0 ∷ 0 ∷ 0 ∷ 0 ∷ 0 ∷ 8 ∷ 8 ∷ 8 ∷ 8 ∷ 8 ∷ 8 ∷ 8 ∷ []) (replicate 12 8)
+opened = world (session asked 0 1 0) (1 ∷ 0 ∷ []) (0 ∷ 0 ∷ 0 ∷ 0 ∷ 0 ∷ 0 ∷ 8 ∷ 8 ∷ 8 ∷ 8 ∷ 8 ∷ 8 ∷ 8 ∷ []) (replicate 17 8)
 
 abbrev left : World
 left =
-    world (session asked 0 2 2) (2 ∷ 0 ∷ [])
+    world (session asked 0 2 3) (2 ∷ 0 ∷ [])
     (0 ∷ 0 ∷ 0 ∷ 1 ∷ 1 ∷ 0 ∷ 1 ∷ 1 ∷ 0 ∷ 1 ∷ 0 ∷ 1 ∷ 8 ∷ [])
-    (5 ∷ 6 ∷ 5 ∷ 1 ∷ 2 ∷ 5 ∷ 4 ∷ 4 ∷ 1 ∷ 0 ∷ 8 ∷ 8 ∷ [])
+    (5 ∷ 6 ∷ 5 ∷ 1 ∷ 2 ∷ 5 ∷ 4 ∷ 4 ∷ 1 ∷ 3 ∷ 5 ∷ 8 ∷ 6 ∷ 1 ∷ 0 ∷ 8 ∷ 8 ∷ [])
 
 opens : openOf set lent got memory .answer ≡ good tt
 unfolding Holds
@@ -105,14 +105,14 @@ unfolding Holds
 starts = (second-claim .start (triple 0 0 0) .0 (refl, refl, refl) .1, second-claim .start (triple 0 0 0) .1 (omega arith, refl))
 
 -- the list that expand answers after the opening, and the one that the run left
-abbrev two : Part
-two = record { first = 1; count = 2 }
+abbrev three : Part
+three = record { first = 1; count = 3 }
 
-pub answered : PapersList c (worldOf (expandOf lent (opened .session) (opened .memory) 0)) 0 two
+pub answered : PapersList c (worldOf (expandOf lent (opened .session) (opened .memory) 0)) 0 three
 unfolding Holds
-answered = first-claim .answers 0 two refl
+answered = first-claim .answers 0 three refl
 
-pub listed : PapersList c left 0 two
+pub listed : PapersList c left 0 three
 unfolding Holds
 listed = second-claim .lists 0 (omega arith, refl)
 
@@ -124,7 +124,7 @@ kept : KeptMove (composedOf c) (triple 0 0 0) bySigma 0
 unfolding Holds listedAt goods
 kept = listed .moves .exactly (bySigma, 0) .0 (here refl)
 
-as-many : 2 ≡ length (movesIn c left 0)
+as-many : 3 ≡ length (movesIn c left 0)
 as-many = listed .count
 
 directed : (d : MatchType) → directionOf c (triple 0 0 0) ≡ good d → d ≡ inputs

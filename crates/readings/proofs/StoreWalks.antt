@@ -1,21 +1,26 @@
--- For closed instances of 3c: the accepting paths of a store without cycles, computed, and a test of "finished".
+-- For closed instances of 3c: the accepting paths of a store without cycles, computed, and tests of "settled" and "finished".
 use mathlib.Core.Path.{_≡_, refl, sym, subst}
-use mathlib.Core.Bool.{Bool, true, false, _&&_, false≢true}
+use mathlib.Core.Bool.{Bool, true, false, not, _&&_, _||_, false≢true}
 use mathlib.Core.List.{List, [], _∷_, _++_, map, flatMap, List·Memᴰ as In, List·Memᴰ·head as here, List·Memᴰ·not-nil, List·Memᴰ·cases-cons, List·Memᴰ·append-cases, Memᴰ·append-left, Memᴰ·append-right, Memᴰ·map, Memᴰ·of-map}
-use mathlib.Core.Logic.{_↔_, ⊎-elim}
+use mathlib.Core.Logic.{_↔_, _⊎_, inl, inr, ⊎-elim}
 use mathlib.Core.Option.{Option, none, some}
 use Prim.Native.Nat.{ℕ, zero, suc}
 use native.Mathlib.Omega.{arith}
 use lib.Dec.{eqb, ltb, leb}
-use borrow.Author.Tests.{eqb-true, ltb-true, leb-true}
+use borrow.Author.Tests.{eqb-true, eqb-false, ltb-true, leb-true, not-true}
 use Rattle.lists.specs.Lists.{every, interval}
 use Rattle.lists.proofs.Members.{and-left, and-right, in-flat, of-flat, every-in, in-interval}
 use Rattle.words.specs.Labels.{noLabel, Checked, good, refused}
-use Rattle.words.specs.Settings.{Settings, Lent}
+use Rattle.words.specs.Matches.{inputs, outputs}
+use Rattle.words.specs.Machines.{trCount, machineOf}
+use Rattle.words.specs.Sigmas.{isSet}
+use Rattle.words.specs.Sides.{Side, only, both}
+use Rattle.words.specs.Settings.{Settings, Lent, compositionOf}
 use Rattle.calls.specs.Store.{expandedAt}
 use Rattle.calls.specs.Sequences.{World}
 use Rattle.readings.specs.Worlds.{finalIn, UsedState, Expanded, recordsIn, targetOf}
-use Rattle.readings.specs.StorePaths.{Settled, Finished, AcceptingFrom, AcceptingRecords}
+use Rattle.words.proofs.ListLaws.{list-member}
+use Rattle.readings.specs.StorePaths.{AllRead, Settled, sigma2, SigmaOn2AtMost, Finished, AcceptingFrom, AcceptingRecords}
 
 abbrev isEnd : Checked (Option ℕ) → Bool
 isEnd (good (some x)) = true
@@ -47,35 +52,81 @@ test-expanded : (w : World) (n : ℕ) → expandedTest w n ≡ true → Expanded
 unfolding expandedTest
 test-expanded w n e = (ltb-true _ _ (and-left (ltb n (w .session .used .states)) _ e), eqb-true _ _ (and-right (ltb n (w .session .used .states)) _ e))
 
--- all that is read, and no sigma, by a test
-unfoldable pub settledTest : Settings → Lent → World → Bool
+-- all that is read, by a test
+unfoldable readTest : Lent → World → Bool
 unfolding expandedTest interval every
-settledTest s l w = (eqb (s .sigma1) noLabel && eqb (s .sigma2) noLabel) && every (λ n. expandedTest w n && isGood (finalIn l w n .answer)) (interval 0 (w .session .used .states))
+readTest l w = every (λ n. expandedTest w n && isGood (finalIn l w n .answer)) (interval 0 (w .session .used .states))
+
+test-read : (l : Lent) (w : World) → readTest l w ≡ true → AllRead l w
+unfolding readTest
+test-read l w e = record {
+  expanded = λ n i. test-expanded w n (and-left (expandedTest w n) _ (each n i));
+  weighed = λ n i. good-is (finalIn l w n .answer) (and-right (expandedTest w n) _ (each n i));
+}
+  where
+    each : (n : ℕ) → UsedState w n → expandedTest w n && isGood (finalIn l w n .answer) ≡ true
+    each n i = every-in (λ n. expandedTest w n && isGood (finalIn l w n .answer)) e (in-interval 0 (w .session .used .states) n (omega arith) (omega (arith, i)))
+
+-- and no sigma
+unfoldable pub settledTest : Settings → Lent → World → Bool
+unfolding readTest
+settledTest s l w = (eqb (s .sigma1) noLabel && eqb (s .sigma2) noLabel) && readTest l w
 
 pub test-settled : (s : Settings) (l : Lent) (w : World) → settledTest s l w ≡ true → Settled s l w
 unfolding settledTest
 test-settled s l w e =
     let sigmas = and-left (eqb (s .sigma1) noLabel && eqb (s .sigma2) noLabel) _ e in
-    let states = and-right (eqb (s .sigma1) noLabel && eqb (s .sigma2) noLabel) _ e in
-    let each : (n : ℕ) → UsedState w n → expandedTest w n && isGood (finalIn l w n .answer) ≡ true
-    = λ n i. every-in (λ n. expandedTest w n && isGood (finalIn l w n .answer)) states (in-interval 0 (w .session .used .states) n (omega arith) (omega (arith, i))) in
     record {
       sigma1 = eqb-true _ _ (and-left (eqb (s .sigma1) noLabel) _ sigmas);
       sigma2 = eqb-true _ _ (and-right (eqb (s .sigma1) noLabel) _ sigmas);
-      read = record {
-        expanded = λ n i. test-expanded w n (and-left (expandedTest w n) _ (each n i));
-        weighed = λ n i. good-is (finalIn l w n .answer) (and-right (expandedTest w n) _ (each n i));
-      };
+      read = test-read l w (and-right (eqb (s .sigma1) noLabel && eqb (s .sigma2) noLabel) _ e);
     }
 
--- 3c's condition, by a test
-unfoldable pub finishedTest : Settings → Lent → World → Bool
-unfolding settledTest
-finishedTest s l w = leb (s .filter) 2 && settledTest s l w
+-- sigma on machine 2 alone, or none, by a test
+abbrev readsLetters : Side → Bool
+readsLetters (only inputs) = true
+readsLetters (only outputs) = false
+readsLetters both = true
 
-pub test-finished : (s : Settings) (l : Lent) (w : World) → finishedTest s l w ≡ true → Finished s l w
+letters-side : (side : Side) → readsLetters side ≡ true → (side ≡ only inputs) ⊎ (side ≡ both)
+letters-side (only inputs) e = inl refl
+letters-side (only outputs) e = absurd (false≢true e)
+letters-side both e = inr refl
+
+unfoldable sigmaTest : Settings → Lent → Side → Bool
+unfolding interval every
+sigmaTest s l side =
+    eqb (s .sigma1) noLabel
+    && (eqb (s .sigma2) noLabel || (readsLetters side && every (λ t. not (eqb (machineOf (l .m1) .output t) (s .sigma2))) (interval 1 (trCount (l .m1)))))
+
+test-sigma : (s : Settings) (l : Lent) (side : Side) → sigmaTest s l side ≡ true → SigmaOn2AtMost (compositionOf s l side)
+unfolding sigmaTest
+test-sigma s l side e = record {
+  alone = eqb-true _ _ (and-left (eqb (s .sigma1) noLabel) _ e);
+  side = λ h. letters-side side (and-left (readsLetters side) _ (set h));
+  letters = λ h q t i z.
+      let r = list-member (l .m1) q i in
+      let test = every-in (λ t. not (eqb (machineOf (l .m1) .output t) (s .sigma2))) (and-right (readsLetters side) _ (set h)) (in-interval 1 (trCount (l .m1)) t (omega (arith, r .0)) (omega (arith, r .1))) in
+      eqb-false _ _ (not-true _ test) z;
+}
+  where
+    second : (a b : Bool) → not a ≡ true → a || b ≡ true → b ≡ true
+    second true b h z = absurd (false≢true h)
+    second false b h z = z
+
+    set : isSet (sigma2 (compositionOf s l side)) ≡ true → readsLetters side && every (λ t. not (eqb (machineOf (l .m1) .output t) (s .sigma2))) (interval 1 (trCount (l .m1))) ≡ true
+    set h = second (eqb (s .sigma2) noLabel) _ h (and-right (eqb (s .sigma1) noLabel) _ e)
+
+-- 3c's condition, by a test
+unfoldable pub finishedTest : Settings → Lent → Side → World → Bool
+unfolding sigmaTest readTest
+finishedTest s l side w = leb (s .filter) 2 && (sigmaTest s l side && readTest l w)
+
+pub test-finished : (s : Settings) (l : Lent) (side : Side) (w : World) → finishedTest s l side w ≡ true → Finished s l (compositionOf s l side) w
 unfolding finishedTest
-test-finished s l w e = record { settled = test-settled s l w (and-right (leb (s .filter) 2) _ e); filter = leb-true _ _ (and-left (leb (s .filter) 2) _ e) }
+test-finished s l side w e =
+    let r = and-right (leb (s .filter) 2) _ e in
+    record { filter = leb-true _ _ (and-left (leb (s .filter) 2) _ e); sigma = test-sigma s l side (and-left (sigmaTest s l side) _ r); read = test-read l w (and-right (sigmaTest s l side) _ r) }
 
 module _ (l : Lent) (w : World) where
   -- the accepting paths of fewer than k records from state n on

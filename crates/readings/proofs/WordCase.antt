@@ -30,7 +30,7 @@ use Rattle.calls.proofs.Cases.{Holds}
 use Rattle.calls.proofs.StarCases.{plain, lend, session, world}
 use Rattle.readings.specs.Listed.{goods, listedAt}
 use Rattle.readings.specs.Worlds.{worldOf, targetOf}
-use Rattle.readings.specs.StorePaths.{AcceptingFrom, movesOfRecords, pairOfRecords, recordsWeight, Finished}
+use Rattle.readings.specs.StorePaths.{AcceptingFrom, movesOfRecords, pairOfRecords, recordsWeight, Settled}
 use Rattle.readings.specs.Follows.{ReadsAs}
 use Rattle.readings.specs.Demands.{Demand2}
 use Rattle.readings.proofs.Demand2.{demand-2}
@@ -81,12 +81,9 @@ claimed2 =
     subst (Demand2 set lent c) runs
     (subst (λ x. Demand2 set lent (compositionOf set lent x) (after lent (worldOf (openOf set lent got memory)) (run ∷ []))) (good-is (sym (r .1) ∙ rule)) (r .2 (run ∷ []) tt))
 
-finished : Finished set lent left
+settled : Settled set lent left
 unfolding Holds
-finished = record {
-  settled = record { sigma1 = refl; sigma2 = refl; read = record { expanded = below-two _ (omega arith, refl) (omega arith, refl); weighed = below-two _ (none, refl) (some 1, refl) } };
-  filter = omega arith;
-}
+settled = record { sigma1 = refl; sigma2 = refl; read = record { expanded = below-two _ (omega arith, refl) (omega arith, refl); weighed = below-two _ (none, refl) (some 1, refl) } }
 
 -- the paths 1:9, and no others
 abbrev four : List (List ℕ)
@@ -148,11 +145,11 @@ in-the-store = (four, just-these, refl)
 
 -- which is Mohri, Pereira and Riley's sum over the middle words,
 pub over-middle : ComposedWeighs naturals (exact count) (machineOf words1) (machineOf words2) (1 ∷ []) (9 ∷ []) 57
-over-middle = claimed2 .words finished (1 ∷ []) (9 ∷ []) .sum 57 .0 in-the-store
+over-middle = claimed2 .words (omega arith) settled (1 ∷ []) (9 ∷ []) .sum 57 .0 in-the-store
 
 -- and back
 pub back-again : SumIs naturals Reads (recordsWeight count lent left 0) 57
-back-again = claimed2 .words finished (1 ∷ []) (9 ∷ []) .sum 57 .1 over-middle
+back-again = claimed2 .words (omega arith) settled (1 ∷ []) (9 ∷ []) .sum 57 .1 over-middle
 
 -- record 4 is the pair of the machines' records 3 and 3, and weighs the product of 4 and 7
 pub its-pair : pairOfRecords c left (4 ∷ []) ≡ (3 ∷ [], 3 ∷ [])
@@ -163,8 +160,8 @@ reads4 : Reads (4 ∷ [])
 reads4 = just-these .exactly (4 ∷ []) .0 (there (there (there (here refl))))
 
 pub pairs-up : PairOf naturals (exact count) (machineOf words1) (machineOf words2) (1 ∷ []) (9 ∷ []) (3 ∷ [], 3 ∷ [])
-pairs-up = subst (PairOf naturals (exact count) (machineOf words1) (machineOf words2) (1 ∷ []) (9 ∷ [])) its-pair (claimed2 .words finished (1 ∷ []) (9 ∷ []) .paths .goes (4 ∷ []) reads4)
+pairs-up = subst (PairOf naturals (exact count) (machineOf words1) (machineOf words2) (1 ∷ []) (9 ∷ [])) its-pair (claimed2 .words (omega arith) settled (1 ∷ []) (9 ∷ []) .paths .goes (4 ∷ []) reads4)
 
 pub multiplies : recordsWeight count lent left 0 (4 ∷ []) ≡ weightOfPair naturals (exact count) (machineOf words1) (machineOf words2) (3 ∷ [], 3 ∷ [])
 multiplies =
-    claimed2 .words finished (1 ∷ []) (9 ∷ []) .weights (4 ∷ []) reads4 ∙ ap (weightOfPair naturals (exact count) (machineOf words1) (machineOf words2)) its-pair
+    claimed2 .words (omega arith) settled (1 ∷ []) (9 ∷ []) .weights (4 ∷ []) reads4 ∙ ap (weightOfPair naturals (exact count) (machineOf words1) (machineOf words2)) its-pair

@@ -2,29 +2,31 @@
 use mathlib.Core.Path.{_≡_, refl, sym, _∙_, ap}
 use mathlib.Core.Bool.{Bool}
 use mathlib.Core.List.{List, map}
-use mathlib.Core.Logic.{_↔_, Iff·trans}
+use mathlib.Core.Logic.{_↔_, Iff·trans, inl}
 use Prim.Native.Nat.{ℕ}
 use Rattle.papers.specs.Machine.{Machine}
 use Rattle.papers.specs.Weight.{semiring}
 use Rattle.papers.specs.Filter.{MoveKind}
-use Rattle.papers.specs.Paths.{word}
+use Rattle.papers.specs.Paths.{word, Matching}
 use Rattle.papers.specs.Sums.{PairOf, weightOfPair}
 use Rattle.papers.proofs.SemiringLaws.{semiring-laws}
 use Rattle.papers.proofs.MiddleWords.{over-middle-words}
+use Rattle.words.specs.Labels.{noLabel}
 use Rattle.words.specs.Steps.{Composition}
 use Rattle.words.specs.Settings.{Lent}
 use Rattle.words.specs.AsPapers.{exact}
 use Rattle.calls.specs.Sequences.{World}
 use Rattle.readings.specs.Correspondence.{OneToOne, Onto}
 use Rattle.readings.specs.Worlds.{Sound}
-use Rattle.readings.specs.StorePaths.{AcceptingRecords, machine1, machine2, AgreeingPair, pairOfRecords, recordsOfPair, recordsWeight, ReadFirst, WriteSecond, Paths}
+use Rattle.readings.specs.StorePaths.{AcceptingRecords, machine1, machine2, sigma2, PairsWith, AgreeingPair, pairOfRecords, recordsOfPair, recordsWeight, ReadFirst, WriteOwn, Paths}
 use Rattle.readings.specs.Follows.{ReadsAs, ByWords}
 use Rattle.readings.proofs.Correspondences.{onto, exchanged-onto, same-sum}
+use Rattle.readings.proofs.Letters.{agree-unset, write-own}
 use Rattle.readings.proofs.StorePaths.{pair-weighs}
 
--- of any correspondence that is onto the agreeing pairs
-module _ (l : Lent) (c : Composition) (w : World) (from : List ℕ × List ℕ → List ℕ) (P : Onto (AcceptingRecords l w) (AgreeingPair c) (pairOfRecords c w) from)
-    (read : ReadFirst l c w) (written : WriteSecond l c w) (x y : List ℕ) where
+-- without sigma, of any correspondence that is onto the agreeing pairs
+module _ (l : Lent) (c : Composition) (w : World) (unset : sigma2 c .label ≡ noLabel) (from : List ℕ × List ℕ → List ℕ) (P : Onto (AcceptingRecords l w) (AgreeingPair c) (pairOfRecords c w) from)
+    (read : ReadFirst l c w) (written : WriteOwn l c w) (x y : List ℕ) where
   abbrev A : Machine
   A = machine1 c
 
@@ -38,9 +40,12 @@ module _ (l : Lent) (c : Composition) (w : World) (from : List ℕ × List ℕ �
   -- its middle word is the inner label of both
   by-middle : (p : List ℕ × List ℕ) → Two p ↔ PairOf (semiring (c .kind)) (exact (c .kind)) A B x y p
   by-middle p = (
-    λ h. (word (map (A .output) (p .0)), (h .0 .first, h .1, refl), (h .0 .second, sym (h .0 .inner), h .2)),
-    λ h. (record { first = h .1 .0; second = h .2 .0; inner = h .1 .2 ∙ sym (h .2 .1) }, h .1 .1, h .2 .2),
+    λ h. (word (map (A .output) (p .0)), (h .0 .first, h .1, refl), (h .0 .second, sym (same .0 (h .0 .inner)), h .2)),
+    λ h. (record { first = h .1 .0; second = h .2 .0; inner = same .1 (h .1 .2 ∙ sym (h .2 .1)) }, h .1 .1, h .2 .2),
   )
+    where
+      same : Matching (PairsWith (sigma2 c)) A B (p .0) (p .1) ↔ (word (map (A .output) (p .0)) ≡ word (map (B .input) (p .1)))
+      same = agree-unset (sigma2 c) unset _ _
 
   -- it is onto the pairs of paths x:z, z:y for the paths that read x as y
   pub of-words : Onto (ReadsAs l w x y) (PairOf (semiring (c .kind)) (exact (c .kind)) A B x y) (pairOfRecords c w) from
@@ -58,9 +63,9 @@ module _ (l : Lent) (c : Composition) (w : World) (from : List ℕ × List ℕ �
         to-from = λ p h. P .to-from p (h .0);
       })
 
-pub by-words : (l : Lent) (c : Composition) (pick : Bool → Bool → MoveKind) (w : World) → Sound l c w → Paths l c pick w → (x y : List ℕ) → ByWords l c pick w x y
-by-words l c pick w S P x y =
-    let o = of-words l c w (recordsOfPair c pick w) (onto (P .paths)) (P .inputs) (P .outputs) x y in
+pub by-words : (l : Lent) (c : Composition) (pick : Bool → Bool → MoveKind) (w : World) → sigma2 c .label ≡ noLabel → Sound l c w → Paths l c pick w → (x y : List ℕ) → ByWords l c pick w x y
+by-words l c pick w unset S P x y =
+    let o = of-words l c w unset (recordsOfPair c pick w) (onto (P .paths)) (P .inputs) (write-own l c w (inl unset) (P .outputs)) x y in
     let one : OneToOne (ReadsAs l w x y) (PairOf (semiring (c .kind)) (exact (c .kind)) (machine1 c) (machine2 c) x y) (pairOfRecords c w) (recordsOfPair c pick w)
     = record { goes = o .goes; comes = o .comes; from-to = λ rs h. P .paths .from-to rs (h .0); to-from = o .to-from } in
     let weighs : (rs : List ℕ) → ReadsAs l w x y rs

@@ -3,7 +3,7 @@
 use mathlib.Core.Path.{_≡_}
 use mathlib.Core.List.{List, _∷_, _++_, List·Memᴰ}
 use mathlib.Core.Logic.{_≢_, _↔_}
-use Prim.Native.Nat.{ℕ}
+use Prim.Native.Nat.{ℕ, _≤_}
 use Rattle.papers.specs.Weight.{semiring}
 use Rattle.papers.specs.Composition.{Triple, Start}
 use Rattle.words.specs.Labels.{good, refused}
@@ -23,7 +23,7 @@ use Rattle.readings.specs.Worlds.{worldOf, expandIn, finalIn, OpeningsRe
 use Rattle.readings.specs.Answers.{ExpandedBy, Answers}
 use Rattle.readings.specs.Again.{Again, replyAfter, GivesAgain}
 use Rattle.readings.specs.Larger.{NoShorter, Larger}
-use Rattle.readings.specs.StorePaths.{AllRead, Finished, Paths}
+use Rattle.readings.specs.StorePaths.{AllRead, Settled, Finished, Paths}
 use Rattle.readings.specs.Follows.{PapersList, RefusedFor, PapersPaths, ByWords}
 
 -- The claim about one list of calls, from the world w that an opening with the settings s in the memory m left; c is the composition that it fixed.
@@ -41,7 +41,7 @@ pub record Demand3 (s : Settings) (l : Lent) (m : Memory) (c : Composition) (w :
   -- 3b
   pub larger : (got : Session) (big : Memory) → NoShorter m big → Larger s l w cs got big
   -- 3c
-  pub paths : Finished s l (after l w cs) → Paths l c (pickOf (s .filter)) (after l w cs)
+  pub paths : Finished s l c (after l w cs) → Paths l c (pickOf (s .filter)) (after l w cs)
 
 -- 3s: "For every list of calls after one accepted opening .. whatever memory held before that opening". The side is the one that the rule gives.
 abbrev pub Claim : Type 0
@@ -66,7 +66,7 @@ pub record Demand2 (s : Settings) (l : Lent) (c : Composition) (w : World) : Typ
   -- document 01's filter, which looks at "none" and "all", leaves the accepting paths that the papers' own leaves
   pub filters : SamePaths (semiring (c .kind)) (exact (c .kind)) (composedOf c) (filteredBy (papersFilterOf (s .filter)) (composedOf c))
   -- with no sigma label set and a filter of at most 2, the weight of every pair of words
-  pub words : Finished s l w → (x y : List ℕ) → ByWords l c (pickOf (s .filter)) w x y
+  pub words : s .filter ≤ 2 → Settled s l w → (x y : List ℕ) → ByWords l c (pickOf (s .filter)) w x y
 
 -- P holds of the world that each list of calls leads to that demand 3 speaks of, and of the composition that the opening fixed
 abbrev pub AfterCalls : (Settings → Lent → Composition → World → Type 0) → Type 0

@@ -15,7 +15,7 @@ use Rattle.words.specs.AsPapers.{exact}
 use Rattle.calls.specs.Sequences.{World}
 use Rattle.readings.specs.Correspondence.{OneToOne, Onto}
 use Rattle.readings.specs.Merge.{move}
-use Rattle.readings.specs.StorePaths.{Settled, AcceptingRecords, machine1, machine2, Accepting, AgreeingPair, recordsOfMoves, pairOfRecords, recordsOfPair, recordsWeight, WeighBoth, ReadFirst, WriteSecond, Paths}
+use Rattle.readings.specs.StorePaths.{Settled, AcceptingRecords, machine1, machine2, Accepting, AgreeingPair, recordsOfMoves, pairOfRecords, recordsOfPair, recordsWeight, WeighBoth, ReadFirst, WriteOwn, Paths}
 use Rattle.readings.specs.Follows.{ReadsAs, ByWords}
 use Rattle.readings.specs.Demands.{AfterCalls}
 
@@ -33,7 +33,7 @@ pub record NoneLost (l : Lent) (c : Composition) (w : World) : Type 0 where
   pub paths : Onto (AcceptingRecords l w) (AgreeingPair c) (pairOfRecords c w) (recordsOfPair c sequencePick w)
   pub weights : WeighBoth l c w
   pub inputs : ReadFirst l c w
-  pub outputs : WriteSecond l c w
+  pub outputs : WriteOwn l c w
   -- So a least cost is that of the pairs: of all readings, and of those of a pair of words.
   pub least : (e : semiring (c .kind) .Element)
       → LeastIs (semiring (c .kind)) (AcceptingRecords l w) (recordsWeight (c .kind) l w 0) e
@@ -63,7 +63,7 @@ pub record StepByStep (l : Lent) (c : Composition) (w : World) : Type 0 where
   pub paths : OneToOne (AcceptingRecords l w) (EqualPair c) (pairOfRecords c w) (λ p. recordsOfMoves c w 0 (together (p .0) (p .1)))
   pub weights : WeighBoth l c w
   pub inputs : ReadFirst l c w
-  pub outputs : WriteSecond l c w
+  pub outputs : WriteOwn l c w
 
 -- the claim about a world; c is the composition that the opening with the settings s fixed
 pub record Further (s : Settings) (l : Lent) (c : Composition) (w : World) : Type 0 where

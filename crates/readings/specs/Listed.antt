@@ -19,7 +19,7 @@ goods (refused n ∷ l) = goods l
 abbrev pub entryOf : Kept → Edges × ℕ
 entryOf v = (edgesOf (v .move), v .next)
 
--- Without sigma, and at an expanded state, no list holds a refusal, so that the places are those of 01's list.
+-- With sigma on machine 2 alone or none (`SigmaOn2AtMost`), and at an expanded state, no list holds a refusal, so that the places are those of 01's list.
 unfoldable pub listedAt : Composition → Triple → List (Edges × ℕ)
 listedAt c s = map entryOf (goods (keptAt c s))
 

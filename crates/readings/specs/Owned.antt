@@ -104,8 +104,8 @@ pub record Meets (s : Settings) (l : Lent) (w : World) : Type 0 where
   -- demand 3: what the records say, and what the next call answers
   pub sound : Sound l (compositionOf s l side) w
   pub answers : Answers l (compositionOf s l side) w
-  -- 3c: the accepting paths, with no sigma label set and a filter of at most 2, once all found states are expanded and no final weight would be refused
-  pub paths : Finished s l w → Paths l (compositionOf s l side) (pickOf (s .filter)) w
+  -- 3c: the accepting paths, with no sigma label set, or one on machine 2 alone (`SigmaOn2AtMost`), and a filter of at most 2, once all found states are expanded and no final weight would be refused
+  pub paths : Finished s l (compositionOf s l side) w → Paths l (compositionOf s l side) (pickOf (s .filter)) w
   -- demand 2b: what the papers say
   pub papers : Demand2 s l (compositionOf s l side) w
   -- 02, 2.1: null, trivial and no-match
