@@ -8,15 +8,16 @@ gen.py SEED --big S1 T1 S2 T2 LABELS [--kind K] [--filter F] [--eps P]
 The first form prints COUNT cases of six lines, as `replay` reads them: "-" (a
 whole listing) or state numbers (expansions in that order), the settings, the
 two allowed lists ("-": no list), both machines. They are drawn with an aim
-(AIMS below), so that sigma in all modes, both ways of deciding under side
-"both", epsilons beside empty states, every refusal and full memory turn up
-often. The second form prints COUNT groups of lines for `oracle --many`: with
---order a line of state numbers, then the settings, then with --lists the two
-allowed lists, then both machines; --damage breaks about one machine in three.
-In both, --filters6 also draws the filters 3 to 5. The third form prints one
-group of three lines for `oracle bench`: a machine of S1 states and T1
-transitions and one of S2 and T2, with that many labels above 0 and a share P of
-epsilons. The same arguments print the same lines.
+(AIMS below), so that sigma in all modes, alone and after a label's own matches,
+both ways of deciding under side "both", epsilons beside empty states, every
+refusal and full memory turn up often. The second form prints COUNT groups of
+lines for `oracle --many`: with --order a line of state numbers, then the
+settings, then with --lists the two allowed lists, then both machines; --damage
+breaks about one machine in three. In both, --filters6 also draws the filters 3
+to 5. The third form prints one group of three lines for `oracle bench`: a
+machine of S1 states and T1 transitions and one of S2 and T2, with that many
+labels above 0 and a share P of epsilons. The same arguments print the same
+lines.
 """
 import random
 import sys
@@ -49,14 +50,14 @@ def weight(rng, kind, plain):
                        MAX - 1, MAX])
 
 
-def machine(rng, kind, inner, sigma, size, plain, want, top=None, foreign=MAX, marked=0.55,
+def machine(rng, kind, inner, sigma, size, plain, want, labels=None, foreign=MAX, marked=0.55,
             epsilons=(0.0, 0.2, 0.4, 0.6, 0.9), same=0.3, share=0.3):
     """The words of a machine. `inner` is 0 where inputs are matched and 1
     where outputs are; `want` says what to aim at: sorted inner labels,
-    sorted on both sides, or nothing. `top`: labels are 1 to top. `foreign`: the
-    other machine's sigma, which stands here now and then as a label. `marked`:
-    how often a side mark tells what is so. `same`: how often it is an acceptor.
-    `share`: how often a matched label is sigma."""
+    sorted on both sides, or nothing. `labels`: those above 0 that are drawn.
+    `foreign`: the other machine's sigma, which stands here now and then as a label.
+    `marked`: how often a side mark tells what is so. `same`: how often it is an
+    acceptor. `share`: how often a matched label is sigma."""
     if rng.random() < 0.03:
         states = rng.randint(0, 1)
     else:
@@ -64,7 +65,7 @@ def machine(rng, kind, inner, sigma, size, plain, want, top=None, foreign=MAX, m
     count = 0 if states == 0 else rng.randint(states, 3 * states + 1)
     if rng.random() < 0.1:
         count = min(count, rng.randint(0, 2))
-    labels = list(range(1, top + 1 if top else rng.choice([2, 2, 3, 4])))
+    labels = labels or range(1, rng.choice([2, 2, 3, 4]))
     eps = rng.choice(epsilons)
     acceptor = rng.random() < same
 
@@ -244,16 +245,33 @@ def sigma_case(rng, filters, size=3):
     if rng.random() < 0.5:
         # the other machine's mark would take the side
         marked = [float(sigma[0] != MAX), float(sigma[1] != MAX)]
-    m = [machine(rng, kind, 1 - k, sigma[k], size, plain, "inner", top=1 if sigma[k] != MAX else 3, foreign=sigma[1 - k],
-                 marked=marked[k], epsilons=(0.0, 0.1, 0.3), same=0.5, share=0.5) for k in (0, 1)]
+    m = [machine(rng, kind, 1 - k, sigma[k], size, plain, "inner", labels=(1,) if sigma[k] != MAX else (1, 2, 3),
+                 foreign=sigma[1 - k], marked=marked[k], epsilons=(0.0, 0.1, 0.3), same=0.5, share=0.5) for k in (0, 1)]
     settings = [kind, rng.choice(filters), sigma[0], rng.randint(0, 2), sigma[1], rng.randint(0, 2)]
     return [settings, allowed_of(rng), allowed_of(rng)] + m
+
+
+def own_and_sigma_case(rng, filters, size=2):
+    """Sigma on one machine, below its own labels or above them, and that machine's
+    mark; the other has the same labels, so that many have both own matches and
+    sigma's."""
+    kind, own = rng.randint(0, 1), rng.randint(0, 1)
+    sigma = [rng.choice([1, 9]) if k == own else MAX for k in (0, 1)]
+    m = [machine(rng, kind, 1 - k, sigma[k], size, rng.random() < 0.9, "inner", labels=(2, 3), marked=float(k == own or rng.random() < 0.5),
+                 epsilons=(0.0, 0.0, 0.2), same=0.5, share=0.4) for k in (0, 1)]
+    settings = [kind, rng.choice(filters), sigma[0], rng.randint(0, 2), sigma[1], rng.randint(0, 2)]
+    return [settings, allowed_of(rng), allowed_of(rng)] + m
+
+
+def some_case(rng, filters):
+    """Any machines, or such with labels that have both own matches and sigma's."""
+    return rng.choice([any_case, own_and_sigma_case])(rng, filters)
 
 
 def epsilon_case(rng, filters, size=3):
     """Many epsilons on the inner sides, states that end early, final weights zero."""
     kind = rng.randint(0, 1)
-    m = [machine(rng, kind, inner, MAX, size, True, "inner", top=1, epsilons=(0.5, 0.8, 1.0)) for inner in (1, 0)]
+    m = [machine(rng, kind, inner, MAX, size, True, "inner", labels=(1,), epsilons=(0.5, 0.8, 1.0)) for inner in (1, 0)]
     for w in m:
         for s in range(w[0]):
             x = rng.random()
@@ -268,14 +286,15 @@ def unsorted_case(rng, filters, size=4):
     """Machines that are not sorted: refusals 5 to 7, and the side by fact."""
     kind = rng.randint(0, 1)
     sigma = [rng.choice([MAX, MAX, MAX, 9]) for _ in (0, 1)]
-    m = [machine(rng, kind, 1 - k, sigma[k], size, True, rng.choice(["inner", "none", "none"]), top=4, epsilons=(0.2,)) for k in (0, 1)]
+    m = [machine(rng, kind, 1 - k, sigma[k], size, True, rng.choice(["inner", "none", "none"]), labels=(1, 2, 3, 4),
+                 epsilons=(0.2,)) for k in (0, 1)]
     return [[kind, rng.choice(filters), sigma[0], 0, sigma[1], 0], None, None] + m
 
 
 def large_case(rng, filters, size=3):
     """Weights at the limits of both kinds."""
     kind = rng.randint(0, 1)
-    m = [machine(rng, kind, inner, MAX, size, False, "inner", top=1, epsilons=(0.0, 0.4)) for inner in (1, 0)]
+    m = [machine(rng, kind, inner, MAX, size, False, "inner", labels=(1,), epsilons=(0.0, 0.4)) for inner in (1, 0)]
     return [[kind, rng.choice(filters), MAX, 0, MAX, 0], None, None] + m
 
 
@@ -294,8 +313,9 @@ def full_transitions(rng, filters):
     """Loops times loops: some 1024 transition records, the room of the
     programs. Machine 1's states share one chain. Now and then a walked sigma or
     a weight too large stands in it, and is answered only where room was not
-    lacking before it."""
+    lacking before it. Where machine 2 has a sigma, its last loops may be sigma's."""
     kind, sigma = rng.randint(0, 1), rng.choice([MAX, 9])
+    sigmas = 0 if sigma == MAX else rng.choice([0, 1, 9])
     loops, length = rng.choice([25, 31, 32, 33, 41]), rng.choice([25, 31, 32, 33, 41])
     states = rng.randint(1, 3)
     chain = [[rng.randint(0, 3), 1, 1, rng.randrange(states)] for _ in range(length)]
@@ -305,7 +325,7 @@ def full_transitions(rng, filters):
     machine1 = listed([(final, chain)] + [(final, [])] * (states - 1))
     for s in range(1, states):
         machine1[6 + 3 * s] = rng.choice([1, length, length - 1, rng.randint(1, length)])
-    machine2 = listed([(1, [[1, k % 5, 2, 0] for k in range(loops)])], marks=(1, 0, 0))
+    machine2 = listed([(1, [[1 if k < loops - sigmas else sigma, k % 5, 2, 0] for k in range(loops)])], marks=(1, 0, 0))
     return [[kind, rng.choice(filters), MAX, 0, sigma, 0], None, None, machine1, machine2]
 
 
@@ -346,8 +366,8 @@ def widened(rng, lines):
 
 
 # how often each is drawn
-AIMS = [(any_case, 30), (sigma_case, 34), (epsilon_case, 14), (unsorted_case, 6), (large_case, 8), (damaged_case, 8), (full_transitions, 3), (full_states, 1),
-        (full_fan, 1)]
+AIMS = [(any_case, 30), (sigma_case, 34), (own_and_sigma_case, 12), (epsilon_case, 14), (unsorted_case, 6), (large_case, 8), (damaged_case, 8),
+        (full_transitions, 3), (full_states, 1), (full_fan, 1)]
 
 
 def mixed(rng, filters):

@@ -1,21 +1,21 @@
 #!/usr/bin/env python3
-"""Writes drawn cases of the calls, with what the Rust answers, as a module that the checker judges.
+"""Writes drawn cases of the calls, with what the Rust answers, or the definition where that stands (tests/reference.py), as a module that the checker judges.
 
     python3 tests/call_cases.py RUST SEED COUNT > crates/calls/proofs/Drawn.antt
 
-Name the module in crates/calls/proofs/Lib.antt of a scratch copy and check `calls`. RUST is the folder of rustfst's sources, or the program
-that oracle/build made around it; oracle/gen.py draws machines, settings and orders. Two sorts of cases: what `composed` prints; and an opening, expansions in a drawn order, then the records and the final weight of every found state, on slices of drawn
-lengths and content. Of the second, refusals, lists and final weights are the Rust's; where they stand in memory is worked out here.
+Name the module in crates/calls/proofs/Lib.antt of a scratch copy and check `calls`. RUST is the folder of rustfst's sources, or the program that oracle/build
+made around it; oracle/gen.py draws machines, settings and orders. Two sorts of cases: what `composed` prints; and an opening, expansions in a drawn order, then
+the records and the final weight of every found state, on slices of drawn lengths and content. Of the second, refusals, lists and final weights are those
+answers; where they stand in memory is worked out here.
 """
 import random
-import subprocess
 import sys
 
 import rust
-from model import EXPANDED, FIRST, STATE_WORDS, TR_WORDS, state_record
+from gen import ALL, some_case
+from model import EXPANDED, FIRST, SIDES, STATE_WORDS, TR_WORDS, state_record
+from reference import reference
 from state_cases import parsed
-
-SIDES = {"input": 0, "output": 1, "both": 2}
 
 
 def antt(ws):
@@ -34,14 +34,10 @@ def triple(s):
     return f"(triple {s[0]} {s[1]} {s[2]})"
 
 
-def oracle_many(command, text):
-    return subprocess.run(command, input=text, capture_output=True, text=True, check=True).stdout.split("--\n")
-
-
 def line(text):
     kind, *rest = text.split()
     if kind == "side":
-        return f"sideLine {SIDES[rest[0]]}"
+        return f"sideLine {SIDES.index(rest[0])}"
     if kind == "s":
         final = "none" if rest[4] == "-" else f"(some {rest[4]})"
         return f"stateLine {rest[0]} {triple(rest[1:4])} {final}"
@@ -49,15 +45,14 @@ def line(text):
 
 
 def printing(oracle, seed, count):
-    text = subprocess.run([sys.executable, rust.GEN, seed, count, "--filters6"], capture_output=True, text=True, check=True).stdout
-    rows = text.split("\n")[:-1]
-    for k, out in enumerate(oracle_many([oracle, "composed", "--many", *rust.READING], text)[:-1]):
-        w, m1, m2 = (antt(r.split()) for r in rows[3 * k:3 * k + 3])
-        yield f"printing {w} {m1} {m2} {seq(line(t) for t in out.strip().split(chr(10)))}"
+    rng = random.Random(int(seed))
+    cases = [some_case(rng, ALL) for _ in range(int(count))]
+    for (settings, _, _, m1, m2), one in zip(cases, reference(oracle, [[None, c[0], None, None, *c[3:]] for c in cases])):
+        yield f"printing {antt(settings)} {antt(m1)} {antt(m2)} {seq(map(line, one.answer.splitlines()))}", one.ours
 
 
 class Slices:
-    """Memory as document 01 lays it out, filled with the Rust's answers."""
+    """Memory as document 01 lays it out, filled with the answers."""
 
     def __init__(self, draw, states, trs):
         self.heads = [draw.choice((0, 7)) for _ in range(draw.randint(1, 4))]
@@ -94,25 +89,21 @@ class Slices:
 
 def calling(oracle, seed, count):
     draw = random.Random(int(seed))
-    text = subprocess.run([sys.executable, rust.GEN, seed, count, "--lists", "--order", "--filters6"], capture_output=True, text=True, check=True).stdout
-    rows = text.split("\n")[:-1]
-    for k in range(0, len(rows), 6):
-        rows[k] = " ".join(str(draw.randint(0, 5)) for _ in range(8))
-        room = (draw.randint(1, 9), draw.randint(0, 14))
-        case = "\n".join(rows[k:k + 6]) + "\n"
-        out = oracle_many([oracle, "order", "--many", "--lists", *rust.READING, f"--room={room[0]}:{room[1]}"], case)[0]
-        yield calls(draw, room, [int(x) for x in rows[k].split()], rows[k + 1:k + 6], *parsed(out))
+    for _ in range(int(count)):
+        orders, room = [draw.randint(0, 5) for _ in range(8)], (draw.randint(1, 9), draw.randint(0, 14))
+        given = some_case(draw, ALL)
+        for one in reference(oracle, [[orders, *given]], room):
+            yield calls(draw, room, orders, given, *parsed(one.answer)), one.ours
 
 
-def calls(draw, room, orders, rows, side, said, states):
-    settings = antt(rows[0].split())
-    lists = [option(None if r == "-" else r.split()) for r in rows[1:3]]
-    lent = f"(record {{ m1 = {antt(rows[3].split())}; m2 = {antt(rows[4].split())}; allowed1 = {lists[0]}; allowed2 = {lists[1]} }})"
+def calls(draw, room, orders, given, side, said, states):
+    settings, lists, machines = antt(given[0]), [option(ws) for ws in given[1:3]], [antt(m) for m in given[3:]]
+    lent = f"(record {{ m1 = {machines[0]}; m2 = {machines[1]}; allowed1 = {lists[0]}; allowed2 = {lists[1]} }})"
     mem = Slices(draw, *room)
     asked, replies = [f"opening (settingsOf {settings}) {lent}"], []
 
     def session():
-        return f"(session {settings} {SIDES[side]} {mem.found} {mem.used})"
+        return f"(session {settings} {SIDES.index(side)} {mem.found} {mem.used})"
 
     if isinstance(side, int):
         return case(lent, mem, asked, [f"answered (refusal {side}) (session (1 ∷ []) 3 4 5)"], mem.before, "(session (1 ∷ []) 3 4 5)")
@@ -143,7 +134,7 @@ def case(lent, mem, asked, replies, slices, session):
 def main():
     oracle, seed, count = rust.oracle_at(sys.argv[1]), *sys.argv[2:4]
     found = list(printing(oracle, seed, count)) + list(calling(oracle, seed, count))
-    print("-- Written by tests/call_cases.py.")
+    print("-- Written by tests/call_cases.py. The answers are the Rust's, but for those that are marked.")
     print("use mathlib.Core.Path.{refl}")
     print("use mathlib.Core.List.{List, [], _∷_}")
     print("use mathlib.Core.Option.{none, some}")
@@ -151,9 +142,10 @@ def main():
     print("use Rattle.calls.specs.Listing.{sideLine, stateLine, trLine, endLine, refusedLine, settingsOf}")
     print("use Rattle.calls.proofs.Cases.{Case, printing, calling, Holds}")
     print("use Rattle.calls.proofs.StarCases.{triple, session, world, listPart}")
-    for k, text in enumerate(found):
+    for k, (text, ours) in enumerate(found):
         proof = "refl" if text.startswith("printing") else "(refl, refl)"
-        print(f"\ncase{k} : Holds ({text})\nunfolding Holds\ncase{k} = {proof}")
+        print("\n-- the definition's" if ours else "")
+        print(f"case{k} : Holds ({text})\nunfolding Holds\ncase{k} = {proof}")
 
 
 main()

@@ -4,25 +4,31 @@
     python3 tests/call_lists.py                 writes crates/call_lists/stdin and crates/call_lists/stdout
     python3 tests/call_lists.py --rust RUST     compares the model with the Rust on the machines that are drawn
 
-What must be printed is worked out by the model of document 01 in model.py. RUST is the folder of rustfst's sources, or the program that
-oracle/build made around it; it knows no sessions and no memory, so what is compared with it are the side, the lists and final weights.
+What must be printed is worked out by the model in model.py. RUST is the folder of rustfst's sources, or the program that oracle/build made around it; it knows
+no sessions and no memory, so what is compared with it are the side, the lists and final weights, where it is the reference (reference.py).
 """
 import os
 import random
 import sys
+from collections import Counter
+from functools import partial
 from itertools import product
 
 import rust
-from features import Watched, of_cell
-from gen import ADDED, ALL, FILTERS
+from features import BOTH, Watched, of_cell, of_sigmas
+from gen import ADDED, ALL, FILTERS, own_and_sigma_case, sigma_case
 from machine import LIMIT, MAX, Words
-from model import EXPANDED, FILTER_STATE, FIRST, MOVES, SIDES, STATE_WORDS, TR_WORDS, Lent, World, filtered
+from model import EXPANDED, FILTER_STATE, FIRST, MOVES, STATE_WORDS, TR_WORDS, Lent, World, filtered
+from reference import reference
+from state_cases import parsed
 
-SEED, CASES = 1, 150
+SEED, CASES, OPENINGS = 1, 80, 3000
 # the numbers that each call must answer somewhere in the lists
 WANTED = {"o": (0, 1, 2, 3, 4, 5, 6, 7, 13), "e": range(14), "f": (*range(10), 12), "r": (*range(9), 10, 11, 12, 13)}
 # request 2.1's "from any f": the cells that must be gone through from an f that only a changed record has
 ANY_F = [of_cell(filter, move, f, filtered(filter, move, None, None, f)) for filter, move, f in product(ADDED, MOVES, (1, 2))]
+# what must be shown of sigma, each in so many lists: a refusal is of a call that looked up a label with own and sigma matches
+SIGMAS, OFTEN = [*of_sigmas(), *(f"{BOTH}, refused {n}" for n in (11, 12, 13))], 3
 
 
 def weight(draw, kind):
@@ -76,21 +82,28 @@ def drawn_list(draw):
     return [draw.choice((0, 1, 2, 3, 9, MAX)) for _ in range(draw.randint(0, 3))] if draw.random() < 0.3 else None
 
 
+def drawn_inputs(draw):
+    """Settings, allowed lists and machines; some with an aim at sigma."""
+    if draw.random() < 0.4:
+        return draw.choice((sigma_case, own_and_sigma_case, own_and_sigma_case))(draw, ALL)
+    settings = drawn_settings(draw)
+    return [settings, drawn_list(draw), drawn_list(draw), *(machine(draw, k, settings[0], settings[2 + 2 * k]) for k in (0, 1))]
+
+
 ODD = (0, 1, 2, 3, 4, 5, len(FILTERS), 7, 8, 9, 65536, LIMIT, LIMIT + 1, 2 ** 31, MAX)
 
 
 class Case:
-    """One list of calls: its lines in `asked`, what the program prints in `seen`, the cells of the table gone through from another f in `cells`."""
+    """One list of calls: its lines in `asked`, what the program prints in `seen`, what its accepted calls passed in `passed`, the present one in `passing`."""
 
     def __init__(self, draw):
-        self.draw, self.asked, self.seen, self.cells = draw, [], [], set()
-        self.settings = drawn_settings(draw)
-        kind = self.settings[0]
-        self.lent = Lent(machine(draw, 0, kind, self.settings[2]), machine(draw, 1, kind, self.settings[4]), drawn_list(draw), drawn_list(draw))
+        self.draw, self.asked, self.seen, self.passed, self.passing = draw, [], [], set(), set()
+        self.settings, *lists, m1, m2 = drawn_inputs(draw)
+        self.lent = Lent(m1, m2, *lists)
         fill = draw.choice((0, 0, 7, MAX))
         sizes = (draw.choice((1, 2, 5)) * some(draw), STATE_WORDS * draw.choice((1, 3, 6, 12)) * some(draw) + draw.randrange(STATE_WORDS),
                  TR_WORDS * draw.choice((2, 6, 20, 20)) * some(draw) + draw.randrange(TR_WORDS))
-        self.world = World([fill] * sizes[0], [fill] * sizes[1], [fill] * sizes[2], [0] * 9)
+        self.world = World([fill] * sizes[0], [fill] * sizes[1], [fill] * sizes[2], [0] * 9, partial(Watched, self.passing))
         self.ask(1, *sizes, fill)
         for k in (0, 1):
             self.lend(k)
@@ -109,6 +122,11 @@ class Case:
 
     def answered(self, letter, words):
         self.seen.append([letter, *words, "/", *self.world.session, "/", self.world.mixed()])
+        if words[:1] == [0]:
+            self.passed |= self.passing
+        elif BOTH in self.passing:
+            self.passed.add(f"{BOTH}, refused {words[0]}")
+        self.passing.clear()
 
     def open(self, settings):
         self.ask(8, *settings)
@@ -134,9 +152,7 @@ class Case:
 
     def expand(self, n):
         self.ask(9, n)
-        answer = self.world.calling(self.world.expand, n, self.lent)
-        self.answered("e", answer)
-        return answer[0]
+        self.answered("e", self.world.calling(self.world.expand, n, self.lent))
 
     def expand_from_any(self):
         """Expands a found state after giving it another f, which breaks no form."""
@@ -145,10 +161,7 @@ class Case:
         if waiting:
             n = self.draw.choice(waiting)
             self.word_set(1, STATE_WORDS * n + FILTER_STATE, self.draw.randint(1, 2))
-            if self.expand(n) == 0:
-                c = Watched(self.world.session[:6], self.lent, self.world.session[6])
-                list(c.steps(*self.world.triple(n)))
-                self.cells |= c.seen
+            self.expand(n)
 
     def show(self):
         self.ask(13)
@@ -178,7 +191,9 @@ class Case:
         k = draw.randint(0, 1)
         old = self.lent.words[k]
         words = list(old)
-        words[draw.randrange(len(words))] = draw.choice(ODD)
+        # often an inner label, so that a list falls
+        label = 6 + 3 * old[0] + 5 * draw.randrange(max(1, old[1])) + 1 - k
+        words[label if label < len(words) and draw.random() < 0.5 else draw.randrange(len(words))] = draw.choice(ODD)
         self.machine_set(k, words)
         return lambda: self.machine_set(k, old)
 
@@ -228,14 +243,17 @@ class Case:
         self.show()
         return self
 
+    def shown(self):
+        return {(r[0], r[1]) for r in self.seen if len(r) > 1} | self.passed
+
 
 def cases():
-    """The first CASES lists, and of those drawn after them each that brings a wanted answer or cell not seen before."""
+    """The first CASES lists, and of those drawn after them each that shows something which is wanted in more lists."""
     draw, found = random.Random(SEED), []
-    lacking = {(letter, n) for letter, numbers in WANTED.items() for n in numbers} | set(ANY_F)
+    lacking = Counter({(letter, n): 1 for letter, numbers in WANTED.items() for n in numbers} | dict.fromkeys(ANY_F, 1) | dict.fromkeys(SIGMAS, OFTEN))
     while lacking or len(found) < CASES:
         c = Case(draw).play()
-        new = lacking & ({(r[0], r[1]) for r in c.seen if len(r) > 1} | c.cells)
+        new = lacking & Counter(c.shown())
         if new or len(found) < CASES:
             found.append(c)
             lacking -= new
@@ -243,35 +261,20 @@ def cases():
 
 
 def compare(oracle):
-    from state_cases import ask
-    draw, seen = random.Random(SEED), 0
-    for _ in range(20 * CASES):
-        c = Case(draw)
-        w = World([0] * 5, [0] * (60 * STATE_WORDS), [0] * (180 * TR_WORDS), [0] * 9)
-        opened = w.calling(w.open, c.settings, c.lent)
-        side, answers, states = ask(oracle, c.settings, *c.lent.allowed, *c.lent.words, range(8))
-        if opened != [0]:
-            assert opened == [side], (c.asked, opened, side)
-            continue
-        assert side == SIDES[w.session[6]], c.asked
-        for n, answer in enumerate(answers):
-            got = w.calling(w.expand, n, c.lent)
-            listed = w.records(n, c.lent)
-            mine = got[0] if got[0] else [listed[TR_WORDS * j:TR_WORDS * j + 4] for j in range(got[2])]
-            assert mine == answer, (c.asked, n, mine, answer)
-            seen += 1
-        for n, (triple, final) in enumerate(states):
-            assert w.triple(n) == tuple(triple), (c.asked, n)
-            got = w.calling(w.final, n, c.lent)
-            mine = ["refused", "12"] if got == [12] else ["-"] if got == [0, 0] else [str(got[2])]
-            assert mine == final, (c.asked, n, mine, final)
-    print(f"{20 * CASES} openings and {seen} expansions answered as the Rust answers")
+    draw = random.Random(SEED)
+    drawn = [Case(draw) for _ in range(OPENINGS)]
+    asked = [[range(8), c.settings, *c.lent.allowed, *c.lent.words] for c in drawn]
+    theirs = [parsed(one.answer) for one in reference(oracle, asked) if not one.ours]
+    expansions = sum(len(answers) for _, answers, _ in theirs)
+    print(f"{len(theirs)} openings and {expansions} expansions answered as the Rust answers; {OPENINGS - len(theirs)} openings are ours")
 
 
 def main():
     if sys.argv[1:2] == ["--rust"]:
         return compare(rust.oracle_at(sys.argv[2]))
     found = cases()
+    for row, n in sorted(Counter(row for c in found for row in c.shown().intersection([BOTH, *SIGMAS])).items()):
+        print(f"{n:4} {row}")
     # the sizes of the arrays of the program
     asked = [" ".join(map(str, r)) for c in found for r in c.asked]
     assert sum(len(r.split()) for r in asked) <= 32768 and sum(len(r) + 1 for r in asked) <= 65536

@@ -1,12 +1,13 @@
 #!/usr/bin/env python3
-"""Compares the programs `replay` and `composed` with the Rust on fresh random cases.
+"""Compares the programs `replay` and `composed` with the Rust on fresh random cases, and with the definition where that stands (tests/reference.py).
 
     python3 tests/compare.py RUST [--cases N] [--seed S] [--replay PATH] [--composed PATH]
 
 RUST is the folder `rustfst/src` of rustfst at commit 8e1391df1e (oracle/build makes a program around it; needs rustc), or that program. The two programs
 are taken from target/bin, where `rt check replay composed` leaves them; it is run where they are not there. Cases are drawn by oracle/gen.py; whole
 listings and orders of expansions go to `replay`, and the whole listings without allowed lists to `composed` as well. Prints how often each feature of
-tests/features.py came up, and the first difference in full; the exit status is 1 where there is one. Defaults: 20000 cases, a seed from the clock.
+tests/features.py came up, how many answers were the Rust's and how many ours, and the first difference in full; the exit status is 1 where there is one.
+Defaults: 20000 cases, a seed from the clock.
 """
 import argparse
 import os
@@ -17,8 +18,9 @@ import time
 from collections import Counter
 
 import rust
-from features import features
+from features import BOTH
 from gen import ALL, mixed
+from reference import looked_at
 
 BATCH = 500
 
@@ -51,20 +53,19 @@ class Comparison:
 
     def hold(self, name, case, answer, wanted):
         self.asked[name] += 1
-        if answer == wanted:
+        if answer == wanted.answer:
             return
         self.differences += 1
         if self.differences == 1:
-            print(f"first difference, program {name}:\n{rust.text(case)}the Rust:\n{wanted}the program:\n{answer}", flush=True)
+            whose = "the definition" if wanted.ours else "the Rust"
+            print(f"first difference, program {name}:\n{rust.text(case)}{whose}:\n{wanted.answer}the program:\n{answer}", flush=True)
 
     def batch(self, oracle, replay, composed, cases):
-        wanted = rust.observed(oracle, cases)
-        for case, got, (answer, otherwise) in zip(cases, replayed(replay, cases), wanted):
-            self.hold("replay", case, got, answer)
+        for got, (case, wanted, found) in zip(replayed(replay, cases), looked_at(oracle, cases)):
+            self.hold("replay", case, got, wanted)
             if case[0] is None and case[2:4] == [None, None]:
-                self.hold("composed", case, printed(composed, rust.text([case[1]] + case[4:])), answer)
-            self.counts.update(features(case, answer))
-            self.counts["a final weight zero that plain Rust answers otherwise"] += otherwise
+                self.hold("composed", case, printed(composed, rust.text([case[1]] + case[4:])), wanted)
+            self.counts.update(found)
 
 
 def main():
@@ -83,7 +84,7 @@ def main():
     for name, count in sorted(seen.counts.items()):
         print(f"{count:7} {name}")
     asked = ", ".join(f"{n} answers of {name}" for name, n in seen.asked.items())
-    print(f"{args.cases} cases, seed {args.seed}: {asked}; {seen.differences} differences; {time.time() - began:.0f} seconds")
+    print(f"{args.cases} cases, {seen.counts[BOTH]} of them ours, seed {args.seed}: {asked}; {seen.differences} differences; {time.time() - began:.0f} seconds")
     sys.exit(1 if seen.differences else 0)
 
 

@@ -4,7 +4,8 @@
     python3 tests/damaged.py RUST [--inputs N] [--seed S] [--composed PATH]
 
 RUST and PATH as in tests/compare.py. What an input means is worked out here from document 01, "The listing": three lines of decimal words, or a line that is
-malformed. Where 1 to 3 refuse it that is the answer; else the Rust is asked with the words. The Rust's harness also gets the bytes, and reads them by itself.
+malformed. Where 1 to 3 refuse it that is the answer; else the one of tests/reference.py to the words. The Rust's harness also gets the bytes, reads them by
+itself, and must answer as it does to the words.
 Prints how often each damage was done and each answer came, and the first difference in full; the exit status is 1 where there is one. Defaults: 10000 inputs,
 a seed from the clock.
 """
@@ -23,6 +24,7 @@ import rust
 from compare import program
 from gen import ALL, FILTERS, listed, mixed
 from machine import LIMIT, MAX, Words
+from reference import reference
 
 BATCH = 500
 ODD_BYTES = b" \t\r\n\0\x0b\x0c+-.,;:/xe_\"'\x1a\x7f\x80\xa0\xc2\xff" + b"0123456789"
@@ -298,11 +300,15 @@ def printed(rng, path, data):
 
 
 def wanted(oracle, inputs):
-    """The answer of the definition to each input."""
+    """The answer to each input, and the Rust's to the same words."""
     means = [meaning(data) for data in inputs]
-    asked = [[None, m[0], None, None, *m[1:]] for m in means if isinstance(m, list)]
-    found = iter(rust.answers(oracle, asked))
-    return [f"refused {m}\n" if isinstance(m, int) else next(found) for m in means]
+    found = reference(oracle, [[None, m[0], None, None, *m[1:]] for m in means if isinstance(m, list)])
+    for m in means:
+        if isinstance(m, int):
+            yield f"refused {m}\n", f"refused {m}\n"
+        else:
+            one = next(found)
+            yield one.answer, one.rust
 
 
 def main():
@@ -316,17 +322,19 @@ def main():
     rng, counts, differences, began = random.Random(args.seed), Counter(), 0, time.time()
     for done in range(0, args.inputs, BATCH):
         batch = [drawn(rng) for _ in range(min(BATCH, args.inputs - done))]
-        for (data, how), answer in zip(batch, wanted(oracle, [data for data, _ in batch])):
+        for (data, how), (answer, theirs) in zip(batch, wanted(oracle, [data for data, _ in batch])):
             said = answer.strip() if answer.startswith("refused") else "a listing"
             counts.update({f"damage {name}" for name in how} | {f"answer {said}"})
             if said not in ("refused 1", "refused 2", "refused 3"):
                 counts.update(f"damage {name}, still of well-formed words" for name in set(how))
             by_harness = subprocess.run([oracle, "composed", *rust.READING], input=data, stdout=subprocess.PIPE, check=True).stdout.decode()
             got = printed(rng, composed, data)
-            if not got == answer == by_harness:
+            counts["answer ours, and not the Rust's"] += answer != theirs
+            if got != answer or by_harness != theirs:
                 differences += 1
                 if differences == 1:
-                    print(f"first difference ({', '.join(how)}):\n{data!r}\nwanted:\n{answer}the harness:\n{by_harness}the program:\n{got}", flush=True)
+                    print(f"first difference ({', '.join(how)}):\n{data!r}\nwanted:\n{answer}the program:\n{got}"
+                          f"wanted of the harness:\n{theirs}the harness:\n{by_harness}", flush=True)
     for name, count in sorted(counts.items()):
         print(f"{count:7} {name}")
     print(f"{args.inputs} inputs, seed {args.seed}: {differences} differences; {time.time() - began:.0f} seconds")

@@ -1,4 +1,4 @@
-"""What a case of `replay` shows: names of the rows of document 01 that it goes through, by the model in model.py and the Rust's answer."""
+"""What a case of `replay` shows: names of the rows of document 01 and of requests 2.1 and 2.4 that it goes through, by the model in model.py and the answer."""
 from collections import Counter
 from functools import cache
 from itertools import product
@@ -7,10 +7,12 @@ from machine import MAX, Words
 from model import MOVES, SIDES, Composition, Lent, Refused, filtered, side_for
 from gen import ALL, FILTERS
 
-TRACED = 40  # expansions looked at in one case
+# a look-up at which request 2.4's definition is the reference, not the Rust
+BOTH = "a label with own and sigma matches (ours)"
+SEVERAL, BEFORE = "more than one of each", "sigma before the label in the list"
 WAYS = ("whole listing", "order of expansions")
 # features whose answers are long: memory that is nearly full
-LONG = ("more than 1000 states stored", "more than 1000 transitions stored", "order, an expansion after refused 13")
+LONG = ("more than 1000 states stored", "more than 1000 transitions stored", "order, an expansion after refused 13", f"{BOTH}, refused 13")
 
 
 def of_filter(filter, what):
@@ -32,12 +34,45 @@ def of_opening(settings, side, way):
         yield of_filter(settings[1], what)
 
 
+def of_both(k, what):
+    """What a look-up in machine k (0 or 1) that finds both own and sigma matches shows."""
+    return f"{BOTH}, machine {k + 1}, {what}"
+
+
+def of_sigma(k, what):
+    return f"sigma of machine {k + 1}, {what}"
+
+
+def by_list(allowed):
+    return "no allowed list" if allowed is None else "an allowed list" if allowed else "an empty allowed list"
+
+
+def kept_out(own, allowed):
+    return f"{'own matches alone, sigma' if own else 'label'} kept out by its {'allowed list' if allowed else 'empty allowed list'}"
+
+
+def mode_of(mode, acceptor):
+    return f"mode {mode}" + (", acceptor mark" if mode == 0 and acceptor else "")
+
+
+def of_sigmas():
+    """What a label with own and sigma matches must be seen with, and one that has the ones or the others."""
+    for k in (0, 1):
+        modes, sides = [f"rewritten, {mode_of(*m)}" for m in product((0, 1, 2), (0, 1))], [f"side {SIDES[side]}" for side in (1 - k, 2)]
+        for what in [*modes, *sides, "kind 0", "kind 1", by_list(None), by_list([1]), SEVERAL, BEFORE]:
+            yield of_both(k, what)
+        for what in modes + [kept_out(own, allowed) for own, allowed in product((False, True), ([], [1]))]:
+            yield of_sigma(k, what)
+
+
 def required():
     """What every filter must be seen with: what its table makes of each move from f = 0; the sides, the kinds, the sigmas, listings and orders."""
     for filter, move, *facts in product(ALL, MOVES, *[(False, True)] * 4):
         yield of_cell(filter, move, 0, filtered(filter, move, facts[:2], facts[2:], 0))
     for filter, side, kind, way in product(ALL, range(len(SIDES)), (0, 1), WAYS):
         yield from of_opening([kind, filter, 1, 0, 1, 0], side, way)
+    yield from (of_filter(filter, BOTH) for filter in ALL)
+    yield from of_sigmas()
 
 
 class Kept(Words):
@@ -49,12 +84,12 @@ class Kept(Words):
 
 
 class Watched(Composition):
-    """The model, noting where it passes."""
+    """The model, noting in `seen` where it passes."""
 
-    def __init__(self, settings, lent, side):
+    def __init__(self, seen, settings, lent, side):
         super().__init__(settings, lent, side)
         self.machines = [Kept(m) for m in lent.words]
-        self.seen = set()
+        self.seen = seen
 
     def looked_up(self, s1, s2):
         m = super().looked_up(s1, s2)
@@ -70,19 +105,27 @@ class Watched(Composition):
     def matches(self, k, s, x):
         found = super().matches(k, s, x)
         if self.has_sigma(k, s):
-            name = f"sigma of machine {k + 1}"
-            if any(self.inner(k, t) == x for t in self.machines[k].list(s)):
-                self.seen.add(f"{name}, beside a label's own matches")
-            elif found:
-                acceptor = ", acceptor mark" if self.mode[k] == 0 and self.machines[k].word(5) == 1 else ""
-                self.seen.add(f"{name}, rewritten, mode {self.mode[k]}{acceptor}")
-                if any(self.record(k, t)[:2] == [self.sigma[k]] * 2 for t in self.machines[k].list(s)):
-                    self.seen.add(f"{name}, held on both sides, mode {self.mode[k]}{acceptor}")
-                if self.allowed[k] is not None:
-                    self.seen.add(f"{name}, label let in by its allowed list")
-            else:
-                self.seen.add(f"{name}, label kept out by its {'empty ' if not self.allowed[k] else ''}allowed list")
+            self.seen.update(self.of_look_up(k, s, x))
         return found
+
+    def of_look_up(self, k, s, x):
+        """What a look-up at a state with a sigma transition shows."""
+        sigma, allowed, mode = self.sigma[k], self.allowed[k], mode_of(self.mode[k], self.machines[k].word(5))
+        own, rest = self.labelled(k, s, x), self.sigma_matches(k, s, x)
+        rows = [f"rewritten, {mode}"]
+        if any(self.record(k, t)[:2] == [sigma] * 2 for t in self.labelled(k, s, sigma)):
+            rows.append(f"held on both sides, {mode}")
+        if own and rest:
+            rows += [by_list(allowed), f"side {SIDES[self.side]}", f"kind {self.kind}"]
+            rows += [SEVERAL] * (len(own) > 1 and len(rest) > 1) + [BEFORE] * (sigma < x)
+            yield from [BOTH, of_filter(self.filter, BOTH)]
+            yield from (of_both(k, row) for row in rows)
+        elif rest:
+            yield from (of_sigma(k, row) for row in rows)
+            if allowed is not None:
+                yield of_sigma(k, "label let in by its allowed list")
+        else:
+            yield of_sigma(k, kept_out(own, allowed))
 
     def cell(self, move, states, f):
         to = super().cell(move, states, f)
@@ -135,35 +178,20 @@ def of_lists(settings, allowed):
         sigma, mode, own = settings[2 + 2 * k], settings[3 + 2 * k], allowed[k]
         if sigma not in (0, MAX):
             yield f"sigma of machine {k + 1} set, mode {mode}"
-            yield f"sigma of machine {k + 1} set, {'no allowed list' if own is None else 'an allowed list' if own else 'an empty allowed list'}"
+            yield f"sigma of machine {k + 1} set, {by_list(own)}"
 
 
-def followed(c, order):
-    """Expands in the order, or in number order; what is passed on the way."""
-    start = c.start()
-    number = {} if start is None else {start: 0}
-    done = set()
-    for n in range(TRACED) if order is None else order:
-        if n >= len(number):
-            if order is None:
-                break
-            c.seen.add("order, a state not found yet")
-        elif n in done:
-            c.seen.add("order, a state again")
-        else:
-            try:
-                steps = list(c.steps(*list(number)[n]))
-            except Refused:
-                if order is None:
-                    break
-                c.seen.add("order, goes on after a refused expansion")
-                continue
-            done.add(n)
-            for step in steps:
-                number.setdefault(step[3], len(number))
-    if order is not None and sorted(done) != list(range(len(done))):
-        c.seen.add("order, states left out")
-    return c.seen
+def of_order(lines):
+    """What the answer to an order of expansions tells of it."""
+    expanded = [line for line in lines if line.startswith("e ")]
+    if "refused 9" in lines:
+        yield "order, a state not found yet"
+    if len(set(expanded)) < len(expanded):
+        yield "order, a state again"
+    if set(expanded) != {f"e {n}" for n in range(len(set(expanded)))}:
+        yield "order, states left out"
+    if any(line.startswith("refused 1") for line in lines[1:-1]):
+        yield "order, goes on after a refused expansion"
 
 
 def memory(order, lines):
@@ -177,11 +205,20 @@ def memory(order, lines):
             yield LONG[2]
 
 
-def features(case, answer):
+def of_ours(way, lines, seen):
+    """What a case with a label that has own and sigma matches is counted for: nothing that does not name this."""
+    yield from (row for row in seen if BOTH in row)
+    yield from (f"{BOTH}, {row}" for row in {way, *lines} if row == way or row.startswith("refused"))
+
+
+def features(case, answer, seen):
+    """What a case shows, by its answer and what the model passed."""
     order, settings, allowed, machines = case[0], case[1], case[2:4], case[4:6]
     lines = answer.rstrip("\n").split("\n")
     way = WAYS[order is not None]
-    found = {way}
+    if BOTH in seen:
+        return set(of_ours(way, lines, seen))
+    found = {way} | seen
     if order == []:
         found.add("order, empty")
     found |= {("opening " if k == 0 else "") + line for k, line in enumerate(lines) if line.startswith("refused")}
@@ -190,18 +227,19 @@ def features(case, answer):
     found |= {"final weight refused 12" for line in lines if line.startswith("s ") and line.endswith("refused 12")}
     found |= {line for line in lines[:1] if line.startswith("side")}
     found.update(memory(order, lines))
+    if order is not None:
+        found.update(of_order(lines))
     if "end 0 0" in lines:
         found.add("no state found")
     if len(settings) != 6:
         return found
     found |= {f"kind {settings[0]}", f"filter {settings[1]}"} if settings[0] < 2 and settings[1] in ALL else set()
-    lent = Lent(*machines, *allowed)
     try:
-        side = side_for(settings, lent)
+        side = side_for(settings, Lent(*machines, *allowed))
     except Refused:
         return found
     found.update(of_opening(settings, side, way))
     found.update(of_lists(settings, allowed))
     for k in (0, 1):
         found.update(of_words(k, machines[k], settings[0]))
-    return found | followed(Watched(settings, lent, side), order)
+    return found

@@ -1,4 +1,4 @@
-"""Document 01's calls with request 2.1's filters, worked out from their text: the checks, the moves, the memory."""
+"""Document 01's calls with request 2.1's filters and 2.4's sigma, worked out from their text: the checks, the moves, the memory."""
 from machine import LIMIT, MAX, Words
 from gen import FILTERS
 
@@ -37,6 +37,7 @@ class Lent:
 
 def side_for(settings, lent):
     """Checks 1 to 7; the number of the side."""
+    refuse(len(settings) != 6, 1)
     kind, filter, sigma1, mode1, sigma2, mode2 = settings
     refuse(kind > 1 or filter >= len(FILTERS) or mode1 > 2 or mode2 > 2, 1)
     a, b = lent.machines()
@@ -97,8 +98,12 @@ class Composition:
     def zero(self):
         return MAX if self.kind == 0 else 0
 
+    def labelled(self, k, s, x):
+        """The transitions of machine k at state s with the inner label x."""
+        return [t for t in self.machines[k].list(s) if self.inner(k, t) == x]
+
     def has_sigma(self, k, s):
-        return self.sigma[k] != MAX and any(self.inner(k, t) == self.sigma[k] for t in self.machines[k].list(s))
+        return self.sigma[k] != MAX and self.labelled(k, s, self.sigma[k]) != []
 
     def looked_up(self, s1, s2):
         """The machine that is looked up, 0 or 1."""
@@ -113,24 +118,18 @@ class Composition:
     def record(self, k, t):
         return [self.machines[k].tr(t, j) for j in range(4)]
 
+    def sigma_matches(self, k, s, x):
+        """The sigma records of machine k at state s, rewritten to the label x, where that is allowed."""
+        sigma, both = self.sigma[k], self.mode[k] == 1 or self.mode[k] == 0 and self.machines[k].word(5) == 1
+        if sigma == MAX or self.allowed[k] is not None and x not in self.allowed[k]:
+            return []
+        records = [self.record(k, t) for t in self.labelled(k, s, sigma)]
+        return [[x if side == 1 - k or both and r[side] == sigma else r[side] for side in (0, 1)] + r[2:] for r in records]
+
     def matches(self, k, s, x):
-        """The records of machine k at state s that match the label x, neither 0 nor MAX."""
-        sigma = self.sigma[k]
-        refuse(sigma != MAX and x == sigma, 11)
-        here = self.machines[k].list(s)
-        own = [t for t in here if self.inner(k, t) == x]
-        if own or sigma == MAX or self.allowed[k] is not None and x not in self.allowed[k]:
-            return [self.record(k, t) for t in own]
-        out = []
-        for t in here:
-            if self.inner(k, t) == sigma:
-                r = self.record(k, t)
-                if self.mode[k] == 1 or self.mode[k] == 0 and self.machines[k].word(5) == 1:
-                    r[0], r[1] = (x if r[0] == sigma else r[0]), (x if r[1] == sigma else r[1])
-                else:
-                    r[1 - k] = x
-                out.append(r)
-        return out
+        """The records of machine k at state s that match the label x, neither 0 nor MAX: its own, then sigma's."""
+        refuse(self.sigma[k] != MAX and x == self.sigma[k], 11)
+        return [self.record(k, t) for t in self.labelled(k, s, x)] + self.sigma_matches(k, s, x)
 
     def cell(self, move, states, f):
         """What the filter makes of a move at these states: the next f, or None."""
@@ -144,7 +143,7 @@ class Composition:
         m = self.looked_up(s1, s2)
         w = 1 - m
         rest = [[0, 0, 0 if self.kind == 0 else 1, states[k]] for k in (0, 1)]
-        epsilons = [self.record(m, t) for t in self.machines[m].list(states[m]) if self.inner(m, t) == 0]
+        epsilons = [self.record(m, t) for t in self.labelled(m, states[m], 0)]
 
         def made(move, walked, found):
             g = self.cell(move, states, f)
@@ -188,10 +187,11 @@ def state_record(t, next):
 
 
 class World:
-    """The latest session and the three slices; each call answers a list of words, the refusal's number or 0 first."""
+    """The latest session and the three slices; each call answers a list of words, the refusal's number or 0 first. `composing` makes the composition that a
+    call works with, of settings, machines and side."""
 
-    def __init__(self, heads, states, trs, session):
-        self.heads, self.states, self.trs, self.session = heads, states, trs, session
+    def __init__(self, heads, states, trs, session, composing=Composition):
+        self.heads, self.states, self.trs, self.session, self.composing = heads, states, trs, session, composing
 
     def calling(self, call, *args):
         kept = list(self.heads), list(self.states), list(self.trs), list(self.session)
@@ -228,14 +228,16 @@ class World:
                 return False
         return True
 
-    def entered(self, lent, n=None):
-        """Checks 1 to 8, and 9 where a state is asked for."""
+    def entered(self, lent):
+        """Checks 1 to 8."""
         side = side_for(self.session[:6], lent)
         a, b = lent.machines()
         used, last = self.session[7:9]
         refuse(self.session[6] != side or used > self.state_room() or last > self.tr_room() or not self.form(a.S, b.S), 8)
-        refuse(n is not None and n >= used, 9)
-        return Composition(self.session[:6], lent, side)
+        return self.composing(self.session[:6], lent, side)
+
+    def found(self, n):
+        refuse(n >= self.session[7], 9)
 
     def slot(self, t):
         return (t[0] + 31 * t[1] + t[2]) % len(self.heads)
@@ -274,9 +276,10 @@ class World:
         return [first, count]
 
     def expand(self, n, lent):
-        return self.expansion(self.entered(lent, n), n)
+        return self.expansion(self.entered(lent), n)
 
     def expansion(self, c, n):
+        self.found(n)
         if self.state(n, EXPANDED) == 1:
             return self.part(n)
         before = self.session[8]
@@ -295,7 +298,9 @@ class World:
         return [first, count]
 
     def final(self, n, lent):
-        w = self.entered(lent, n).final(*self.triple(n)[:2])
+        c = self.entered(lent)
+        self.found(n)
+        w = c.final(*self.triple(n)[:2])
         return [0] if w is None else [1, w]
 
     def run(self, lent):
@@ -314,9 +319,14 @@ class World:
 
     def records(self, n, lent):
         try:
-            self.entered(lent, n)
+            self.entered(lent)
+            self.found(n)
         except Refused:
             return []
+        return self.stored(n)
+
+    def stored(self, n):
+        """The records of state n; none where it is not expanded."""
         first, count = self.part(n) if self.state(n, EXPANDED) == 1 else (0, 0)
         return self.trs[TR_WORDS * (first - 1):TR_WORDS * (first - 1 + count)] if count else []
 

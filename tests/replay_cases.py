@@ -1,27 +1,31 @@
 #!/usr/bin/env python3
-"""Writes crates/replay/stdin and crates/replay/stdout: the cases are ours, the answers are the Rust's, but for the last case, in which the input ends.
+"""Writes crates/replay/stdin, crates/replay/stdout and tests/ours.txt: the cases are ours; the answers are the Rust's, but for those that tests/ours.txt
+numbers, which are the definition's (tests/reference.py), and for the last case, in which the input ends.
 
     python3 tests/replay_cases.py RUST      RUST is the folder of the Rust sources, or the program that oracle/build made of it
+    python3 tests/replay_cases.py --check   holds the three files to the model in tests/model.py, without the Rust
 
-First the proved cases of document 01 but for the ninth, which needs a smaller memory than the form has; its "run only" case; its four slips; every
-chosen input of tests/state_cases.py; the inputs of docs/DIFFERENCES.md; memory filled to the last record and one beyond. Then cases drawn by oracle/gen.py
-from SEED, until each feature that tests/features.py names stands in WANTED of them (but for memory that is nearly full, whose answers are long). All this for
-document 01's filters, then for request 2.1's. The exit status is 1 where a feature stands in fewer, or a filter's opening is accepted in fewer than LEAST. The
-same sources give the same files.
+First the proved cases of document 01 but for the ninth, which needs a smaller memory than the form has; every chosen input of tests/state_cases.py, document
+01's "run only" case and its slips among them; the inputs of docs/DIFFERENCES.md; memory filled to the last record and one beyond. Then cases drawn by
+oracle/gen.py from SEED, until each feature that tests/features.py names stands in WANTED of them (but for memory that is nearly full, whose answers are long).
+All this for document 01's filters, then for request 2.1's. A case that tests/ours.txt numbers counts for features that are ours alone. The exit status is 1
+where a feature stands in fewer, or a filter's opening is accepted in fewer than LEAST. The same sources give the same files.
 """
 import os
 import random
 import sys
+import textwrap
 from collections import Counter
 
 import rust
 import state_cases
-from features import LONG, WAYS, features, of_filter, required
+from features import BOTH, LONG, WAYS, of_filter, required
 from gen import ADDED, ALL, BASE, FILTERS, listed, mixed
+from reference import looked_at, worked
 from state_cases import MAX, ONE1, ONE2
 
 SEED, WANTED, LEAST = 12, 20, 60
-BATCH, DRAWS = 2000, 30000
+BATCH, DRAWS = 2000, 20000
 # bytes of a drawn case and its answer: large ones only where a feature is lacking in small ones
 SMALL, LARGE = 480, 2000
 
@@ -65,10 +69,11 @@ def differences():
 
 
 def full():
-    """1024 transition records and 1025; 1024 states and 1025, in a run and in one expansion; a weight too large, a walked sigma and lacking room in turn."""
-    def loops(a, b, sigma=MAX, last=(1, 1)):
-        row = [(1, 1, 1, 0)] * (a - 1) + [(1, *last, 0)]
-        return listing([0, 0, MAX, 0, sigma, 0], listed([(1, row)]), listed([(1, [(1, 2, 2, 0)] * b)], marks=(1, 0, 0)))
+    """1024 transition records and 1025; 1024 states and 1025, in a run and in one expansion; a weight too large, a walked sigma and lacking room in turn; the
+    last move a sigma match after own ones, too large at 1024 and without room at 1025."""
+    def loops(a, b, sigma=MAX, last=(1, 1), found=(1, 2)):
+        row, loop = [(1, 1, 1, 0)] * (a - 1) + [(1, *last, 0)], [(1, 2, 2, 0)] * (b - 1) + [(found[0], 2, found[1], 0)]
+        return listing([0, 0, MAX, 0, sigma, 0], listed([(1, row)]), listed([(1, loop)], marks=(1, 0, 0)))
 
     def chains(a, b):
         return listing(plain(0, 0), *(listed([(1, [(1 - k, k, 1, s + 1)]) for s in range(n - 1)] + [(1, [])]) for k, n in ((0, a), (1, b))))
@@ -78,6 +83,8 @@ def full():
     yield loops(33, 32, last=(1, MAX - 1))
     yield loops(33, 32, sigma=9, last=(9, 1))
     yield loops(34, 32, sigma=9, last=(9, 1))
+    yield loops(32, 32, sigma=9, last=(1, 2147483647), found=(9, 2147483648))
+    yield loops(25, 41, sigma=9, found=(9, 2))
     yield chains(32, 32)
     yield chains(25, 41)
     fan = [listed([(1, [(1, 1, 1, i + 1) for i in range(32)])] + [(1, [])] * 32) for _ in (0, 1)]
@@ -111,35 +118,31 @@ def chosen_once(base):
 
 
 class Collection:
+    """The cases that are taken, by their text, with their references, and how often each feature stands in them."""
+
     def __init__(self, oracle):
-        self.oracle, self.texts, self.counts = oracle, {}, Counter()
+        self.oracle, self.taken, self.counts = oracle, {}, Counter()
 
-    def looked_at(self, cases):
-        """Each case with its answer and its features."""
-        for case, (answer, otherwise) in zip(cases, rust.observed(self.oracle, cases)):
-            found = features(case, answer)
-            yield case, answer, found | {"a final weight zero that plain Rust answers otherwise"} if otherwise else found
-
-    def take(self, case, answer, found):
+    def take(self, case, reference, found):
         text = rust.text(case)
-        if text not in self.texts:
-            self.texts[text] = answer
+        if text not in self.taken:
+            self.taken[text] = reference
             self.counts.update(found)
 
     def drawn(self, filters):
         """The cases with these filters drawn from the seed, small ones first."""
         rng, small, large = random.Random(SEED), [], []
         for _ in range(DRAWS // BATCH):
-            for one in self.looked_at([mixed(rng, filters) for _ in range(BATCH)]):
-                size = len(rust.text(one[0])) + len(one[1])
+            for one in looked_at(self.oracle, [mixed(rng, filters) for _ in range(BATCH)]):
+                size = len(rust.text(one[0])) + len(one[1].answer)
                 (small if size <= SMALL else large if size <= LARGE else []).append(one)
         return small + large
 
     def fill(self, filters):
-        """Cases with these filters for each feature, the rarest first."""
+        """Cases with these filters for each feature that is wanted, the rarest first."""
         holding = {}
         for one in self.drawn(filters):
-            for name in one[2]:
+            for name in one[2].difference(LONG):
                 holding.setdefault(name, []).append(one)
         for name in sorted(holding, key=lambda name: (len(holding[name]), name)):
             for one in holding[name]:
@@ -160,29 +163,53 @@ class Collection:
 CUT, CUT_ANSWER = f"-\n0 0 {MAX} 0 {MAX} 0", "refused 2\n"
 
 
+FOLDER = os.path.join(rust.ROOT, "crates/replay")
+STDIN, STDOUT, OURS = os.path.join(FOLDER, "stdin"), os.path.join(FOLDER, "stdout"), os.path.join(rust.ROOT, "tests/ours.txt")
+WHAT = "The cases of crates/replay, counted from 1, whose answers are the definition's, by tests/model.py: a label that is looked up has own and sigma matches."
+
+
+def write(taken):
+    with open(STDIN, "w") as f:
+        f.writelines([*taken, CUT])
+    with open(STDOUT, "w") as f:
+        f.writelines(answer + "--\n" for answer in [*(one.answer for one in taken.values()), CUT_ANSWER])
+    with open(OURS, "w") as f:
+        numbers = " ".join(str(n) for n, one in enumerate(taken.values(), 1) if one.ours)
+        f.write(f"{WHAT}\n{textwrap.fill(numbers, 150)}\n")
+
+
+def check():
+    """Holds every answer, and the numbers of ours, to the model."""
+    words = [None if line == "-\n" else [int(w) for w in line.split()] for line in open(STDIN)]
+    ours = {int(n) for line in open(OURS).readlines()[1:] for n in line.split()}
+    answers = rust.split(open(STDOUT).read())
+    for n, answer in enumerate(answers, 1):
+        case = words[6 * n - 6:6 * n]
+        mine, seen = worked(case + [[]] * (6 - len(case)), rust.ROOM)
+        assert mine == answer and (BOTH in seen) == (n in ours), f"case {n}:\n{rust.text(case)}the file:\n{answer}the model:\n{mine}"
+    print(f"{len(answers)} answers are the model's, and {len(ours)} of them ours")
+
+
 def main():
+    if sys.argv[1:] == ["--check"]:
+        return check()
     oracle = rust.oracle_at(sys.argv[1])
     for (case, holds), answer in zip(list(stars()), rust.answers(oracle, [c for c, _ in stars()])):
         assert holds(answer), (case, answer)
     all_, own = Collection(oracle), 0
     for filters in (BASE, ADDED):
         cases = chosen_once(filters == BASE)
-        for one in all_.looked_at(cases):
+        for one in looked_at(oracle, cases):
             all_.take(*one)
         all_.fill(filters)
         own += len(cases)
-    folder = os.path.join(rust.ROOT, "crates/replay")
-    os.makedirs(folder, exist_ok=True)
-    with open(os.path.join(folder, "stdin"), "w") as f:
-        f.writelines([*all_.texts, CUT])
-    with open(os.path.join(folder, "stdout"), "w") as f:
-        f.writelines(answer + "--\n" for answer in [*all_.texts.values(), CUT_ANSWER])
+    write(all_.taken)
     for name, count in sorted(all_.counts.items()):
         print(f"{count:6} {name}")
-    sizes = [os.path.getsize(os.path.join(folder, n)) for n in ("stdin", "stdout")]
-    lacking = list(all_.lacking())
+    lacking, ours = list(all_.lacking()), sum(one.ours for one in all_.taken.values())
     print(f"in too few cases: {', '.join(lacking) or 'nothing'}")
-    print(f"{len(all_.texts)} cases, {own} of them chosen; {sizes[0]} bytes in, {sizes[1]} bytes out; seed {SEED}")
+    print(f"{len(all_.taken)} cases, {own} of them chosen; {len(all_.taken) - ours} answers are the Rust's and {ours} ours; "
+          f"{os.path.getsize(STDIN)} bytes in, {os.path.getsize(STDOUT)} bytes out; seed {SEED}")
     sys.exit(1 if lacking else 0)
 
 

@@ -5,10 +5,12 @@ import sys
 
 ROOT = os.path.dirname(os.path.dirname(os.path.abspath(__file__)))
 sys.path.insert(0, os.path.join(ROOT, "oracle"))
-GEN = os.path.join(ROOT, "oracle/gen.py")
-# all six filters; a final weight equal to zero as document 01 reads it
-READING = ["--filters6", "--zero-final"]
-ASKED = ["--many", "--lists", "--room", *READING]
+# all six filters
+PLAIN = ["--filters6"]
+# and a final weight equal to zero as document 01 reads it
+READING = [*PLAIN, "--zero-final"]
+# records of states and of transitions
+ROOM = (1024, 1024)
 
 
 def built(source):
@@ -35,9 +37,10 @@ def split(answers):
     return parts[:-1] if parts[-1] == "" else parts
 
 
-def answers(oracle, cases, asked=ASKED):
+def answers(oracle, cases, room=ROOM, reading=READING):
     """What the Rust answers to each case. Stops where the oracle does: that is a finding by itself."""
     out = [None] * len(cases)
+    asked = ["--many", "--lists", f"--room={room[0]}:{room[1]}", *reading]
     for command, places in (("composed", [k for k, c in enumerate(cases) if c[0] is None]),
                             ("order", [k for k, c in enumerate(cases) if c[0] is not None])):
         lines = "".join(text(cases[k] if command == "order" else cases[k][1:]) for k in places)
@@ -46,9 +49,3 @@ def answers(oracle, cases, asked=ASKED):
         for k, answer in zip(places, got):
             out[k] = answer
     return out
-
-
-def observed(oracle, cases):
-    """For each case the Rust's answer, and whether plain Rust, which takes a final weight equal to zero for not final, answers otherwise."""
-    plain = answers(oracle, cases, [a for a in ASKED if a != "--zero-final"])
-    return [(answer, answer != other) for answer, other in zip(answers(oracle, cases), plain)]

@@ -1,20 +1,20 @@
 #!/usr/bin/env python3
-"""Writes crates/words/proofs/RustCases.antt: what the Rust answers at one composed state, for chosen inputs.
+"""Writes crates/words/proofs/RustCases.antt: what the Rust answers at one composed state, for chosen inputs; and, apart, what the definition answers where a
+label that is looked up has own and sigma matches (tests/reference.py).
 
     python3 tests/state_cases.py RUST > crates/words/proofs/RustCases.antt
     python3 tests/state_cases.py RUST --random SEED COUNT > a scratch file of the same form
 
-RUST is the folder of rustfst's sources, or the program that oracle/build made around it. `oracle order --many --lists --filters6 --zero-final` reads
-a line of state numbers, the settings, the two allowed lists ("-": no list) and both machines, and prints the side, each state's transitions or its
-refusal, and the found states; oracle/gen.py prints random input of that form. The inputs below are ours, the answers are the Rust's.
+RUST is the folder of rustfst's sources, or the program that oracle/build made around it. The inputs below are ours; oracle/gen.py draws random ones.
 """
-import subprocess
+import random
 import sys
 
 import rust
-from gen import ADDED, FILTERS
+from gen import ADDED, ALL, FILTERS, some_case
 from gen import listed as machine
 from machine import MAX
+from reference import reference
 
 
 NO = MAX
@@ -38,7 +38,7 @@ def cases():
         yield f"01's worked example, state {n}", (0, 0, NO, 0, NO, 0), None, None, ONE1, ONE2, n
     yield "its machines under alternate", (0, 1, NO, 0, NO, 0), None, None, ONE1, ONE2, 1
     yield "its machines under match: two epsilons together", (0, 2, NO, 0, NO, 0), None, None, ONE1, ONE2, 0
-    # the four slips of 01
+    # the slips of 01 that request 2.4 leaves
     yield "slip: sorted lists without marks are no \"both\"", (0, 0, NO, 0, NO, 0), None, None, MIXED1, MIXED2, 0
     yield "slip: \"all\" before \"none\" in sequence", (0, 0, NO, 0, NO, 0), None, None, EMPTY, EPS2, 0
     yield "slip: \"all\" before \"none\" in alternate", (0, 1, NO, 0, NO, 0), None, None, EPS1, EMPTY, 0
@@ -46,8 +46,6 @@ def cases():
     yield "slip: \"none\" before \"all\" in match, machine 2 alone", (0, 2, NO, 0, NO, 0), None, None, EMPTY, EPS2, 0
     yield ("slip: a transition of weight zero is kept", (1, 0, NO, 0, NO, 0), None, None,
            machine([(3, [(1, 4, 0, 0), (2, 4, 2, 0)])]), MIXED2, 0)
-    yield ("slip: sigma beside an explicit label", (0, 0, NO, 0, 9, 1), None, None,
-           machine([(0, [(1, 3, 0, 0), (2, 5, 0, 0)])]), machine(SIGMA2, marks=(1, 0, 0)), 0)
     # filters over states with epsilons and labels on both sides
     for f, name in enumerate(FILTERS[1:], 1):
         yield f"epsilons and labels on both sides, {name}", (0, f, NO, 0, NO, 0), None, None, MIXED1, MIXED2, 0
@@ -69,7 +67,7 @@ def cases():
     yield ("side both: the shorter list is machine 2's, direction output", (0, 0, NO, 0, NO, 0), None, None,
            machine([(None, [(1, 0, 1, 0), (2, 4, 1, 0), (3, 4, 2, 0)])], marks=(0, 1, 0)), machine([(7, [(0, 6, 1, 0), (4, 7, 1, 0)])], marks=(1, 0, 0)), 0)
     yield ("side both: the state with a sigma transition decides", (0, 0, NO, 0, 9, 2), None, None,
-           machine([(0, [(1, 3, 0, 0), (1, 4, 0, 0), (2, 5, 0, 0), (2, 6, 0, 0)])], marks=(0, 1, 0)), machine(SIGMA2, marks=(1, 0, 0)), 0)
+           machine([(0, [(1, 2, 0, 0), (1, 4, 0, 0), (2, 5, 0, 0), (2, 6, 0, 0)])], marks=(0, 1, 0)), machine(SIGMA2, marks=(1, 0, 0)), 0)
     yield ("side output: the mark of machine 1 alone", (0, 0, NO, 0, NO, 0), None, None, machine([(None, [(1, 0, 1, 0), (2, 4, 1, 0)])], marks=(0, 1, 0)), MIXED2, 0)
     yield ("side both: machine 1's state has a sigma transition", (0, 0, 9, 2, NO, 0), None, None,
            machine([(0, [(1, 9, 0, 0)])], marks=(0, 1, 0)), machine([(0, [(3, 6, 0, 0), (4, 7, 0, 0)])], marks=(1, 0, 0)), 0)
@@ -86,6 +84,17 @@ def cases():
            machine([(0, [(0, 0, 1, 0), (9, 9, 2, 0)])], marks=(0, 0, 1)), MIXED2, 0)
     yield ("refusal 11: a walked label is sigma, after kept moves", (0, 0, NO, 0, 9, 1), None, None,
            machine([(0, [(2, 5, 0, 0), (1, 9, 0, 0), (1, 5, 0, 0)])]), machine(SIGMA2), 0)
+    # request 2.4: sigma after a label's own matches
+    for what, mode, allowed in (("", 1, None), (", mode 2, an allowed list with the label", 2, [4, 3]), (", an allowed list without the label", 1, [4, 5]),
+                                (", an empty allowed list", 1, [])):
+        yield (f"sigma beside an explicit label{what}", (0, 0, NO, 0, 9, mode), None, allowed,
+               machine([(0, [(1, 3, 0, 0), (2, 5, 0, 0)])]), machine(SIGMA2, marks=(1, 0, 0)), 0)
+    yield ("sigma of machine 1 beside an explicit label, mode 0 with the acceptor mark", (1, 0, 9, 0, NO, 0), None, None,
+           machine([(1, [(3, 3, 2, 0), (9, 9, 3, 0)])], marks=(0, 0, 1)), machine([(1, [(4, 6, 5, 0), (3, 7, 7, 0)])]), 0)
+    yield ("side both: a sigma below the label, with two transitions each", (0, 0, NO, 0, 2, 0), None, None, machine([(0, [(1, 3, 0, 0)])], marks=(0, 1, 0)),
+           machine([(0, [(2, 6, 1, 0), (2, 2, 2, 0), (3, 7, 3, 0), (3, 8, 4, 0)])], marks=(1, 0, 0)), 0)
+    yield ("refusal 12: a sigma match after own ones is too large", (0, 0, NO, 0, 9, 0), None, None,
+           machine([(0, [(1, 3, 2147483648, 0)])]), machine([(0, [(3, 6, 1, 0), (9, 7, 2147483647, 0)])], marks=(1, 0, 0)), 0)
     # weights
     yield ("refusal 12: the second kept move is too large", (0, 0, NO, 0, NO, 0), None, None,
            machine([(0, [(1, 3, 1, 0), (2, 3, 2147483648, 0)])]), machine([(0, [(3, 4, 2147483647, 0)])]), 0)
@@ -106,23 +115,8 @@ def cases():
     yield ("refusal 4, machine 2's sigma", (0, 0, NO, 0, 0, 0), None, None, MIXED1, MIXED2, 0)
 
 
-def words(ws):
-    return " ".join(map(str, ws))
-
-
-def listed(ws):
-    return "-" if ws is None else words(ws)
-
-
-def ask(oracle, settings, a1, a2, m1, m2, orders):
-    """The Rust's answer: the side (or the refusal of the opening), the answer at each ordered state, the found states."""
-    text = "\n".join([words(orders), words(settings), listed(a1), listed(a2), words(m1), words(m2), ""])
-    out = subprocess.run([oracle, "order", "--many", "--lists", *rust.READING], input=text, capture_output=True, text=True, check=True).stdout
-    return parsed(out.split("--")[0])
-
-
 def parsed(out):
-    """One answer of `ORACLE order`: the side (or the number of the opening's refusal), the transitions or the refusal at each ordered state, the found states."""
+    """One answer of `oracle order`: the side (or the number of the opening's refusal), the transitions or the refusal at each ordered state, the found states."""
     lines = out.strip().split("\n")
     if not lines[0].startswith("side"):
         return int(lines[0].split()[1]), [], []
@@ -170,33 +164,41 @@ def entry(settings, a1, a2, m1, m2, triple, want):
 
 
 def chosen(oracle):
-    for what, settings, a1, a2, m1, m2, n in cases():
-        side, answers, states = ask(oracle, settings, a1, a2, m1, m2, range(n + 1))
-        triple = (0, 0, 0) if isinstance(side, int) else states[n][0]
-        answer = None if isinstance(side, int) else answers[n]
-        yield what, entry(settings, a1, a2, m1, m2, triple, wants(side, answer, states, n))
+    """For each chosen case what it shows, its entry, and whether the answer is ours."""
+    inputs = list(cases())
+    for (what, *given, n), one in zip(inputs, reference(oracle, [[range(n + 1), *given] for _, *given, n in inputs])):
+        side, answers, states = parsed(one.answer)
+        triple, answer = ((0, 0, 0), None) if isinstance(side, int) else (states[n][0], answers[n])
+        yield what, entry(*given, triple, wants(side, answer, states, n)), one.ours
 
 
 def drawn(oracle, seed, count):
-    text = subprocess.run([sys.executable, rust.GEN, seed, count, "--lists", "--order", "--filters6"], capture_output=True, text=True, check=True).stdout
-    lines = text.split("\n")[:-1]
-    for k in range(0, len(lines), 6):
-        settings, m1, m2 = ([int(x) for x in lines[k + j].split()] for j in (1, 4, 5))
-        a1, a2 = (None if lines[k + j] == "-" else [int(x) for x in lines[k + j].split()] for j in (2, 3))
-        side, answers, states = ask(oracle, settings, a1, a2, m1, m2, range(12))
+    """The same of the first twelve states of drawn machines."""
+    rng = random.Random(int(seed))
+    inputs = [[range(12), *some_case(rng, ALL)] for _ in range(int(count))]
+    for (_, *given), one in zip(inputs, reference(oracle, inputs)):
+        side, answers, states = parsed(one.answer)
         if isinstance(side, int):
             if side in (4, 5, 6, 7):
-                yield "drawn", entry(settings, a1, a2, m1, m2, (0, 0, 0), [0, side])
+                yield "drawn", entry(*given, (0, 0, 0), [0, side]), False
             continue
         for n in range(min(12, len(states))):
-            if answers[n] != 9:
-                yield "drawn", entry(settings, a1, a2, m1, m2, states[n][0], wants(side, answers[n], states, n))
+            # where the order comes too early for a state, or room lacks
+            if answers[n] not in (9, 13):
+                yield "drawn", entry(*given, states[n][0], wants(side, answers[n], states, n)), one.ours
+
+
+def table(name, entries):
+    print(f"unfoldable pub {name} : List Case\nunfolding caseOf\n{name} =")
+    for what, e in entries:
+        print(f"    -- {what}\n    {e} ∷")
+    print("    []")
 
 
 def main():
     oracle = rust.oracle_at(sys.argv[1])
     found = list(drawn(oracle, *sys.argv[3:5]) if sys.argv[2:3] == ["--random"] else chosen(oracle))
-    print("-- Written by tests/state_cases.py: the inputs are ours, the answers are the Rust's (rustfst 8e1391df1e, final weights equal to zero read as 01 reads them).")
+    print("-- Written by tests/state_cases.py. The inputs are ours.")
     print("use mathlib.Core.List.{List, [], _∷_}")
     print("use mathlib.Core.Option.{none, some}")
     print("use Prim.Native.Nat.{ℕ}")
@@ -204,12 +206,10 @@ def main():
     print()
     for name, ws in NAMED.items():
         print(f"abbrev {name} : List ℕ\n{name} = {antt(ws)}\n")
-    print("unfoldable pub rustCases : List Case")
-    print("unfolding caseOf")
-    print("rustCases =")
-    for what, e in found:
-        print(f"    -- {what}\n    {e} ∷")
-    print("    []")
+    print("-- the answers are the Rust's (rustfst 8e1391df1e, final weights equal to zero read as 01 reads them)")
+    table("rustCases", [(what, e) for what, e, ours in found if not ours])
+    print("\n-- a label that is looked up has own and sigma matches: the answers are the definition's, worked out by tests/model.py")
+    table("ourCases", [(what, e) for what, e, ours in found if ours])
 
 
 if __name__ == "__main__":
