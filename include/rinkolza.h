@@ -131,6 +131,18 @@
  *
  * Where neither machine has an epsilon on its inner side all six list the same.
  *
+ * With a sigma label on machine 2 alone, side input or both, no output of machine
+ * 1 being that label, and all found states expanded and no final weight refused
+ * as above: by sequence, alternate and match each two that agree are one reading
+ * of the composition, and it has no others. Two agree then where, epsilons left
+ * out, the second reads as many labels as the first writes and, place by place,
+ * these are equal, or the second's is sigma and the first's is allowed. Weights
+ * are multiplied. What is written is the second's output after rewriting; it is
+ * its own by RINKOLZA_REWRITE_MATCHED, and by RINKOLZA_REWRITE_BY_MARK where
+ * machine 2's acceptor mark is 0. With sigma on machine 1, with sigma on machine
+ * 2 and side output, or where an output of machine 1 is the sigma label, nothing
+ * is claimed of readings.
+ *
  * ---------------------------------------------------------------------------
  * Settings, 6 words (const, for rinkolza_open)
  *
@@ -149,11 +161,12 @@
  * final weight equal to zero counts as final for the filters, but the composed
  * state is then not final.
  *
- * Sigma stands for the rest: a label without a match of its own, neither 0 nor
- * RINKOLZA_NO_LABEL and in the machine's allowed list, is given each sigma
- * transition, rewritten. A label with matches of its own gets those only. (This
- * is what OpenFst calls rho today.) Asked for the sigma label itself: refusal
- * 11. A machine with a sigma label must be sorted on its matched side.
+ * Sigma stands for any letter, as OpenFst's does: a label that is neither 0 nor
+ * RINKOLZA_NO_LABEL is given all its own matches and then, where the machine's
+ * allowed list has it, each sigma transition, rewritten; each in the order of
+ * the list. Epsilon is given no sigma transition. Asked for the sigma label
+ * itself: refusal 11. A machine with a sigma label must be sorted on its
+ * matched side.
  *
  * Allowed lists (const, one for each machine, lent at every call): any words in
  * any order. `has1`, `has2` say whether there is a list: 0, no list, and every

@@ -1,4 +1,4 @@
-/* Calls the library from C: document 01's case 1 by each filter, by the first listed and compared with 01's listing by tests/c_example.sh; then slices of every short length and
+/* Calls the library from C: document 01's case 1 by each filter, by the first listed and compared with 01's listing by tests/c_example.sh; sigma; then slices of every short length and
  * damaged words, where it checks that a refused call changes nothing. Where the checks 1 to 8 pass, it makes the call that does not check too, on a copy of the same words, and
  * compares all that the two leave. Memos are lent from call to call of an opening, and now and then put back to zeros; so too in compositions of drawn machines, state by state.
  * It prints the listing, then what it counted; it ends with 1 at the first thing that is wrong. */
@@ -65,6 +65,18 @@ static void each_filter(void) {
     }
     six[1] = filter;
     need(LEN(sizes) == filter && open_by(six) == RINKOLZA_REFUSED_SETTINGS, "a number of no filter");
+}
+
+/* Machine 1 writes 3; machine 2 makes 6 of it and 7 of sigma, 9: both, its own first. Where 4 alone is allowed, its own alone. */
+static void any_letter(void) {
+    static const uint32_t one[] = {1, 1, 1, 0, 0, 0, 1, 1, 0, 1, 3, 0, 0, 0}, two[] = {1, 2, 1, 1, 0, 0, 1, 1, 0, 3, 6, 0, 0, 2, 9, 7, 0, 0, 0};
+    static const uint32_t six[6] = {RINKOLZA_COST, RINKOLZA_SEQUENCE, RINKOLZA_NO_LABEL, 0, 9, RINKOLZA_REWRITE_MATCHED}, allowed[] = {4};
+    uint32_t has;
+    for (has = 0; has < 2; has++) {
+        need(rinkolza_open(six, 6, session, 9, one, LEN(one), two, LEN(two), NULL, 0, 0, allowed, 1, has, heads, HEADS, states, LEN(states), trs, LEN(trs)) == 0, "an opening with sigma");
+        need(rinkolza_expand(session, 9, one, LEN(one), two, LEN(two), NULL, 0, 0, allowed, 1, has, heads, HEADS, states, LEN(states), trs, LEN(trs), 0, answer, 2) == 0, "an expansion with sigma");
+        need(answer[0] == 1 && answer[1] == 2 - has && trs[1] == 6 && (has || trs[RINKOLZA_TR_WORDS + 1] == 7), "own and sigma matches");
+    }
 }
 
 /* The listing of document 01. */
@@ -304,6 +316,7 @@ int main(void) {
     size_t n;
     int round;
     each_filter();
+    any_letter();
     list();
 
     /* expand again: as stored */

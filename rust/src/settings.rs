@@ -38,7 +38,7 @@ impl Kind {
 /// A reading of the first machine and one of the second agree where the second reads what the first writes, epsilons
 /// left out. Where both have epsilons among their inner labels (the first's outputs, the second's inputs), these can be
 /// taken in several orders. How often two readings that agree are then a reading of the composition, without sigma
-/// labels, is the filter's own:
+/// labels (with them see [`Sigma`]), is the filter's own:
 ///
 /// | filter | two readings that agree | a total of counts | the least cost |
 /// |---|---|---|---|
@@ -102,16 +102,35 @@ pub enum Rewrite {
     Matched,
 }
 
-/// A machine's sigma label: it stands for the rest and matches each label that the state has no transition for.
+/// A machine's sigma label: it stands for any letter.
 ///
-/// This is what OpenFst calls *rho* today; its sigma matches every label, beside the label's own transitions.
+/// After all transitions of a state that name a label follow those with sigma, rewritten to the label, where the label
+/// is allowed; both in the order of the list. Epsilon is no letter. This is OpenFst's sigma, which has no allowed lists.
+/// A label for the rest, for what a state does not name (OpenFst's *rho*), is not offered.
 ///
 /// ```
-/// use rinkolza::{Rewrite, Sigma};
+/// use rinkolza::{compose, text, Format, Kind, Options, Sigma};
 ///
-/// let sigma = Sigma::new(99).with_mode(Rewrite::Each).with_allowed([3, 4]);
-/// assert_eq!(sigma.label, Some(99));
+/// // The letter 2 costs 5, any letter (9) costs 0: the word 2 has a reading for each.
+/// let word = text::read("0 1 2 2\n1\n", "word", &Format::default())?;
+/// let rules = text::read("0 1 2 2 5\n0 1 9 9\n1\n", "rules", &Format::default())?;
+/// let costs = |sigma| {
+///     let composed = compose(&word, &rules, &Options::new().with_sigma2(sigma))?;
+///     let readings = composed.readings(Kind::Cost);
+///     Ok::<_, rinkolza::Error>(readings.map(|reading| reading.weight()).collect::<Vec<_>>())
+/// };
+/// assert_eq!(costs(Sigma::new(9))?, [Some(5), Some(0)]);
+/// // Sigma may match 3 and 4 alone: the word has its own transition.
+/// assert_eq!(costs(Sigma::new(9).with_allowed([3, 4]))?, [Some(5)]);
+/// # Ok::<(), rinkolza::Error>(())
 /// ```
+///
+/// With sigma on the second machine alone, and no output of the first that is this label, the filters `Sequence`,
+/// `Alternate` and `Match` list each two readings that agree once, and no others. Two agree then where, epsilons left
+/// out, the second reads as many labels as the first writes and, place by place, these are equal, or the second's is
+/// sigma and the first's is allowed. (The side must be `Input` or `Both`, as it always is after
+/// [`Composition::open`](crate::Composition::open) with such a sigma.) With sigma on the first machine, or where the first
+/// writes the second's sigma label, nothing is claimed of readings.
 #[derive(Clone, Debug, Default, PartialEq, Eq)]
 #[non_exhaustive]
 pub struct Sigma {

@@ -143,19 +143,25 @@ fn sigma_beside_an_explicit_label() {
     let second = [1, 2, 1, 1, 0, 0, 1, 1, 0, 3, 6, 0, 0, 2, 9, 7, 0, 0, 0];
     let first = |output| [1, 1, 1, 0, 0, 0, 1, 1, 0, 1, output, 0, 0, 0];
     let settings = [0, 0, MAX, 0, 9, 0];
-    assert!(listed(settings, &first(3), &second)
-        .unwrap()
-        .contains("t 1 6 0 0\nend 1 1\n"));
-    assert!(listed(settings, &first(4), &second)
-        .unwrap()
-        .contains("t 1 7 0 0\nend 1 1\n"));
-    let mut lists = inputs(settings, &first(4), &second);
-    lists.allowed2 = Some(vec![]);
-    assert!(listing(opened(lists.clone()))
-        .unwrap()
-        .ends_with("end 1 0\n"));
-    lists.allowed2 = Some(vec![8, 4]);
-    assert!(listing(opened(lists)).unwrap().ends_with("end 1 1\n"));
+    let allowing = |output, allowed: Option<&[u32]>| {
+        let mut inputs = inputs(settings, &first(output), &second);
+        inputs.allowed2 = allowed.map(<[u32]>::to_vec);
+        listing(opened(inputs)).unwrap()
+    };
+    let start = "side input\ns 0 0 0 0 0\n";
+    let both = format!("{start}t 1 6 0 0\nt 1 7 0 0\nend 1 2\n");
+    let own = format!("{start}t 1 6 0 0\nend 1 1\n");
+    let sigma = format!("{start}t 1 7 0 0\nend 1 1\n");
+    let none = format!("{start}end 1 0\n");
+    for (allowed, of_3, of_4) in [
+        (None, &both, &sigma),
+        (Some(&[][..]), &own, &none),
+        (Some(&[8, 4]), &own, &sigma),
+        (Some(&[3]), &both, &none),
+    ] {
+        assert_eq!(allowing(3, allowed), *of_3, "{allowed:?}");
+        assert_eq!(allowing(4, allowed), *of_4, "{allowed:?}");
+    }
 }
 
 #[test]

@@ -2,11 +2,15 @@
 """Holds the program beside OpenFst's tools on drawn machines.
 
     tests/openfst.py PROGRAM [CASES [SEED]]
+    tests/openfst.py --sigma PROGRAM [CASES [SEED]]
 
 Texts: `rinkolza print` against `fstcompile | fstprint`, with and without symbol tables, as acceptors, with kept state numbers.
 Compositions: `rinkolza compose --sort never` against `fstcompose --connect=false`, each filter, lists sorted on both inner sides, on one, on
 none (which both refuse; then sorted first).
 Pictures: `rinkolza draw` through `dot`, and its edges against `fstdraw`'s.
+
+--sigma: compositions with a sigma label on machine 1, on machine 2 or on both, each filter and rewrite mode, against OpenFst's SigmaMatcher; refusals 5, 6, 10
+and 11 against its errors. fstcompose has no option for that matcher, so openfst_sigma.cc asks the library for it: this needs g++ and OpenFst's headers. OpenFst has no allowed lists, and none are drawn. "own and sigma matches": a label that is looked up at the start has both.
 
 Costs are below 2 ^ 20, so that OpenFst's floating point numbers are exact. Compositions are held to be equal line by line: state numbers and the order of
 transitions too. Where the tools are not installed the script says so and ends well.
@@ -22,6 +26,16 @@ from pathlib import Path
 TOOLS = ["fstcompile", "fstprint", "fstcompose", "fstdraw"]
 # Ours and OpenFst's name for each.
 FILTERS = {"sequence": "sequence", "alternate": "alt_sequence", "match": "match", "null": "null", "trivial": "trivial", "no_match": "no_match"}
+REWRITES = ["auto", "always", "never"]
+# The fields of a line that hold the inner label, in machine 1 and in machine 2.
+SIDES = 3, 2
+# OpenFst's errors by sigma, and the refusals that stand for them.
+ERRORS = {
+    "1st argument cannot perform required matching": 5,
+    "2nd argument cannot perform required matching": 6,
+    "Both sides can't require match": 10,
+    "bad label (sigma)": 11,
+}
 
 
 def run(*words, stdin=b""):
@@ -82,12 +96,39 @@ class Draw:
             s = r.randrange(states)
             pair = [r.choice([0, r.randrange(labels)]), r.choice([0, r.randrange(labels)])]
             lists[s].append([s, r.randrange(states)] + pair + [self.weight()])
+        return self.lines(lists, side, sort)
+
+    def lines(self, lists, side, sort):
+        """Lines of a machine with these lists, some of its states final."""
         lines = []
         for s, trs in lists.items():
             lines += sorted(trs, key=lambda t: t[side]) if sort else trs
-            if not trs or r.random() < 0.4:
-                lines.append([s, r.choice(["Infinity", "", "2", "5"])])
+            if not trs or self.random.random() < 0.4:
+                lines.append([s, self.random.choice(["Infinity", "", "2", "5"])])
         return "".join("\t".join(str(f) for f in line if f != "") + "\n" for line in lines)
+
+    def sigma_lists(self, side, sigma, letters):
+        """Lists of a machine whose labels on that side are 0, these letters and, where there is one, sigma; with sigma it may be an acceptor."""
+        r = self.random
+        states, acceptor = r.randrange(1, 5), sigma is not None and r.random() < 0.3
+        lists = {s: [] for s in range(states)}
+        for _ in range(r.randrange(2 * states, 8 * states)):
+            tr = [r.randrange(states), r.randrange(states), 0, 0, self.weight()]
+            outer = 5 - side
+            tr[side] = r.choice([0] + letters + ([] if sigma is None else [sigma, sigma]))
+            tr[outer] = tr[side] if acceptor else r.choice([0, 1, 2, tr[side]])
+            lists[tr[0]].append(tr)
+        return lists
+
+    def sigma_machines(self):
+        """Sigma labels (none: no sigma), and the lists and lines of two machines. Seldom a machine has the other's sigma, or is not sorted by its own: both refuse that."""
+        r = self.random
+        one, other = r.randrange(1, 5), r.randrange(1, 5)
+        sigmas = r.choice(3 * [(one, None)] + 4 * [(None, one)] + [(one, other)])
+        letters = [[x for x in range(1, 5) if x != shunned or r.random() < 0.1] for shunned in reversed(sigmas)]
+        lists = [self.sigma_lists(*each) for each in zip(SIDES, sigmas, letters)]
+        sorts = [r.random() < (0.6 if sigma is None else 0.95) for sigma in sigmas]
+        return sigmas, lists, [self.lines(*each) for each in zip(lists, SIDES, sorts)]
 
 
 def same_text(program, draw, folder):
@@ -156,6 +197,44 @@ def same_composition(program, draw, folder):
     return f"{ours_filter} same"
 
 
+def start_has_both(lists, sigmas):
+    """Whether at the start a label that is looked up in the machine with sigma has matches of its own there, beside sigma's; sigma is on one machine."""
+    inner = [{tr[side] for tr in machine[0]} for machine, side in zip(lists, SIDES)]
+    looked = 0 if sigmas[0] is not None else 1
+    return sigmas[looked] in inner[looked] and bool((inner[0] & inner[1]) - {0})
+
+
+def sigma_options(draw, sigmas):
+    """A filter and rewrite modes, as ours and theirs name them."""
+    ours_filter, theirs_filter = draw.random.choice(list(FILTERS.items()))
+    ours, theirs = ["--sort=never", f"--filter={ours_filter}"], [theirs_filter]
+    for k, sigma in enumerate(sigmas, 1):
+        mode = draw.random.choice(REWRITES)
+        theirs += [-1 if sigma is None else sigma, mode]
+        ours += [] if sigma is None else [f"--sigma{k}={sigma}", f"--rewrite{k}={mode}"]
+    return ours, theirs
+
+
+def same_sigma(program, peer, draw, folder):
+    sigmas, lists, texts = draw.sigma_machines()
+    for k, text in enumerate(texts):
+        (folder / f"{k}.txt").write_text(text)
+        (folder / f"{k}.fst").write_bytes(compiled(text))
+    options, words = sigma_options(draw, sigmas)
+    status, ours, error = run(program, "compose", *options, folder / "0.txt", folder / "1.txt")
+    told, binary, message = run(peer, folder / "0.fst", folder / "1.fst", *words)
+    case = options, texts, ours.decode(), error, message
+    for theirs, number in ERRORS.items():
+        if theirs in message:
+            assert told == 1 and status == 1 and f"refused {number}" in error, case
+            return f"refused {number} by both"
+    assert told == 0 and status == 0, case
+    assert ours.decode() == printed(binary), (case, printed(binary))
+    if None not in sigmas:
+        return "same, sigma on both machines"
+    return "same, own and sigma matches" if start_has_both(lists, sigmas) else "same"
+
+
 def same_examples(program):
     """The machines in examples/, with their symbols, by every filter."""
     folder = Path(__file__).resolve().parent.parent / "examples"
@@ -172,22 +251,51 @@ def same_examples(program):
     print(f"openfst: same_examples: {len(FILTERS)} same")
 
 
+def built(folder):
+    """The program around OpenFst's library; none where compiler or headers are not installed."""
+    peer, source = folder / "openfst_sigma", Path(__file__).resolve().parent / "openfst_sigma.cc"
+    if not shutil.which("g++"):
+        return None
+    status, _, error = run("g++", "-std=c++17", "-O1", "-o", peer, source, "-lfst", "-ldl")
+    if "fst/fstlib.h: No such file" in error:
+        return None
+    assert status == 0, error
+    return peer
+
+
+def repeat(check, cases, seed, *words):
+    """Draws cases for a check and counts what it says of them."""
+    draw, results = Draw(f"{seed} {check.__name__}"), {}
+    for _ in range(cases):
+        with tempfile.TemporaryDirectory() as folder:
+            result = check(*words, draw, Path(folder))
+        results[result] = results.get(result, 0) + 1
+    print(f"openfst: {check.__name__}: " + ", ".join(f"{n} {word}" for word, n in sorted(results.items())))
+
+
+def with_sigma(program, cases, seed):
+    with tempfile.TemporaryDirectory() as folder:
+        peer = built(Path(folder))
+        if peer is None:
+            print("openfst: sigma: skipped: g++ or OpenFst's headers not installed")
+        else:
+            repeat(same_sigma, cases, seed, program, peer)
+
+
 def main():
-    program = Path(sys.argv[1]).resolve()
-    cases = int(sys.argv[2]) if len(sys.argv) > 2 else 200
-    seed = int(sys.argv[3]) if len(sys.argv) > 3 else 13
+    words = [word for word in sys.argv[1:] if word != "--sigma"]
+    program = Path(words[0]).resolve()
+    cases = int(words[1]) if len(words) > 1 else 200
+    seed = int(words[2]) if len(words) > 2 else 13
     lacking = [tool for tool in TOOLS if not shutil.which(tool)]
     if lacking:
         print(f"openfst: skipped: {', '.join(lacking)} not installed (OpenFst's command-line tools)")
         return
+    if "--sigma" in sys.argv:
+        return with_sigma(program, cases, seed)
     same_examples(program)
     for check in (same_text, same_picture, same_composition):
-        draw, results = Draw(f"{seed} {check.__name__}"), {}
-        for _ in range(cases if check != same_picture else cases // 5):
-            with tempfile.TemporaryDirectory() as folder:
-                result = check(program, draw, Path(folder))
-            results[result] = results.get(result, 0) + 1
-        print(f"openfst: {check.__name__}: " + ", ".join(f"{n} {word}" for word, n in sorted(results.items())))
+        repeat(check, cases if check != same_picture else cases // 5, seed, program)
 
 
 main()

@@ -323,11 +323,77 @@ fn refusals_in_words() {
         status == 1 && error.starts_with("rinkolza: refused 4: "),
         "{error}"
     );
-    let rest = call(
-        &["compose", "--sigma2=7", "--allowed2=9", &file, "-"],
-        "0 0 7 7\n0\n",
+    let (status, error) = complaint(&["compose", "--sigma2=9", &file, "-"], "0 0 9 9\n0\n");
+    assert!(
+        status == 1 && error.starts_with("rinkolza: refused 11 at composed state 0: "),
+        "{error}"
     );
-    assert_eq!(said(&rest).1, "0\t0\t9\t9\n0\n");
+    std::fs::remove_dir_all(&folder).unwrap();
+}
+
+/// The letter 3 has a transition of its own, the letter 4 none; sigma is 7. What each becomes.
+#[test]
+fn sigma_by_its_options() {
+    let letters = "0 0 3 3\n0 0 4 4\n0\n";
+    let rules = "0 0 3 3 5\n0 0 7 7\n0\n";
+    let both = ["3 3 5", "3 3", "4 4"];
+    for (options, becomes) in [
+        (&["--sigma2=7"][..], &both[..]),
+        (&["--sigma2=7", "--rewrite2=each"], &both),
+        (
+            &["--sigma2=7", "--rewrite2=matched"],
+            &["3 3 5", "3 7", "4 7"],
+        ),
+        (&["--sigma2=7", "--allowed2=3"], &["3 3 5", "3 3"]),
+        (&["--sigma2=7", "--allowed2=4,9"], &["3 3 5", "4 4"]),
+        (&["--sigma2=7", "--allowed2="], &["3 3 5"]),
+        (&["--sigma1=7"], &both),
+        (
+            &["--sigma1=7", "--rewrite1=matched"],
+            &["3 3 5", "7 3", "7 4"],
+        ),
+        (&["--sigma1=7", "--allowed1=4,9"], &["3 3 5", "4 4"]),
+    ] {
+        let mut machines = [letters, rules];
+        machines.rotate_left(usize::from(options[0] == "--sigma1=7"));
+        let composed = composed_with(options, machines[0], machines[1], "sigma");
+        let lines = becomes.iter().map(|labels| format!("0 0 {labels}\n"));
+        let expected = lines.collect::<String>() + "0\n";
+        assert_eq!(composed.replace('\t', " "), expected, "{options:?}");
+    }
+}
+
+/// The commands of README's part on sigma, with what it says that they print.
+#[test]
+fn the_readme_on_sigma() {
+    let readme = include_str!("../../README.md");
+    let part = readme
+        .split("\n## ")
+        .find(|part| part.starts_with("Sigma\n"));
+    let indented = part
+        .unwrap()
+        .split("\n\n")
+        .filter(|block| block.starts_with("    "));
+    let blocks: Vec<String> = indented
+        .map(|block| block.replace("    ", "") + "\n")
+        .collect();
+    assert_eq!(blocks.len(), 4);
+    let folder = std::env::temp_dir().join(format!("rinkolza-readme-{}", std::process::id()));
+    std::fs::create_dir_all(&folder).unwrap();
+    for block in blocks.chunks(2) {
+        let commands = block[0].replace("rinkolza ", "\"$RINKOLZA\" ");
+        let output = Command::new("sh")
+            .args(["-ec", &commands])
+            .env("RINKOLZA", env!("CARGO_BIN_EXE_rinkolza"))
+            .current_dir(&folder)
+            .output()
+            .expect("a shell");
+        let (status, text, error) = said(&output);
+        assert_eq!(
+            (status, text.replace('\t', " "), error),
+            (0, block[1].clone(), "")
+        );
+    }
     std::fs::remove_dir_all(&folder).unwrap();
 }
 
@@ -350,7 +416,10 @@ fn helpful_words() {
         ("--connect", "fstconnect"),
         ("--connect=false", "fstcompose --connect=false"),
         ("--compose_filter=match", "--filter"),
-        ("--rho2=3", "--sigma1 or --sigma2"),
+        ("--rho2=3", "which OpenFst calls rho, is not offered"),
+        ("--rho_label=3", "which OpenFst calls rho, is not offered"),
+        ("--sigma_label=3", "it is named by --sigma1 or --sigma2"),
+        ("--sigma=3", "it is named by --sigma1 or --sigma2"),
         ("--show_weight_one", "it is --show-weight-one"),
     ] {
         let (status, error) = complaint(&["compose", option, "-", "a"], "");
@@ -407,7 +476,7 @@ fn the_help_fits_and_names_every_option() {
         "refused 13",
         "include/rinkolza.h",
         "4096",
-        "rho",
+        "OpenFst's rho",
         "--connect=false",
         "sequence|alternate|match|null|trivial|no_match",
     ] {

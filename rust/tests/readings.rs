@@ -3,7 +3,9 @@
 mod common;
 
 use common::{Draw, EXACT, FILTERS};
-use rinkolza::{compose, text, words, Filter, Format, Kind, Machine, Options, Reading, Tr};
+use rinkolza::{
+    compose, text, words, Filter, Format, Kind, Machine, Options, Reading, Rewrite, Sigma, Tr,
+};
 
 /// The paths from a state that have exactly so many transitions and end in a final state, in the order of the lists.
 fn plainly(machine: &Machine, kind: Kind, state: u32, length: usize) -> Vec<(Vec<Tr>, u32)> {
@@ -123,11 +125,12 @@ fn forward(machine: &Machine) -> Machine {
         let ahead = machine.trs(state).iter().filter(|tr| tr.target > state);
         trs.extend(ahead.map(|&tr| (state, tr)));
     }
-    let finals: Vec<(u32, u32)> = machine
-        .states()
-        .filter_map(|state| Some((state, machine.final_weight(state)?)))
-        .collect();
-    Machine::from_lists(Some(0), &trs, &finals).unwrap()
+    Machine::from_lists(Some(0), &trs, &finals(machine)).unwrap()
+}
+
+fn finals(machine: &Machine) -> Vec<(u32, u32)> {
+    let last = |state| Some((state, machine.final_weight(state)?));
+    machine.states().filter_map(last).collect()
 }
 
 /// A reading of each of two machines that agree: the second reads what the first writes.
@@ -137,39 +140,82 @@ struct Pair {
     said: Said,
 }
 
-fn pairs(first: &Machine, second: &Machine, kind: Kind) -> Vec<Pair> {
+/// What the second's reading writes where it reads this word, sigma in it being any letter that is allowed; none: the two
+/// do not agree.
+fn written(word: &[u32], reading: &Reading, sigma: &Sigma, rewrites: bool) -> Option<Vec<u32>> {
+    let allows = |label| {
+        sigma
+            .allowed
+            .as_ref()
+            .is_none_or(|list| list.contains(label))
+    };
+    let mut word = word.iter();
+    let mut written = Vec::new();
+    for tr in &reading.trs {
+        let by_sigma = Some(tr.input) == sigma.label;
+        let read = match tr.input {
+            0 => &0,
+            _ => word.next()?,
+        };
+        if *read != tr.input && !(by_sigma && allows(read)) {
+            return None;
+        }
+        let takes_it = by_sigma && rewrites && tr.output == tr.input;
+        written.push(if takes_it { *read } else { tr.output });
+    }
+    written.retain(|&label| label != 0);
+    word.next().is_none().then_some(written)
+}
+
+/// The pairs that agree, with sigma on the second machine's inputs.
+fn pairs(first: &Machine, second: &Machine, kind: Kind, sigma: &Sigma) -> Vec<Pair> {
     let product = |a: u64, b: u64| if kind == Kind::Cost { a + b } else { a * b };
-    let others: Vec<(Vec<u32>, Reading)> = second
-        .readings(kind)
-        .map(|other| (other.input(), other))
-        .collect();
+    let rewrites = match sigma.mode {
+        Rewrite::Auto => second.is_acceptor(),
+        mode => mode == Rewrite::Each,
+    };
+    let others: Vec<Reading> = second.readings(kind).collect();
     let mut pairs = Vec::new();
     for one in first.readings(kind) {
         let word = one.output();
-        for (_, other) in others.iter().filter(|(read, _)| *read == word) {
+        for other in &others {
+            let Some(written) = written(&word, other, sigma, rewrites) else {
+                continue;
+            };
             let weight = product(one.weight().unwrap(), other.weight().unwrap());
             pairs.push(Pair {
                 inner: [
                     one.trs.iter().map(|tr| tr.output).collect(),
                     other.trs.iter().map(|tr| tr.input).collect(),
                 ],
-                said: (one.input(), other.output(), weight),
+                said: (one.input(), written, weight),
             });
         }
     }
     pairs
 }
 
-/// Composes drawn machines without cycles by these filters: what is listed is each pair as often as said, and no more.
-/// How many pairs are listed never, once, and more often.
-fn compare(filters: &[Filter], times: impl Fn(Filter, &Pair) -> usize) -> [usize; 3] {
+/// Two drawn machines without cycles, and the second's sigma.
+type Drawn = (Machine, Machine, Sigma);
+
+fn without_sigma(draw: &mut Draw) -> Drawn {
+    let mut machine = || forward(&words::decode(&draw.machine(None, 9, 6)).unwrap());
+    (machine(), machine(), Sigma::default())
+}
+
+/// Composes drawn machines by these filters: what is listed is each pair as often as said, and no more. How many pairs
+/// are listed never, once, and more often.
+fn compare(
+    filters: &[Filter],
+    drawn: fn(&mut Draw) -> Drawn,
+    mut times: impl FnMut(Filter, &Pair) -> usize,
+) -> [usize; 3] {
     let mut draw = Draw(42);
     let mut met = [0; 3];
     for _ in 0..800 {
-        let mut machine = || forward(&words::decode(&draw.machine(None, 9, 6)).unwrap());
-        let (first, second) = (machine(), machine());
+        let (first, second, sigma) = drawn(&mut draw);
         for kind in [Kind::Cost, Kind::Count] {
-            let pairs = pairs(&first, &second, kind);
+            let pairs = pairs(&first, &second, kind, &sigma);
             for &filter in filters {
                 let mut expected = Vec::new();
                 for pair in &pairs {
@@ -179,8 +225,9 @@ fn compare(filters: &[Filter], times: impl Fn(Filter, &Pair) -> usize) -> [usize
                 }
                 expected.sort();
                 let options = Options::new().with_kind(kind).with_filter(filter);
+                let options = options.with_sigma2(sigma.clone());
                 let composed = compose(&first, &second, &options).unwrap();
-                assert_eq!(said(composed.readings(kind)), expected, "{filter:?}");
+                assert_eq!(said(composed.readings(kind)), expected, "{options:?}");
             }
         }
     }
@@ -190,15 +237,58 @@ fn compare(filters: &[Filter], times: impl Fn(Filter, &Pair) -> usize) -> [usize
 
 #[test]
 fn a_composition_has_one_reading_for_each_pair_that_meets() {
-    let [never, once, more] = compare(&FILTERS[..EXACT], |_, _| 1);
+    let [never, once, more] = compare(&FILTERS[..EXACT], without_sigma, |_, _| 1);
     assert!(never == 0 && once > 3000 && more == 0);
+}
+
+const SIGMA: u32 = 3;
+
+/// The machine with each of its transitions changed.
+fn changed(machine: &Machine, change: impl Fn(Tr) -> Tr) -> Machine {
+    let trs: Vec<(u32, Tr)> = machine
+        .states()
+        .flat_map(|state| machine.trs(state).iter().map(move |&tr| (state, tr)))
+        .map(|(state, tr)| (state, change(tr)))
+        .collect();
+    Machine::from_lists(Some(0), &trs, &finals(machine)).unwrap()
+}
+
+/// The second has sigma, which the first never hands on; it may be an acceptor, and there may be an allowed list.
+fn with_sigma(draw: &mut Draw) -> Drawn {
+    let (first, mut second, mut sigma) = without_sigma(draw);
+    let first = changed(&first, |tr| Tr {
+        output: tr.output.min(SIGMA - 1),
+        ..tr
+    });
+    if draw.one_in(3) {
+        second = changed(&second, |tr| Tr {
+            output: tr.input,
+            ..tr
+        });
+    }
+    sigma.label = Some(SIGMA);
+    sigma.mode = [Rewrite::Auto, Rewrite::Each, Rewrite::Matched][draw.below(3) as usize];
+    sigma.allowed = [None, Some(vec![]), Some(vec![2, 7])][draw.below(3) as usize].clone();
+    (first, second, sigma)
+}
+
+/// A letter that is allowed meets sigma and, beside it, itself: each of these pairs is a reading of its own.
+#[test]
+fn with_sigma_on_the_second_too() {
+    let mut by_sigma = 0;
+    let [never, once, more] = compare(&FILTERS[..EXACT], with_sigma, |_, pair| {
+        by_sigma += usize::from(pair.inner[1].contains(&SIGMA));
+        1
+    });
+    println!("{by_sigma} pairs by sigma");
+    assert!(never == 0 && once > 3000 && more == 0 && by_sigma > 500);
 }
 
 /// With the same inner labels place by place, epsilons included.
 #[test]
 fn null_lists_the_pairs_with_equal_labels_once() {
     let equal = |_, pair: &Pair| usize::from(pair.inner[0] == pair.inner[1]);
-    let [never, once, more] = compare(&[Filter::Null], equal);
+    let [never, once, more] = compare(&[Filter::Null], without_sigma, equal);
     assert!(never > 500 && once > 500 && more == 0);
 }
 
@@ -230,7 +320,7 @@ fn trivial_and_no_match_list_each_pair_in_every_order() {
             let [one, other] = &pair.inner;
             orders(filter == Filter::Trivial, one, other)
         };
-        let [never, once, more] = compare(&[filter], in_each);
+        let [never, once, more] = compare(&[filter], without_sigma, in_each);
         assert!(never == 0 && once > 500 && more > 100);
     }
 }

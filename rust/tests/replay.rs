@@ -1,4 +1,5 @@
-//! The replay vectors: cases of ours with the answers of the Rust, `crates/replay`.
+//! The replay vectors: cases of ours with the answers of the Rust or, where a label has own and sigma matches, of the
+//! model in `tests/`, `crates/replay`.
 //!
 //! Each case is six lines (`-` for a listing or the states to expand; settings; two allowed lists; two machines), each
 //! answer ends in a line `--`. In the last case the input ends; its answer is ours. They are run by plain calls in the
@@ -10,7 +11,7 @@ mod common;
 use common::{listing, number, ordered, Fixed, World, LEAST};
 use rinkolza::{Composition, Inputs, Room};
 use std::fs;
-use std::path::{Path, PathBuf};
+use std::path::Path;
 
 const ROOM: Room = Room {
     heads: 64,
@@ -28,10 +29,31 @@ fn growing_room() {
     replay(|inputs| Composition::open_words(inputs, LEAST, ROOM).map_err(number));
 }
 
+/// The cases that `tests/ours.txt` numbers, counted from 1, have a sigma label: without one each answer is the Rust's.
+#[test]
+fn ours_have_sigma() {
+    let (cases, ours) = (file("crates/replay/stdin"), file("tests/ours.txt"));
+    let lines: Vec<&str> = cases.lines().collect();
+    let numbers = ours.lines().skip(1).flat_map(str::split_whitespace);
+    let numbers: Vec<usize> = numbers.map(|word| word.parse().unwrap()).collect();
+    assert!(numbers.len() > 200 && numbers.windows(2).all(|pair| pair[0] < pair[1]));
+    for number in numbers {
+        let settings = words(lines[6 * (number - 1) + 1]).expect("settings");
+        assert!(
+            [2, 4].into_iter().any(|label| settings[label] != u32::MAX),
+            "{number}"
+        );
+    }
+}
+
+/// A file of the repository.
+fn file(name: &str) -> String {
+    let root = Path::new(env!("CARGO_MANIFEST_DIR")).join("..");
+    fs::read_to_string(root.join(name)).expect(name)
+}
+
 fn replay<W: World>(open: impl Fn(Inputs) -> Result<W, u32>) {
-    let folder: PathBuf = Path::new(env!("CARGO_MANIFEST_DIR")).join("../crates/replay");
-    let text = |name: &str| fs::read_to_string(folder.join(name)).expect(name);
-    let (cases, answers) = (text("stdin"), text("stdout"));
+    let (cases, answers) = (file("crates/replay/stdin"), file("crates/replay/stdout"));
     let lines: Vec<&str> = cases.lines().collect();
     let answers: Vec<&str> = answers.split_terminator("--\n").collect();
     assert_eq!(lines.len().div_ceil(6), answers.len(), "an answer a case");

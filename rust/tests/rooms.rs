@@ -14,7 +14,7 @@ use rinkolza::{Inputs, Room};
 use std::collections::{BTreeMap, BTreeSet};
 
 /// The sorts of cases that are counted in every test, beside the moves on epsilons of each filter.
-const SORTS: [&str; 9] = [
+const SORTS: [&str; 10] = [
     "12, and 13 behind it",
     "13, and 12 behind it",
     "13",
@@ -24,6 +24,7 @@ const SORTS: [&str; 9] = [
     "again, falling",
     "found before",
     "sigma",
+    "own and sigma",
 ];
 
 /// How often each sort of case was met; one that never was is there too.
@@ -204,6 +205,7 @@ fn count(seen: &mut Seen, inputs: &Inputs, step: &Step, rooms: &[(usize, usize)]
     seen.count("again, falling", pairs.any(|pair| pair[0] > pair[1]));
     seen.count("found before", before);
     seen.count("sigma", sigma);
+    seen.count("own and sigma", step.has_own_before_sigma(inputs));
 }
 
 #[test]

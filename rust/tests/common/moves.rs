@@ -95,6 +95,15 @@ impl Step {
         }
     }
 
+    /// Whether a record meets its own label and then, as the next move, sigma.
+    pub fn has_own_before_sigma(&self, inputs: &Inputs) -> bool {
+        self.moves.windows(2).any(|pair| {
+            let [own, sigma] = [0, 1].map(|place| pair[place].is_by_sigma(inputs));
+            let met = |machine: usize| pair[0].made_of[machine] == pair[1].made_of[machine];
+            !own && sigma && (met(0) || met(1))
+        })
+    }
+
     /// The room that it needs.
     pub fn needs(&self) -> (usize, usize) {
         let new = self.new.last().copied().unwrap_or(0);

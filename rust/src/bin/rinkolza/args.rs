@@ -55,9 +55,10 @@ fn hint(name: &str) -> String {
             ": states from which no final state can be reached stay, as with fstcompose --connect=false; fstconnect takes them out".to_string()
         }
         "compose-filter" => ": the filter is named by --filter".to_string(),
-        "rho1" | "rho2" | "rho-label" | "sigma-label" => {
-            ": the label for the rest, which OpenFst calls rho, is named by --sigma1 or --sigma2".to_string()
+        "rho1" | "rho2" | "rho-label" => {
+            ": a label for the rest, which OpenFst calls rho, is not offered; sigma (--sigma1, --sigma2) is any letter".to_string()
         }
+        "sigma" | "sigma-label" => ": it is named by --sigma1 or --sigma2".to_string(),
         _ if ours != name && OPTIONS.iter().any(|option| option.name == ours) => format!(": it is --{ours}"),
         _ => String::new(),
     }
