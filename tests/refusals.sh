@@ -1,6 +1,6 @@
 #!/bin/sh
-# After `rt ci`: each must-fail edit was refused because a fact no longer holds. Where the first error says that a step which the proof names is not there, the edit changed the shape
-# of the code, and a right program of that shape would be refused too: it shows nothing.
+# After `rt ci`: a must-fail edit is worth something where it is refused because a fact no longer holds. Some first errors say that the proof names steps, or uses a test in a form, that the
+# changed code has not: then a right program of that shape would be refused too, and the edit shows nothing. This looks for the messages of that sort that are known; it cannot know others.
 set -eu
 cd "$(dirname "$0")/.."
 bad=0 seen=0
@@ -18,8 +18,8 @@ for edit in crates/*/must-fail/*.edit; do
         on && (/^[^ ]*:[0-9]+:[0-9]+: / || /^(fn|struct|enum|logic|library|crate) /) { exit }
         on' "$log")
     case $first in
-    *'has no field'* | *'has no `Need-'* | *'in a cycle of calls'*)
-        echo "refusals: $edit changes the shape of the code alone:"
+    *'has no field'* | *'has no `Need-'* | *'in a cycle of calls'* | *'this is applied to an argument but has type'*)
+        echo "refusals: $edit is refused for the shape of its code:"
         echo "$first"
         bad=1
         ;;

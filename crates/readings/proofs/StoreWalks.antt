@@ -1,5 +1,5 @@
 -- For closed instances of 3c: the accepting paths of a store without cycles, computed, and tests of "settled" and "finished".
-use mathlib.Core.Path.{_≡_, refl, sym, subst}
+use mathlib.Core.Path.{_≡_, refl, sym, _∙_, subst}
 use mathlib.Core.Bool.{Bool, true, false, not, _&&_, _||_, false≢true}
 use mathlib.Core.List.{List, [], _∷_, _++_, map, flatMap, List·Memᴰ as In, List·Memᴰ·head as here, List·Memᴰ·not-nil, List·Memᴰ·cases-cons, List·Memᴰ·append-cases, Memᴰ·append-left, Memᴰ·append-right, Memᴰ·map, Memᴰ·of-map}
 use mathlib.Core.Logic.{_↔_, _⊎_, inl, inr, ⊎-elim}
@@ -9,7 +9,7 @@ use native.Mathlib.Omega.{arith}
 use lib.Dec.{eqb, ltb, leb}
 use borrow.Author.Tests.{eqb-true, eqb-false, ltb-true, leb-true, not-true}
 use Rattle.lists.specs.Lists.{every, interval}
-use Rattle.lists.proofs.Members.{and-left, and-right, in-flat, of-flat, every-in, in-interval}
+use Rattle.lists.proofs.Members.{and-left, and-right, or-cases, in-flat, of-flat, every-in, in-interval}
 use Rattle.words.specs.Labels.{noLabel, Checked, good, refused}
 use Rattle.words.specs.Matches.{inputs, outputs}
 use Rattle.words.specs.Machines.{trCount, machineOf}
@@ -110,12 +110,8 @@ test-sigma s l side e = record {
       eqb-false _ _ (not-true _ test) z;
 }
   where
-    second : (a b : Bool) → not a ≡ true → a || b ≡ true → b ≡ true
-    second true b h z = absurd (false≢true h)
-    second false b h z = z
-
     set : isSet (sigma2 (compositionOf s l side)) ≡ true → readsLetters side && every (λ t. not (eqb (machineOf (l .m1) .output t) (s .sigma2))) (interval 1 (trCount (l .m1))) ≡ true
-    set h = second (eqb (s .sigma2) noLabel) _ h (and-right (eqb (s .sigma1) noLabel) _ e)
+    set h = ⊎-elim (λ z. absurd (false≢true (sym (not-true _ h) ∙ z))) (λ z. z) (or-cases (eqb (s .sigma2) noLabel) _ (and-right (eqb (s .sigma1) noLabel) _ e))
 
 -- 3c's condition, by a test
 unfoldable pub finishedTest : Settings → Lent → Side → World → Bool
