@@ -10,3 +10,4 @@ pub mod Rising
 pub mod Runs
 pub mod Totals
 pub mod Listed
+pub mod Asking

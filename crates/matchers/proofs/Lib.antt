@@ -1,5 +1,8 @@
+pub mod TwoClauses
 pub mod Seeks
 pub mod Turns
 pub mod Starts
-pub mod Asking
 pub mod Items
+pub mod Held
+pub mod Asking
+pub mod AskingCase

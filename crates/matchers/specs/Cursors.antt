@@ -1,17 +1,19 @@
 -- What a cursor has still to give, and what one asking answers.
 use mathlib.Core.Path.{_≡_}
-use mathlib.Core.Bool.{false, cond}
+use mathlib.Core.Bool.{Bool, false, cond}
 use mathlib.Core.List.{List, [], _∷_, _++_, map}
 use mathlib.Core.Option.{Option, none, some}
-use Prim.Native.Nat.{ℕ, zero, suc, _≤_}
+use Prim.Native.Nat.{ℕ}
 use lib.Dec.{eqb, leb}
-use lib.ListN.{length}
-use Rattle.lists.specs.Lists.{At, putIf, keepIf}
+use Rattle.lists.specs.Lists.{putIf, keepIf}
 use Rattle.words.specs.Labels.{epsLabel, noLabel, Checked, good, refused}
 use Rattle.words.specs.Matches.{MatchType, labelOn, Match, loop, own, viaSigma}
-use Rattle.words.specs.Machines.{trCount, listFrom, machineOf}
+use Rattle.words.specs.Machines.{trCount, firstOf, nextOf, listFrom, machineOf}
 use Rattle.words.specs.Sigmas.{rewrite}
 use Rattle.fst.specs.Meaning.{onOf}
+use Rattle.fst.specs.declared.Label.{Label}
+use Rattle.fst.specs.declared.MatchType.{MatchType as On}
+use Rattle.fst.specs.declared.StateId.{StateId}
 use Rattle.matchers.specs.Meaning.{Item, matchMeans, itemOf}
 use Rattle.matchers.specs.declared.Phase.{Phase}
 use Rattle.matchers.specs.declared.Phase.the-variants.{Own, Sigmas}
@@ -86,31 +88,50 @@ abbrev pub asked : List Item → Asked
 asked [] = record { given = none; left = [] }
 asked (i ∷ is) = record { given = some i; left = is }
 
+-- what a step of the code gives; none: the end
+abbrev pub givenBy : Step → Option Item
+givenBy (AMatch i c) = some (matchMeans i)
+givenBy (End c) = none
+
+-- the cursor that it hands back
+abbrev pub cursorOf : Step → Cursor
+cursorOf (AMatch i c) = c
+cursorOf (End c) = c
+
 -- the step of the code
 abbrev pub stepMeans : List ℕ → Step → Asked
-stepMeans m (AMatch i c) = record { given = some (matchMeans i); left = itemsLeft m c }
-stepMeans m (End c) = record { given = none; left = itemsLeft m c }
+stepMeans m r = record { given = givenBy r; left = itemsLeft m (cursorOf r) }
+
+-- Where a cursor stands once it was asked, by the first of the matches that it had to give: past the loop, at the place where it was; at the link of the record that was given, in that match's phase; and where
+-- there was none to give, at 0, the end.
+abbrev pub movedPast : List ℕ → Cursor → List Match → Cursor
+movedPast m c [] = movedTo c Sigmas 0
+movedPast m c (loop ∷ us) = movedTo c (c .phase) (c .tr)
+movedPast m c (own t ∷ us) = movedTo c Own (nextOf m t)
+movedPast m c (viaSigma t ∷ us) = movedTo c Sigmas (nextOf m t)
+
+abbrev pub cursorAfter : List ℕ → Cursor → Cursor
+cursorAfter m c = movedPast m c (matchesLeft m c)
 
 -- the sigma look-up's answer: what the cursor will give, or a refusal by its number in the table of "Answers"
 abbrev pub iterMeans : List ℕ → SigmaIter → Checked (List Item)
 iterMeans m (From c) = good (itemsLeft m c)
 iterMeans m (Refused n) = refused n
 
--- r answers the cursor c: what `next_match` ensures
-abbrev pub Answers : List ℕ → Cursor → Step → Type 0
-Answers m c r = stepMeans m r ≡ asked (itemsLeft m c)
+-- The first cursor of a look-up of the label x at state s: what is asked, the place of the first transition with the label, and the place from which sigma transitions are sought after it (0: from none).
+abbrev pub firstCursor : List ℕ → On → StateId → Label → Label → Bool → ℕ → Cursor
+firstCursor m on s x sigma both from = record {
+  on = on;
+  label = x;
+  sigma = sigma;
+  both = both;
+  phase = Own;
+  loops = eqb (x .0) epsLabel;
+  tr = head0 (withLabel (onOf on) m (looked (x .0)) (firstOf m (s .0)));
+  sigmas = from;
+}
 
--- the cursor that a step hands back
-abbrev pub cursorOf : Step → Cursor
-cursorOf (AMatch i c) = c
-cursorOf (End c) = c
-
--- r answers asking number k, counted from 0, of those that begin at the cursor c: each asks with the cursor that the one before handed back
-abbrev pub Asking : List ℕ → Cursor → ℕ → Step → Type 0
-Asking m c zero r = Answers m c r
-Asking m c (suc k) r = (q : Step) × Answers m c q × Asking m (cursorOf q) k r
-
--- What asking number k gives where the matches are ms: match number k, and from the end of the list on, none.
-pub record InOrder (item : Match → Item) (ms : List Match) (k : ℕ) (given : Option Item) : Type 0 where
-  pub each : (u : Match) → At ms k u → given ≡ some (item u)
-  pub thenNone : length ms ≤ k → given ≡ none
+-- the sigma look-up's first cursor is c, where it is not refused
+abbrev pub BeginsAt : SigmaIter → Cursor → Type 0
+BeginsAt (From d) c = d ≡ c
+BeginsAt (Refused n) c = Unit {0}

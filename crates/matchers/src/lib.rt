@@ -1,11 +1,11 @@
-// Matchers (matchers/mod.rs): a match, and a look-up of a label as a cursor over the machine's words. A cursor keeps places only; no match is stored.
+// Matchers (matchers/mod.rs): a match, and a look-up of a label as a cursor over the machine's words. A cursor keeps what was asked and places; no match is stored.
 mod sigma_matcher;
 mod sorted_matcher;
 
 ghost use mathlib.Core.Path.{_≡_};
 ghost use Rattle.words.specs.Sigmas.{replace as replaced, rewrite as rewritten};
 ghost use Rattle.fst.specs.Meaning.{onOf, trMeans};
-ghost use Rattle.matchers.specs.Cursors.{looked as lookedFor, withLabel, head0, movedTo, ownLeft, sigmaLeft, itemsOf, itemsLeft, asked, stepMeans};
+ghost use Rattle.matchers.specs.Cursors.{looked as lookedFor, withLabel, head0, movedTo, ownLeft, sigmaLeft, itemsOf, itemsLeft, asked, stepMeans, cursorOf, movedPast, cursorAfter};
 use fst::EPS_LABEL;
 use fst::Label;
 use fst::MatchType;
@@ -149,6 +149,7 @@ fn moved(cursor: Cursor, phase: Phase, tr: u32) -> Cursor
 // Phase Sigmas, from the cursor's place on.
 fn sigma_next(m: &[u32], cursor: Cursor) -> Step
     ensures { λ r. ⌜ stepMeans (now (m .entry)) r ≡ asked (itemsOf (now (m .entry)) cursor (sigmaLeft (now (m .entry)) cursor (cursor .tr))) ⌝ }
+    ensures place { λ r. ⌜ cursorOf r ≡ movedPast (now (m .entry)) cursor (sigmaLeft (now (m .entry)) cursor (cursor .tr)) ⌝ }
 {
     let on = cursor.on;
     let sigma = cursor.sigma;
@@ -166,6 +167,7 @@ fn sigma_next(m: &[u32], cursor: Cursor) -> Step
 // Phase Own, from the cursor's place on; where it gives nothing more, phase Sigmas.
 fn own_next(m: &[u32], cursor: Cursor) -> Step
     ensures { λ r. ⌜ stepMeans (now (m .entry)) r ≡ asked (itemsOf (now (m .entry)) cursor (ownLeft (now (m .entry)) cursor (cursor .tr))) ⌝ }
+    ensures place { λ r. ⌜ cursorOf r ≡ movedPast (now (m .entry)) cursor (ownLeft (now (m .entry)) cursor (cursor .tr)) ⌝ }
 {
     let on = cursor.on;
     let label = cursor.label;
@@ -183,6 +185,7 @@ fn own_next(m: &[u32], cursor: Cursor) -> Step
 // The next match of a look-up, or the end. Asked on with the cursor that it answers, it gives each match once, in order, and then the end ever after.
 pub fn next_match(m: &[u32], cursor: Cursor) -> Step
     ensures { λ r. ⌜ stepMeans (now (m .entry)) r ≡ asked (itemsLeft (now (m .entry)) cursor) ⌝ }
+    ensures place { λ r. ⌜ cursorOf r ≡ cursorAfter (now (m .entry)) cursor ⌝ }
 {
     let phase = cursor.phase;
     if cursor.loops {
@@ -209,6 +212,7 @@ pub fn open<'a>(words: &'a [u32], cursor: Cursor) -> Matcher<'a>
 // `next_match` of what the reader holds. An enum holds no reference, so that the answer has the next cursor and not the next reader.
 pub fn next<'a>(r: Matcher<'a>) -> Step
     ensures { λ s. ⌜ stepMeans (now (r .entry .words)) s ≡ asked (itemsLeft (now (r .entry .words)) (r .entry .cursor)) ⌝ }
+    ensures place { λ s. ⌜ cursorOf s ≡ cursorAfter (now (r .entry .words)) (r .entry .cursor) ⌝ }
 {
     next_match(r.words, r.cursor)
 }
@@ -216,6 +220,7 @@ pub fn next<'a>(r: Matcher<'a>) -> Step
 // The same with plain parameters, for the walk over the matches, whose own cursor outlives the reader.
 pub fn ask(words: &[u32], cursor: Cursor) -> Step
     ensures { λ r. ⌜ stepMeans (now (words .entry)) r ≡ asked (itemsLeft (now (words .entry)) cursor) ⌝ }
+    ensures place { λ r. ⌜ cursorOf r ≡ cursorAfter (now (words .entry)) cursor ⌝ }
 {
     next(open(words, cursor))
 }

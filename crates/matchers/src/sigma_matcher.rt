@@ -4,13 +4,13 @@ ghost use mathlib.Core.Bool.{not, _&&_, cond};
 ghost use mathlib.Core.Option.{none};
 ghost use lib.Dec.{eqb};
 ghost use Rattle.words.specs.Labels.{noLabel};
-ghost use Rattle.words.specs.Machines.{acceptorMark};
+ghost use Rattle.words.specs.Machines.{acceptorMark, firstOf};
 ghost use Rattle.words.specs.Sides.{nonEmpty};
 ghost use Rattle.words.specs.Sigmas.{isAllowed, rewritesBoth, sigmaTrs};
 ghost use Rattle.words.specs.Settings.{operandOf};
 ghost use Rattle.fst.specs.Meaning.{onOf};
 ghost use Rattle.matchers.specs.Meaning.{allowedOf, lookupItems, standsFor};
-ghost use Rattle.matchers.specs.Cursors.{iterMeans};
+ghost use Rattle.matchers.specs.Cursors.{iterMeans, firstCursor, BeginsAt};
 use crate::Cursor;
 use crate::Phase;
 use crate::looked;
@@ -117,6 +117,11 @@ pub fn sigma_iter(
         let allowed = allowedOf (sigma .listed) (now (allowed .entry)) in
         let operand = operandOf (onOf on) (now (m .entry)) (sigma .label .0) (sigma .mode) allowed in
         iterMeans (now (m .entry)) r ≡ lookupItems operand (s .0) (label .0)
+        ) ⌝ }
+    ensures place { λ r. ⌜ (
+        let both = rewritesBoth (sigma .mode) (acceptorMark (now (m .entry))) in
+        let from = cond (standsFor (sigma .label .0) (allowedOf (sigma .listed) (now (allowed .entry))) (label .0)) (firstOf (now (m .entry)) (s .0)) 0 in
+        BeginsAt r (firstCursor (now (m .entry)) on s label (sigma .label) both from)
         ) ⌝ }
 {
     let named = sigma.label;

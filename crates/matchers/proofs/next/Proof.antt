@@ -37,12 +37,13 @@ use denote.Triple.Call.{calls-at}
 use denote.Triple.Entry.{Vals, onEntry}
 use denote.Triple.Spec.{Meets, tripleOf}
 use denote.Triple.Table.{entered, cited}
-use denote.Triple.Walked.{says, Stays, stay-none, walkOf, goes-none, Walks, ends-at, walked, walk-meets}
+use denote.Triple.Walked.{Stays, stay-none, walkOf, goes-none, Walks, ends-at, walked, walk-meets}
 use denote.Exit.{yes}
 use denote.Triple.Clauses.{ensured, lasts}
-use Rattle.matchers.specs.Cursors.{Answers}
 use Rattle.matchers.specs.declared.Matcher.{Matcher}
 use Rattle.matchers.specs.declared.Step.{Step}
+use Rattle.matchers.proofs.TwoClauses.{both-known, says-both}
+use Rattle.matchers.proofs.Turns.{Answers}
 use Rattle.matchers.proofs.Matcher as T
 use Rattle.matchers.proofs.Matcher.Laws as T′
 use Rattle.matchers.proofs.Cursor as X
@@ -119,14 +120,14 @@ module _ {M : Type 1} (𝓤 : URA M) (H : Heap 𝓤) (A : Atoms 𝓤) (W : Given
       -- [what the fields own together, in the callee's order; what the struct owns; the token]
       move ! (2 ∷ 0 ∷ []) $ use2 W (raw (NextMatch 𝓤 H A mem run .pre to)) asked $ frame ! $ done !)
 
-  -- of the callee's `ensured`, the clause alone: it has no `&mut`, so what is said of last values is dropped
+  -- of the callee's `ensured`, the clauses alone: it has no `&mut`, so what is said of last values is dropped
   said : (r : Step) → ent 𝓤 (ensured 𝓤 H A work.ended (work.clauses 𝓤 H A mem run) (κ, tt) (d .words, (d .cursor, tt)) tt r) (fact 𝓤 (Said r))
-  said r = exE 𝓤 _ (λ ws. snd∗ 𝓤 (sem 𝓤 H A (lasts work.ended (κ, tt) (d .words, (d .cursor, tt)) ws)) (fact 𝓤 (Said r)))
+  said r = exE 𝓤 _ (λ ws. via 𝓤 _ (snd∗ 𝓤 (sem 𝓤 H A (lasts work.ended (κ, tt) (d .words, (d .cursor, tt)) ws)) _) (both-known 𝓤 _ _))
 
   exits : (r : Step) (u : Val) → Said r → ent 𝓤 (⋆ 𝓤 H A (‵ (S.the-row .own r (u ∷ [])) ∷ (‵ (flft κ q) ⊛ ‵ ftrue) ∷ ‵ Own ∷ [])) (Post u)
   exits r u e =
       qed W (‵ (S.the-row .own r (u ∷ [])) ∷ (‵ (flft κ q) ⊛ ‵ ftrue) ∷ ‵ Own ∷ []) ∵
-      suffices ! _ (ends-at 𝓤 H A next.ended stayed (next.clauses 𝓤 H A mem run) W (((κ, tt), (q, tt), tt, (d, tt), (mach ∷ [], tt)), tt) u r (tt, tt) (tt, tt)) $ says ! e $
+      suffices ! _ (ends-at 𝓤 H A next.ended stayed (next.clauses 𝓤 H A mem run) W (((κ, tt), (q, tt), tt, (d, tt), (mach ∷ [], tt)), tt) u r (tt, tt) (tt, tt)) $ says-both ! e $
       move ! (1 ∷ []) $ frame ! $ nothing ! $ move ! (2 ∷ 0 ∷ []) $ fjoin ! $ frame ! $ done !
 
   module _ (C : Calls 𝓤 H) (Λ : Loops 𝓤 H) (fm : FmC 𝓤 H (W .laws) C) (known : Triple 𝓤 (C #matchers·next-match) (NextMatch 𝓤 H A mem run)) where

@@ -1,20 +1,25 @@
 -- The loop, or else by the phase.
-use mathlib.Core.Path.{sym, ap, _∙_}
 use denote.Ref.{now}
-use Rattle.matchers.specs.Cursors.{asked}
-use Rattle.matchers.proofs.Turns.{loop-turn, in-own, in-sigmas}
+use Rattle.matchers.proofs.Turns.{loop-turn, loop-place, in-own, in-sigmas, answers-all}
 use borrow.Author.Needs.{needs}
 use Rattle.matchers.proofs.next_match.Statement.{statement}
 use Rattle.matchers.proofs.next_match.Tie as tie
 
 returns : tie.Need-returns
-returns c = let a = c .before .before .before .args in rw (c .moved .ensures) (loop-turn (now (a .m)) (a .cursor) (c .before .if1 .taken))
+returns c =
+    let a = c .before .before .before .args in
+    let due = c .before .if1 .taken in
+    rw (c .moved .ensures) (loop-turn (now (a .m)) (a .cursor) due, loop-place (now (a .m)) (a .cursor) due)
 
 returns-2 : tie.Need-returns-2
-returns-2 c = let a = c .before .before .before .before .before .args in c .own-next .ensures ∙ ap asked (sym (in-own (now (a .m)) (a .cursor) (c .before .before .before .if1 .left) (c .before .enum-told .given .1)))
+returns-2 c =
+    let a = c .before .before .before .before .before .args in
+    answers-all (now (a .m)) (a .cursor) _ (c .own-next .result) (in-own (now (a .m)) (a .cursor) (c .before .before .before .if1 .left) (c .before .enum-told .given .1)) (c .own-next .ensures)
 
 returns-3 : tie.Need-returns-3
-returns-3 c = let a = c .before .before .before .before .before .args in c .sigma-next .ensures ∙ ap asked (sym (in-sigmas (now (a .m)) (a .cursor) (c .before .before .before .if1 .left) (c .before .enum-told2 .given .1)))
+returns-3 c =
+    let a = c .before .before .before .before .before .args in
+    answers-all (now (a .m)) (a .cursor) _ (c .sigma-next .result) (in-sigmas (now (a .m)) (a .cursor) (c .before .before .before .if1 .left) (c .before .enum-told2 .given .1)) (c .sigma-next .ensures)
 
 pub next-match-spec : {M : Type 1} → statement M
 next-match-spec =

@@ -1,24 +1,31 @@
 -- The first sigma transition from the place on, and after it what its link leads to.
-use mathlib.Core.Path.{sym, ap, _∙_}
+use mathlib.Core.Path.{_≡_, sym, ap, _∙_}
 use denote.Ref.{now}
 use Rattle.words.specs.Matches.{trOf}
-use Rattle.words.specs.Machines.{machineOf}
+use Rattle.words.specs.Machines.{nextOf, machineOf}
 use Rattle.words.specs.Sigmas.{rewrite}
 use Rattle.fst.specs.Meaning.{onOf}
-use Rattle.matchers.proofs.Turns.{same-gives, sigma-end, sigma-turn}
+use Rattle.matchers.specs.Cursors.{movedTo}
+use Rattle.matchers.specs.declared.Phase.the-variants.{Sigmas}
+use Rattle.matchers.proofs.Turns.{same-gives, sigma-end, sigma-end-place, nextSigma, sigma-turn, sigma-turn-place}
 use borrow.Author.Needs.{needs}
 use Rattle.matchers.proofs.sigma_next.Statement.{statement}
 use Rattle.matchers.proofs.sigma_next.Tie as tie
 
 returns : tie.Need-returns
-returns c = let a = c .before .before .before .before .before .args in rw (c .moved .ensures) (sigma-end (now (a .m)) (a .cursor) (sym (c .before .before .seek .ensures) ∙ c .before .if1 .taken))
+returns c =
+    let a = c .before .before .before .before .before .args in
+    let none = sym (c .before .before .seek .ensures) ∙ c .before .if1 .taken in
+    rw (c .moved .ensures) (sigma-end (now (a .m)) (a .cursor) none, sigma-end-place (now (a .m)) (a .cursor) none)
 
 returns-2 : tie.Need-returns-2
 returns-2 c =
     let a = c .before .before .before .before .before .before .before .before .args in
-    let found = c .before .before .before .before .before .seek in
-    same-gives (now (a .m)) (c .before .before .rewrite .ensures ∙ ap (rewrite (a .cursor .both) (onOf (a .cursor .on)) (a .cursor .sigma .0) (a .cursor .label .0)) (c .before .before .before .get-tr .ensures ∙ ap (trOf (machineOf (now (a .m)))) (found .ensures))) (c .moved2 .ensures ∙ rw (c .before .next-tr .ensures, found .ensures))
-    ∙ sigma-turn (now (a .m)) (a .cursor) (λ z. c .before .before .before .before .if1 .left (found .ensures ∙ z))
+    let found = c .before .before .before .before .before .seek .ensures in
+    let some : nextSigma (now (a .m)) (a .cursor) ≡ 0 → ⊥ = λ z. c .before .before .before .before .if1 .left (found ∙ z) in
+    let given = c .before .before .rewrite .ensures ∙ ap (rewrite (a .cursor .both) (onOf (a .cursor .on)) (a .cursor .sigma .0) (a .cursor .label .0)) (c .before .before .before .get-tr .ensures ∙ ap (trOf (machineOf (now (a .m)))) found) in
+    let place = c .moved2 .ensures ∙ ap (movedTo (a .cursor) Sigmas) (c .before .next-tr .ensures ∙ ap (nextOf (now (a .m))) found) in
+    (same-gives (now (a .m)) given place ∙ sigma-turn (now (a .m)) (a .cursor) some, place ∙ sigma-turn-place (now (a .m)) (a .cursor) some)
 
 pub sigma-next-spec : {M : Type 1} → statement M
 sigma-next-spec =

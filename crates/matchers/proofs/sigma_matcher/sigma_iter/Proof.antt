@@ -1,4 +1,5 @@
 -- Refusal 11, or the cursor with the label's own matches and the sigma matches after them.
+use mathlib.Core.Path.{refl}
 use denote.Ref.{now}
 use Rattle.words.specs.Sigmas.{lookup}
 use Rattle.fst.specs.Meaning.{onOf}
@@ -11,7 +12,7 @@ use Rattle.matchers.proofs.sigma_matcher.sigma_iter.Tie as tie
 
 returns : tie.Need-returns
 unfolding lookupItems lookup
-returns c = rw (← c .before .is-sigma .ensures, c .if1 .taken)
+returns c = (rw (← c .before .is-sigma .ensures, c .if1 .taken), tt)
 
 returns-2 : tie.Need-returns-2
 unfolding lookupItems lookup itemsLeft matchesLeft ownLeft sigmaLeft
@@ -19,7 +20,7 @@ returns-2 c =
     let a = c .before .before .before .before .before .before .before .before .before .before .before .before .args in
     let m = now (a .m) in
     let allowed = allowedOf (a .sigma .listed) (now (a .allowed)) in
-    rw (← c .before .before .before .before .before .before .before .before .is-sigma .ensures, c .before .before .before .before .before .before .before .if1 .left, c .before .before .rewrites-both .ensures, c .before .before .before .sigma-from .ensures, c .before .before .before .before .seek .ensures, c .before .before .before .before .before .looked .ensures, c .before .before .before .before .before .before .first-tr .ensures, sigma-start (onOf (a .on)) m (a .sigma .label .0) (a .sigma .mode) allowed (a .s .0) (a .label .0))
+    rw (← c .before .before .before .before .before .before .before .before .is-sigma .ensures, c .before .before .before .before .before .before .before .if1 .left, c .before .before .rewrites-both .ensures, c .before .before .before .sigma-from .ensures, c .before .before .before .before .seek .ensures, c .before .before .before .before .before .looked .ensures, c .before .before .before .before .before .before .first-tr .ensures, sigma-start (onOf (a .on)) m (a .sigma .label .0) (a .sigma .mode) allowed (a .s .0) (a .label .0)) (refl, refl)
 
 pub sigma-iter-spec : {M : Type 1} → statement M
 sigma-iter-spec =

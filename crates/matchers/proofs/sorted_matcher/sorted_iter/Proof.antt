@@ -1,4 +1,5 @@
 -- The cursor begins at the first own transition and has no sigma transitions.
+use mathlib.Core.Path.{refl}
 use denote.Ref.{now}
 use Rattle.words.specs.Labels.{noLabel}
 use Rattle.fst.specs.Meaning.{onOf}
@@ -13,7 +14,7 @@ unfolding itemsLeft matchesLeft ownLeft sigmaLeft
 returns c =
     let a = c .before .before .before .before .before .before .args in
     let m = now (a .m) in
-    rw (c .before .before .seek .ensures, c .before .before .before .first-tr .ensures, c .before .before .before .before .looked .ensures, own-start (onOf (a .on)) m noLabel (a .s .0) (a .label .0)) (sorted-items (onOf (a .on)) m (a .s .0) (a .label .0) _)
+    rw (c .before .before .seek .ensures, c .before .before .before .first-tr .ensures, c .before .before .before .before .looked .ensures, own-start (onOf (a .on)) m noLabel (a .s .0) (a .label .0)) (sorted-items (onOf (a .on)) m (a .s .0) (a .label .0) _, refl)
 
 pub sorted-iter-spec : {M : Type 1} → statement M
 sorted-iter-spec = tie.close (tie.spec (λ c κs. search needs) (λ c κs. search needs) (λ c κs. search needs) returns)
