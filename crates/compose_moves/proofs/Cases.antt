@@ -24,7 +24,7 @@ use Rattle.compose_moves.specs.declared.MoveCursor.{MoveCursor}
 abbrev settings : Settings
 settings = record { kind = 0; filter = 0; sigma1 = noLabel; mode1 = 0; sigma2 = noLabel; mode2 = 0 }
 
-abbrev machines : Lent
+abbrev pub machines : Lent
 machines = record {
   m1 = 3 ∷ 2 ∷ 1 ∷ 0 ∷ 0 ∷ 0 ∷ 1 ∷ 0 ∷ 0 ∷ 2 ∷ 0 ∷ 0 ∷ 0 ∷ 1 ∷ 0 ∷ 1 ∷ 0 ∷ 1 ∷ 1 ∷ 0 ∷ 2 ∷ 5 ∷ 2 ∷ 2 ∷ 0 ∷ [];
   m2 = 3 ∷ 2 ∷ 1 ∷ 0 ∷ 0 ∷ 0 ∷ 1 ∷ 0 ∷ 0 ∷ 2 ∷ 0 ∷ 0 ∷ 0 ∷ 1 ∷ 3 ∷ 0 ∷ 7 ∷ 4 ∷ 1 ∷ 0 ∷ 5 ∷ 8 ∷ 1 ∷ 2 ∷ 0 ∷ [];
@@ -33,7 +33,7 @@ machines = record {
 }
 
 -- at this walked record, with the look-up of that label, its loop due or not
-abbrev cursor : ℕ → ℕ → Bool → MoveCursor
+abbrev pub cursor : ℕ → ℕ → Bool → MoveCursor
 cursor walked label loops = record {
   tuple = record { fs = 0; s1 = record { 0 = 1 }; s2 = record { 0 = 0 } };
   facts = record { none1 = true; all1 = false; none2 = false; all2 = true };

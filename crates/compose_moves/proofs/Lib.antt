@@ -1,7 +1,9 @@
 pub mod Edges
 pub mod Turns
+pub mod Placed
 pub mod Flat
 pub mod Rows
 pub mod Starts
-pub mod Collected
+pub mod Asking
 pub mod Cases
+pub mod AskingCase

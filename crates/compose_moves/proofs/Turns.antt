@@ -9,15 +9,15 @@ use Rattle.words.specs.Machines.{trCount, nextOf, machineOf}
 use Rattle.words.specs.Settings.{Settings, Lent}
 use Rattle.words.specs.Steps.{Step}
 use Rattle.words.proofs.ListLaws.{list-end, list-turn}
-use Rattle.fst.specs.Meaning.{onOf}
 use Rattle.fst.specs.declared.MatchType.the-variants.{MatchInput, MatchOutput}
 use Rattle.matchers.specs.declared.Cursor.{Cursor}
 use Rattle.matchers.specs.Meaning.{Item, lookupItems}
 use Rattle.matchers.specs.Cursors.{itemsLeft}
 use Rattle.compose_fst_op.specs.Composing.{optionSettings, lentOf}
-use Rattle.compose_moves.specs.Walks.{Walk, walkMeans, walkedState, lookedState, walkedSide, nextEdge, trSteps, trsSteps, walkLeft, Asked, ends, refuses, asked, isDone, alongMeans}
-use Rattle.compose_moves.specs.Cursors.{walkIn, presentIn, stepsLeft, nextMeans, fixedBy, resumed}
+use Rattle.compose_moves.specs.Walks.{Walk, walkMeans, walkedState, lookedState, walkedSide, nextEdge, trSteps, trsSteps, walkLeft, Asked, ends, refuses, asked, isDone, alongMeans, Placed, PlacedBy}
+use Rattle.compose_moves.specs.Cursors.{cursorWalk, stepsLeft, nextMeans, fixedBy, resumed, StaysPlaced}
 use Rattle.compose_moves.proofs.Edges.{after-taken}
+use Rattle.compose_moves.proofs.Placed.{resumed-placed}
 use Rattle.compose_fst_op.specs.declared.ComposeFstOpOptions.{ComposeFstOpOptions}
 use Rattle.compose_moves.specs.declared.MoveCursor.{MoveCursor}
 use Rattle.compose_moves.specs.declared.walks.Along.{Along}
@@ -68,7 +68,7 @@ walk-turn W t u a b n h e d p =
     ∙ sym (done-is W (asked (trsSteps W t)) a d)
 
 -- the walk's answer as the cursor's
-pub resumed-is : (s : Settings) (l : Lent) (c : MoveCursor) (a : Along) → nextMeans s l (resumed c a) ≡ alongMeans (walkIn s l (presentIn s c) (onOf (c .on))) ends a
+pub resumed-is : (s : Settings) (l : Lent) (c : MoveCursor) (a : Along) → nextMeans s l (resumed c a) ≡ alongMeans (cursorWalk s l c) ends a
 unfolding stepsLeft
 resumed-is s l c (Onward r t m) = refl
 resumed-is s l c Done = refl
@@ -76,27 +76,31 @@ resumed-is s l c (Refused n) = refl
 
 -- direction input walks machine 1, direction output machine 2
 module _ (o : ComposeFstOpOptions) (m1 m2 a1 a2 : List ℕ) (c : MoveCursor) where
-  abbrev cursorWalk : Walk
-  cursorWalk = walkIn (optionSettings o) (lentOf o m1 m2 a1 a2) (presentIn (optionSettings o) c) (onOf (c .on))
-
-  walk-input : c .on ≡ MatchInput → walkMeans (fixedBy o (o .sigma2) c) m1 m2 a2 ≡ cursorWalk
+  walk-input : c .on ≡ MatchInput → walkMeans (fixedBy o (o .sigma2) c) m1 m2 a2 ≡ cursorWalk (optionSettings o) (lentOf o m1 m2 a1 a2) c
   walk-input e = rw e
 
-  walk-output : c .on ≡ MatchOutput → walkMeans (fixedBy o (o .sigma1) c) m2 m1 a1 ≡ cursorWalk
+  walk-output : c .on ≡ MatchOutput → walkMeans (fixedBy o (o .sigma1) c) m2 m1 a1 ≡ cursorWalk (optionSettings o) (lentOf o m1 m2 a1 a2) c
   walk-output e = rw e
 
-  abbrev Answers : Walk → Along → Type 0
-  Answers W a = alongMeans W ends a ≡ asked (walkLeft W (c .walked) (c .matches))
+  -- the two clauses of `ordered_expand`, and those of `next_step`
+  abbrev Walked : Walk → Along → Type 0
+  Walked W a = (alongMeans W ends a ≡ asked (walkLeft W (c .walked) (c .matches))) × (Placed W (c .walked) (c .matches) → PlacedBy W a)
 
-  answer : (W : Walk) (a : Along) → W ≡ cursorWalk → Answers W a
-      → nextMeans (optionSettings o) (lentOf o m1 m2 a1 a2) (resumed c a) ≡ asked (stepsLeft (optionSettings o) (lentOf o m1 m2 a1 a2) c)
+  abbrev Answered : Along → Type 0
+  Answered a =
+      let s = optionSettings o in
+      let l = lentOf o m1 m2 a1 a2 in
+      (nextMeans s l (resumed c a) ≡ asked (stepsLeft s l c)) × StaysPlaced s l c (resumed c a)
+
+  answer : (W : Walk) (a : Along) → W ≡ cursorWalk (optionSettings o) (lentOf o m1 m2 a1 a2) c → Walked W a → Answered a
   unfolding stepsLeft
-  answer W a e h = rw (resumed-is (optionSettings o) (lentOf o m1 m2 a1 a2) c a) (rw e at h)
+  answer W a e h =
+      let s = optionSettings o in
+      let l = lentOf o m1 m2 a1 a2 in
+      (rw (resumed-is s l c a) (rw e at (h .0)), resumed-placed s l c a (rw e at (h .1)))
 
-  pub answer-input : (a : Along) → c .on ≡ MatchInput → Answers (walkMeans (fixedBy o (o .sigma2) c) m1 m2 a2) a
-      → nextMeans (optionSettings o) (lentOf o m1 m2 a1 a2) (resumed c a) ≡ asked (stepsLeft (optionSettings o) (lentOf o m1 m2 a1 a2) c)
+  pub answer-input : (a : Along) → c .on ≡ MatchInput → Walked (walkMeans (fixedBy o (o .sigma2) c) m1 m2 a2) a → Answered a
   answer-input a e h = answer (walkMeans (fixedBy o (o .sigma2) c) m1 m2 a2) a (walk-input e) h
 
-  pub answer-output : (a : Along) → c .on ≡ MatchOutput → Answers (walkMeans (fixedBy o (o .sigma1) c) m2 m1 a1) a
-      → nextMeans (optionSettings o) (lentOf o m1 m2 a1 a2) (resumed c a) ≡ asked (stepsLeft (optionSettings o) (lentOf o m1 m2 a1 a2) c)
+  pub answer-output : (a : Along) → c .on ≡ MatchOutput → Walked (walkMeans (fixedBy o (o .sigma1) c) m2 m1 a1) a → Answered a
   answer-output a e h = answer (walkMeans (fixedBy o (o .sigma1) c) m2 m1 a1) a (walk-output e) h

@@ -2,7 +2,7 @@
 use mathlib.Core.Bool.{Bool, true, false}
 use mathlib.Core.List.{List, [], _∷_, _++_, flatMap}
 use Prim.Native.Nat.{ℕ, zero, suc}
-use Rattle.words.specs.Labels.{Checked, good, refused}
+use Rattle.words.specs.Labels.{noLabel, Checked, good, refused}
 use Rattle.words.specs.Matches.{MatchType, inputs, outputs, labelOn, trOf}
 use Rattle.words.specs.Machines.{firstOf, nextOf, listFrom, machineOf}
 use Rattle.words.specs.Sigmas.{Operand}
@@ -12,6 +12,7 @@ use Rattle.fst.specs.Meaning.{onOf}
 use Rattle.matchers.specs.declared.Cursor.{Cursor}
 use Rattle.matchers.specs.Meaning.{Item, theLoop, whole, allowedOf, lookupItems}
 use Rattle.matchers.specs.Cursors.{itemsLeft}
+use Rattle.matchers.specs.Asking.{LookUp, sortedLookUp, sigmaLookUp, PlaceIn, Holds}
 use Rattle.compose_moves.specs.Moves.{Present, presentOf, pairSteps, composeTrMeans}
 use Rattle.compose_moves.specs.declared.moves.Walk.{Walk as Fixed}
 use Rattle.compose_moves.specs.declared.walks.Along.{Along}
@@ -121,3 +122,20 @@ alongMeans W after (Refused n) = refuses n
 -- an answer for the walked edge t: Done stands for what the list makes after it
 abbrev pub edgeAnswer : Walk → ℕ → Along → Asked
 edgeAnswer W t a = alongMeans W (asked (trsSteps W (nextEdge W t))) a
+
+-- the settings of a walked edge's look-up in the other machine: asked for MAX while the machine rests, else for its inner label, with that machine's sigma
+abbrev pub lookUpFor : Walk → ℕ → LookUp
+lookUpFor W zero = sortedLookUp (W .on) noLabel
+lookUpFor W (suc t) = sigmaLookUp (W .operand) (labelOn (walkedSide (W .on)) (machineOf (W .walked)) (suc t))
+
+-- The place of a walk: the walked record, in the list of the walked state (0 while the machine rests); and what is left of its matches, a cursor of its look-up, with places in the list of the other machine's
+-- state.
+pub record Placed (W : Walk) (t : ℕ) (c : Cursor) : Type 0 where
+  pub walked : PlaceIn (W .walked) (walkedState (W .on) (W .present .triple)) t
+  pub matches : Holds (W .looked) (lookedState (W .on) (W .present .triple)) (lookUpFor W t) c
+
+-- that of an answer; the end and a refusal have none
+abbrev pub PlacedBy : Walk → Along → Type 0
+PlacedBy W (AStep r t c) = Placed W t c
+PlacedBy W Done = Unit {0}
+PlacedBy W (Refused n) = Unit {0}

@@ -1,4 +1,4 @@
-// The moves of a composed state, one at each asking (compose_fst_op.rs, `ordered_expand` and what it calls). A cursor keeps places only; no move is stored, and no memory is known here.
+// The moves of a composed state, one at each asking (compose_fst_op.rs, `ordered_expand` and what it calls). A cursor keeps its composed state and places; no move is stored, and no memory is known here.
 mod moves;
 mod walks;
 
@@ -11,9 +11,11 @@ ghost use Rattle.fst.specs.Meaning.{onOf};
 ghost use Rattle.compose_state_tuple.specs.Meaning.{tupleMeans};
 ghost use Rattle.matchers.specs.Meaning.{sortedItems};
 ghost use Rattle.matchers.specs.Cursors.{itemsLeft};
+ghost use Rattle.matchers.specs.Asking.{sortedLookUp, Holds};
+ghost use Rattle.match_type.specs.Chosen.{sideMeans};
 ghost use Rattle.compose_fst_op.specs.Composing.{optionSettings, lentOf, composing};
 ghost use Rattle.compose_moves.specs.Walks.{lookedState, lookedWords, asked};
-ghost use Rattle.compose_moves.specs.Cursors.{fixedBy, resumed, stepsLeft, movesStartMeans, nextMeans};
+ghost use Rattle.compose_moves.specs.Cursors.{fixedBy, resumed, stepsLeft, movesStartMeans, nextMeans, StaysPlaced, StartsPlaced};
 use compose_filters::Facts;
 use compose_filters::facts_at;
 use compose_fst_op::ComposeFstOpOptions;
@@ -62,6 +64,7 @@ fn rest_matches(m1: &[u32], m2: &[u32], on: MatchType, tuple: ComposeStateTuple)
         let words = lookedWords (onOf on) (now (m1 .entry)) (now (m2 .entry)) in
         itemsLeft words r ≡ sortedItems (onOf on) words (lookedState (onOf on) (tupleMeans tuple)) noLabel
         ) ⌝ }
+    ensures place { λ r. ⌜ Holds (lookedWords (onOf on) (now (m1 .entry)) (now (m2 .entry))) (lookedState (onOf on) (tupleMeans tuple)) (sortedLookUp (onOf on) noLabel) r ⌝ }
 {
     let s1 = tuple.s1;
     let s2 = tuple.s2;
@@ -83,6 +86,10 @@ pub fn moves_start(
         let l = lentOf options (now (m1 .entry)) (now (m2 .entry)) a1 a2 in
         let c = composing options (now (m1 .entry)) (now (m2 .entry)) a1 a2 in
         movesStartMeans (optionSettings options) l r ≡ stepsAt c (tupleMeans tuple)
+        ) ⌝ }
+    ensures place { λ r. ⌜ (
+        (a1 a2 : List ℕ) →
+        StartsPlaced (optionSettings options) (lentOf options (now (m1 .entry)) (now (m2 .entry)) a1 a2) (sideMeans (options .side)) tuple r
         ) ⌝ }
 {
     let side = options.side;
@@ -148,7 +155,7 @@ fn resume(cursor: MoveCursor, along: Along) -> NextStep
 }
 
 // The next composed transition of a state; 11 where a walked label is sigma, 12 where the weight of a kept move is too large. Dropped moves are passed over. Asked on with the cursor that
-// it answers, it gives the state's transitions in their order.
+// it answers, it gives the state's transitions in their order, and then the end ever after.
 pub fn next_step(
     m1: &[u32],
     m2: &[u32],
@@ -160,6 +167,10 @@ pub fn next_step(
     ensures { λ r. ⌜ (
         let l = lentOf options (now (m1 .entry)) (now (m2 .entry)) (now (a1 .entry)) (now (a2 .entry)) in
         nextMeans (optionSettings options) l r ≡ asked (stepsLeft (optionSettings options) l cursor)
+        ) ⌝ }
+    ensures place { λ r. ⌜ (
+        let l = lentOf options (now (m1 .entry)) (now (m2 .entry)) (now (a1 .entry)) (now (a2 .entry)) in
+        StaysPlaced (optionSettings options) l cursor r
         ) ⌝ }
 {
     let on = cursor.on;

@@ -1,11 +1,12 @@
 // The walk along one machine's list, looked up in the other: mw are the words of the machine that is walked, mm those of the other, am its allowed list.
 ghost use mathlib.Core.Path.{_≡_};
-ghost use mathlib.Core.List.{List};
+ghost use mathlib.Core.List.{List, List·Memᴰ as In};
 ghost use Prim.Native.Nat.{ℕ};
+ghost use Rattle.words.specs.Machines.{listOf};
 ghost use Rattle.fst.specs.Meaning.{onOf};
 ghost use Rattle.compose_state_tuple.specs.Meaning.{tupleMeans};
 ghost use Rattle.matchers.specs.Meaning.{matchMeans};
-ghost use Rattle.compose_moves.specs.Walks.{walkMeans, walkedState, lookedState, walkedSide, edgeItem, edgeAfter, walkLeft, fromTr, asked, ends, isDone, alongMeans, edgeAnswer};
+ghost use Rattle.compose_moves.specs.Walks.{walkMeans, walkedState, lookedState, walkedSide, edgeItem, edgeAfter, walkLeft, fromTr, asked, ends, isDone, alongMeans, edgeAnswer, Placed, PlacedBy};
 use crate::moves::ComposeTr;
 use crate::moves::Made;
 use crate::moves::Walk;
@@ -96,6 +97,11 @@ fn match_tr_selected(mw: &[u32], mm: &[u32], walk: Walk, t: u32, matches: Cursor
         let w = walkMeans walk (now (mw .entry)) (now (mm .entry)) am in
         edgeAnswer w t r ≡ asked (walkLeft w t matches)
         ) ⌝ }
+    ensures place { λ r. ⌜ (
+        (am : List ℕ) →
+        let w = walkMeans walk (now (mw .entry)) (now (mm .entry)) am in
+        Placed w t matches → PlacedBy w r
+        ) ⌝ }
 {
     let on = walk.on;
     let edge = edge_item(mw, walked_side(on), t);
@@ -126,6 +132,10 @@ fn match_tr(mw: &[u32], mm: &[u32], am: &[u32], walk: Walk, t: u32) -> Along
         let w = walkMeans walk (now (mw .entry)) (now (mm .entry)) (now (am .entry)) in
         edgeAnswer w t r ≡ asked (fromTr w t)
         ) ⌝ }
+    ensures place { λ r. ⌜ (
+        let w = walkMeans walk (now (mw .entry)) (now (mm .entry)) (now (am .entry)) in
+        In t (listOf (now (mw .entry)) (walkedState (onOf (walk .on)) (tupleMeans (walk .tuple)))) → PlacedBy w r
+        ) ⌝ }
 {
     let on = walk.on;
     let tuple = walk.tuple;
@@ -150,6 +160,10 @@ pub fn ordered_expand(
     ensures { λ r. ⌜ (
         let w = walkMeans walk (now (mw .entry)) (now (mm .entry)) (now (am .entry)) in
         alongMeans w ends r ≡ asked (walkLeft w walked matches)
+        ) ⌝ }
+    ensures place { λ r. ⌜ (
+        let w = walkMeans walk (now (mw .entry)) (now (mm .entry)) (now (am .entry)) in
+        Placed w walked matches → PlacedBy w r
         ) ⌝ }
 {
     let on = walk.on;

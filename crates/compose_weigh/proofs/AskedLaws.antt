@@ -8,7 +8,7 @@ use Rattle.words.specs.Labels.{Checked, good, refused}
 use Rattle.words.specs.Steps.{Triple, Step}
 use Rattle.calls.specs.Store.{sameTriple}
 use Rattle.compose_moves.specs.Walks.{gives, ends, refuses, asked}
-use Rattle.compose_moves.proofs.Collected.{asked-ends}
+use Rattle.compose_moves.proofs.Asking.{asked-ends}
 use Rattle.compose_weigh.specs.Weigh.{reachedWithin}
 
 pub step-left : (l : List (Checked Step)) (s : Step) (others : List (Checked Step)) → gives s others ≡ asked l → l ≡ good s ∷ others

@@ -8,7 +8,7 @@ use Rattle.words.specs.Steps.{Step}
 use Rattle.calls.specs.Store.{Store, trRoom}
 use Rattle.compose_moves.specs.Walks.{gives, ends, refuses, asked}
 use Rattle.compose_weigh.specs.Weigh.{weighFrom}
-use Rattle.compose_moves.proofs.Collected.{asked-ends}
+use Rattle.compose_moves.proofs.Asking.{asked-ends}
 use Rattle.compose_weigh.proofs.AskedLaws.{step-left, refusal-left}
 
 module _ (d : Store) (all : List (Checked Step)) (i u : ℕ) (l : List (Checked Step)) where

@@ -15,7 +15,7 @@ expand-from-requires c κs =
     let a = c .before .before .before .before .before .before .before .before .before .before .before .before .before .before .before .before .args in
     let o = composing (a .options) (a .m1 .now) (a .m2 .now) (a .a1 .now) (a .a2 .now) in
     let k = c .before .before .before .before .begun2 .given in
-    let same = (rw (k .1) at (c .before .before .before .before .before .before .moves-start .ensures (a .a1 .now) (a .a2 .now))) ∙ ap (stepsAt o) (c .before .before .before .before .before .before .before .get-tuple .ensures) in
+    let same = (rw (k .1) at (c .before .before .before .before .before .before .moves-start .ensures .0 (a .a1 .now) (a .a2 .now))) ∙ ap (stepsAt o) (c .before .before .before .before .before .before .before .get-tuple .ensures) in
     let p = c .before .before .before .before .before .before .before .before .before .before .before .before .before .before .before .before .pre in
     let L = lentOf (a .options) (a .m1 .now) (a .m2 .now) (a .a1 .now) (a .a2 .now) in
     ready L (sessionUnder (a .options) (a .used)) (memoryOf (a .heads .now) (a .states .now) (a .trs .now)) o (a .n .0) (stepsLeft (optionSettings (a .options)) L (k .0 .0)) (p .0) (p .1) same
@@ -25,7 +25,7 @@ returns c =
     let a = c .before .before .before .before .before .before .before .before .before .before .before .before .before .args in
     let o = composing (a .options) (a .m1 .now) (a .m2 .now) (a .a1 .now) (a .a2 .now) in
     let k = c .before .begun .given in
-    let same = (rw (k .1) at (c .before .before .before .moves-start .ensures (a .a1 .now) (a .a2 .now))) ∙ ap (stepsAt o) (c .before .before .before .before .get-tuple .ensures) in
+    let same = (rw (k .1) at (c .before .before .before .moves-start .ensures .0 (a .a1 .now) (a .a2 .now))) ∙ ap (stepsAt o) (c .before .before .before .before .get-tuple .ensures) in
     sym (start-refused o (sessionUnder (a .options) (a .used)) (memoryOf (a .heads .now) (a .states .now) (a .trs .now)) (a .n .0) (k .0 .0) same)
 
 returns-2 : tie.Need-returns-2
@@ -33,7 +33,7 @@ returns-2 c =
     let a = c .before .before .before .before .before .before .before .before .before .before .before .before .before .before .before .before .before .before .before .before .before .before .before .args in
     let o = composing (a .options) (a .m1 .now) (a .m2 .now) (a .a1 .now) (a .a2 .now) in
     let k = c .before .before .before .before .before .before .before .before .before .before .before .begun2 .given in
-    let same = (rw (k .1) at (c .before .before .before .before .before .before .before .before .before .before .before .before .before .moves-start .ensures (a .a1 .now) (a .a2 .now))) ∙ ap (stepsAt o) (c .before .before .before .before .before .before .before .before .before .before .before .before .before .before .get-tuple .ensures) in
+    let same = (rw (k .1) at (c .before .before .before .before .before .before .before .before .before .before .before .before .before .moves-start .ensures .0 (a .a1 .now) (a .a2 .now))) ∙ ap (stepsAt o) (c .before .before .before .before .before .before .before .before .before .before .before .before .before .before .get-tuple .ensures) in
     c .before .before .before .before .before .before .expand-from .ensures o (sym same)
 
 pub expand-weighed-spec : {M : Type 1} → statement M

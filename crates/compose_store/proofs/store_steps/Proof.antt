@@ -29,7 +29,7 @@ loop-holds : tie.Need-loop-holds Inv-loop μ-loop
 loop-holds c =
     let a = c .before .before .before .before .before .before .before .before .args in
     let p = c .before .before .before .before .before .before .before .before .pre in
-    let e = c .next-step .ensures in
+    let e = c .next-step .ensures .0 in
     let S = optionSettings (a .options) in
     let L = lentOf (a .options) (a .m1 .now) (a .m2 .now) (a .a1 .now) (a .a2 .now) in
     let d = stored (a .heads .now) (a .states .now) (a .trs .now) (a .used .states) (a .used .trs) in
@@ -46,7 +46,7 @@ returns c =
     let d = stored (a .heads .now) (a .states .now) (a .trs .now) (a .used .states) (a .used .trs) in
     sym (none-stored (stored (l .heads) (l .states) (l .trs) (l .grown .states) (l .grown .trs)))
     ∙ (rw (c .enum-told .given .1) at (l .inv .4))
-    ∙ left-all d (stepsLeft S L (a .start)) (nextMeans S L (c .before .before .before .next-step .result)) (c .before .before .before .next-step .ensures)
+    ∙ left-all d (stepsLeft S L (a .start)) (nextMeans S L (c .before .before .before .next-step .result)) (c .before .before .before .next-step .ensures .0)
 
 returns-2 : tie.Need-returns-2 Inv-loop μ-loop
 returns-2 c =
@@ -63,7 +63,7 @@ store-step-requires c κs =
     let d = stored (l .heads) (l .states) (l .trs) (l .grown .states) (l .grown .trs) in
     let st = composeTrMeans (n .0 .0) in
     let others = stepsLeft S L (n .0 .1 .0) in
-    let e = c .goes-on .ensures ∙ follows S L (c .before .before .before .before .next-step2 .result) others (c .before .before .before .before .next-step2 .ensures) in
+    let e = c .goes-on .ensures ∙ follows S L (c .before .before .before .before .next-step2 .result) others (c .before .before .before .before .next-step2 .ensures .0) in
     subst (λ b. Accepted (storeStep d (nextFor d b) st)) (sym e) (first-accepted d st others (rw (n .1) at (l .inv .3)))
 
 loop-less : tie.Need-loop-less Inv-loop μ-loop
@@ -74,7 +74,7 @@ loop-less c =
     let S = optionSettings (a .options) in
     let L = lentOf (a .options) (a .m1 .now) (a .m2 .now) (a .a1 .now) (a .a2 .now) in
     let others = stepsLeft S L (n .0 .1 .0) in
-    let less = left-less others (nextMeans S L (c .before .before .before .before .before .before .before .before .before .before .before .next-step2 .result)) (c .before .before .before .before .before .before .before .before .before .before .before .next-step2 .ensures) in
+    let less = left-less others (nextMeans S L (c .before .before .before .before .before .before .before .before .before .before .before .next-step2 .result)) (c .before .before .before .before .before .before .before .before .before .before .before .next-step2 .ensures .0) in
     rw (n .1) (omega (arith, less))
 
 loop-again : tie.Need-loop-again Inv-loop μ-loop
@@ -90,8 +90,8 @@ loop-again c =
     let st = composeTrMeans (n .0 .0) in
     let others = stepsLeft S L (n .0 .1 .0) in
     let x = nextMeans S L (c .before .before .before .before .before .before .before .before .before .before .before .next-step2 .result) in
-    let e = c .before .before .before .before .before .before .before .goes-on .ensures ∙ follows S L (c .before .before .before .before .before .before .before .before .before .before .before .next-step2 .result) others (c .before .before .before .before .before .before .before .before .before .before .before .next-step2 .ensures) in
-    let t = store-turn d f st others x (c .before .before .before .before .before .before .before .before .before .before .before .next-step2 .ensures) (subst (λ b. good f ≡ storeStep d (nextFor d b) st) e (w .ensures)) in (
+    let e = c .before .before .before .before .before .before .before .goes-on .ensures ∙ follows S L (c .before .before .before .before .before .before .before .before .before .before .before .next-step2 .result) others (c .before .before .before .before .before .before .before .before .before .before .before .next-step2 .ensures .0) in
+    let t = store-turn d f st others x (c .before .before .before .before .before .before .before .before .before .before .before .next-step2 .ensures .0) (subst (λ b. good f ≡ storeStep d (nextFor d b) st) e (w .ensures)) in (
       search needs,
       search needs,
       search needs,

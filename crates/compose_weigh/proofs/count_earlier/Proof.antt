@@ -41,7 +41,7 @@ returns c = λ P k steps room h fill.
     let S = optionSettings (a .options) in
     let L = lentOf (a .options) (a .m1 .now) (a .m2 .now) (a .a1 .now) (a .a2 .now) in
     earlier-done P k steps room (setOf (a .chains .now) (a .records .now) (a .held)) fill (a .count) (stepsLeft S L (a .start)) (l .marks) (l .left) (stepsLeft S L (l .cursor)) (l .old) (l .inv .4 P k steps room h fill)
-    (λ t. within-none t (l .left) (stepsLeft S L (l .cursor)) (rw (c .enum-told .given .1) at (c .before .before .next-step .ensures)))
+    (λ t. within-none t (l .left) (stepsLeft S L (l .cursor)) (rw (c .enum-told .given .1) at (c .before .before .next-step .ensures .0)))
 
 returns-2 : tie.Need-returns-2 Inv-loop μ-loop
 returns-2 c = λ P k steps room h fill.
@@ -50,7 +50,7 @@ returns-2 c = λ P k steps room h fill.
     let S = optionSettings (a .options) in
     let L = lentOf (a .options) (a .m1 .now) (a .m2 .now) (a .a1 .now) (a .a2 .now) in
     earlier-done P k steps room (setOf (a .chains .now) (a .records .now) (a .held)) fill (a .count) (stepsLeft S L (a .start)) (l .marks) (l .left) (stepsLeft S L (l .cursor)) (l .old) (l .inv .4 P k steps room h fill)
-    (λ t. within-refused t (l .left) (stepsLeft S L (l .cursor)) (c .enum-told2 .given .0 .0) (rw (c .enum-told2 .given .1) at (c .before .before .next-step .ensures)))
+    (λ t. within-refused t (l .left) (stepsLeft S L (l .cursor)) (c .enum-told2 .given .0 .0) (rw (c .enum-told2 .given .1) at (c .before .before .next-step .ensures .0)))
 
 returns-3 : tie.Need-returns-3 Inv-loop μ-loop
 returns-3 c = λ P k steps room h fill.
@@ -87,7 +87,7 @@ loop-again c =
       omega (arith, m .0, i, t),
       m .1 ∙ l .inv .3,
       λ P k steps room h fill. earlier-next P k steps room d fill (a .count) (stepsLeft S L (a .start)) (l .marks) (l .left) (stepsLeft S L (l .cursor)) (l .old) (l .inv .4 P k steps room h fill)
-          (let z = l .inv .3 in omega (arith, z, h)) t (composeTrMeans (n .0 .0)) (stepsLeft S L (n .0 .1 .0)) (rw (n .1) at (c .before .before .before .before .before .before .before .next-step .ensures)) _ _ (c .before .mark .ensures),
+          (let z = l .inv .3 in omega (arith, z, h)) t (composeTrMeans (n .0 .0)) (stepsLeft S L (n .0 .1 .0)) (rw (n .1) at (c .before .before .before .before .before .before .before .next-step .ensures .0)) _ _ (c .before .mark .ensures),
     )
 
 pub count-earlier-spec : {M : Type 1} → statement M

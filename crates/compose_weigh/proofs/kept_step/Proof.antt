@@ -19,7 +19,7 @@ returns c = λ heads states all u.
     let S = optionSettings (a .w .options) in
     let L = lentOf (a .w .options) (a .m1 .now) (a .m2 .now) (a .a1 .now) (a .a2 .now) in
     weigh-lacking (stored heads states (a .trs .now) (a .w .used .states) (a .w .used .trs)) all (a .count) u (stepsLeft S L (a .cursor))
-    (composeTrMeans (n .0 .0)) (stepsLeft S L (n .0 .1 .0)) (rw (n .1) at (c .before .before .before .before .before .before .next-step .ensures)) (rw (c .before .before .tr-room .ensures) at (c .if1 .taken))
+    (composeTrMeans (n .0 .0)) (stepsLeft S L (n .0 .1 .0)) (rw (n .1) at (c .before .before .before .before .before .before .next-step .ensures .0)) (rw (c .before .before .tr-room .ensures) at (c .if1 .taken))
 
 returns-2 : tie.Need-returns-2
 returns-2 c = λ heads states all u.
@@ -27,7 +27,7 @@ returns-2 c = λ heads states all u.
     let S = optionSettings (a .w .options) in
     let L = lentOf (a .w .options) (a .m1 .now) (a .m2 .now) (a .a1 .now) (a .a2 .now) in
     weigh-none (stored heads states (a .trs .now) (a .w .used .states) (a .w .used .trs)) all (a .count) u (stepsLeft S L (a .cursor))
-    (rw (c .enum-told .given .1) at (c .before .before .next-step .ensures))
+    (rw (c .enum-told .given .1) at (c .before .before .next-step .ensures .0))
 
 returns-3 : tie.Need-returns-3
 returns-3 c = λ heads states all u.
@@ -36,7 +36,7 @@ returns-3 c = λ heads states all u.
     let S = optionSettings (a .w .options) in
     let L = lentOf (a .w .options) (a .m1 .now) (a .m2 .now) (a .a1 .now) (a .a2 .now) in
     weigh-refused (stored heads states (a .trs .now) (a .w .used .states) (a .w .used .trs)) all (a .count) u (stepsLeft S L (a .cursor)) (n .0 .0)
-    (rw (n .1) at (c .before .before .before .next-step .ensures))
+    (rw (n .1) at (c .before .before .before .next-step .ensures .0))
 
 returns-4 : tie.Need-returns-4
 unfolding trRoomWith
@@ -46,7 +46,7 @@ returns-4 c = λ heads states.
     let S = optionSettings (a .w .options) in
     let L = lentOf (a .w .options) (a .m1 .now) (a .m2 .now) (a .a1 .now) (a .a2 .now) in (
       composeTrMeans (n .0 .0),
-      step-left (stepsLeft S L (a .cursor)) (composeTrMeans (n .0 .0)) (stepsLeft S L (n .0 .1 .0)) (rw (n .1) at (c .before .before .before .before .before .before .before .next-step .ensures)),
+      step-left (stepsLeft S L (a .cursor)) (composeTrMeans (n .0 .0)) (stepsLeft S L (n .0 .1 .0)) (rw (n .1) at (c .before .before .before .before .before .before .before .next-step .ensures .0)),
       refl,
       rw (c .before .before .before .tr-room .ensures) at (c .before .if1 .left),
     )

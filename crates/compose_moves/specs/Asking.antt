@@ -1,0 +1,48 @@
+-- 02, 2.5, for the moves of a composed state: asked on, they are the steps of the definition, and then the end ever after.
+use mathlib.Core.Path.{_≡_}
+use mathlib.Core.List.{List, [], _∷_}
+use mathlib.Core.Option.{Option, none, some}
+use Prim.Native.Nat.{ℕ, zero, suc}
+use Rattle.lists.specs.Asking.{AskedOn}
+use Rattle.words.specs.Labels.{Checked, good, refused}
+use Rattle.words.specs.Settings.{Settings, Lent}
+use Rattle.words.specs.Sides.{Side}
+use Rattle.words.specs.Steps.{Step}
+use Rattle.compose_state_tuple.specs.declared.ComposeStateTuple.{ComposeStateTuple}
+use Rattle.compose_moves.specs.Moves.{composeTrMeans}
+use Rattle.compose_moves.specs.Cursors.{SameState, MovesPlaced, directionFor, Begins}
+use Rattle.compose_moves.specs.declared.moves.ComposeTr.{ComposeTr}
+use Rattle.compose_moves.specs.declared.MoveCursor.{MoveCursor}
+use Rattle.compose_moves.specs.declared.MovesStart.{MovesStart}
+use Rattle.compose_moves.specs.declared.MovesStart.the-variants.{At, Refused as NoStart}
+use Rattle.compose_moves.specs.declared.NextStep.{NextStep}
+use Rattle.compose_moves.specs.declared.NextStep.the-variants.{Step as AStep, Done, Refused}
+
+-- what an answer of the code gives; none: the end
+abbrev pub givenBy : NextStep → Option (Checked Step)
+givenBy (AStep r c) = some (good (composeTrMeans r))
+givenBy Done = none
+givenBy (Refused n) = some (refused n)
+
+-- The cursor to ask on with: the one that was handed back; the end and a refusal hand back none, and are asked again with the same.
+abbrev pub onward : MoveCursor → NextStep → MoveCursor
+onward c (AStep r d) = d
+onward c Done = c
+onward c (Refused n) = c
+
+-- What asking number k is to give of a list of steps: the step at place k, and past the end none. Nothing after a refusal counts: where one stands, it is given, and ever after.
+abbrev pub answerAt : List (Checked Step) → ℕ → Option (Checked Step)
+answerAt [] k = none
+answerAt (good st ∷ l) zero = some (good st)
+answerAt (good st ∷ l) (suc k) = answerAt l k
+answerAt (refused n ∷ l) k = some (refused n)
+
+-- From the start b of a composed state on, the steps are given. `Answers c r` is what the function that is asked for the next step promises of its reply r.
+pub record GivesSteps (Answers : MoveCursor → NextStep → Type 0) (s : Settings) (l : Lent) (side : Side) (tuple : ComposeStateTuple) (steps : List (Checked Step)) (b : MovesStart) : Type 0 where
+  -- where the direction is refused the start is, by its number
+  pub refuses : (n : ℕ) → directionFor s l side tuple ≡ refused n → b ≡ NoStart n
+  -- asking number k gives what is to be given at k
+  pub inOrder : (c : MoveCursor) → b ≡ At c → (k : ℕ) (r : NextStep) → AskedOn Answers onward c k r → givenBy r ≡ answerAt steps k
+  -- the first cursor, and each that an asking hands back, holds the composed state, and a place of its walk
+  pub begins : (c : MoveCursor) → b ≡ At c → Begins s l side tuple c
+  pub holds : (c : MoveCursor) → b ≡ At c → (k : ℕ) (t : ComposeTr) (d : MoveCursor) → AskedOn Answers onward c k (AStep t d) → SameState c d × MovesPlaced s l d
