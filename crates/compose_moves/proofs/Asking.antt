@@ -9,7 +9,9 @@ use contract.Lifetimes.{Lfts}
 use denote.Ref.{RefT, now}
 use Rattle.lists.proofs.Asking.{asked-on, kept-on}
 use Rattle.words.specs.Labels.{Checked, good, refused}
+use Rattle.words.specs.Matches.{MatchType}
 use Rattle.words.specs.Settings.{Settings, Lent}
+use Rattle.words.specs.Sides.{Side}
 use Rattle.words.specs.Steps.{Step, stepsAt}
 use Rattle.words.proofs.CheckedLaws.{refused-is, good≢refused}
 use Rattle.match_type.specs.Chosen.{sideMeans}
@@ -19,8 +21,8 @@ use Rattle.compose_fst_op.specs.Composing.{optionSettings, lentOf, composing}
 use Rattle.compose_fst_op.specs.declared.ComposeFstOpOptions.{ComposeFstOpOptions}
 use Rattle.compose_moves.specs.Moves.{composeTrMeans}
 use Rattle.compose_moves.specs.Walks.{Asked, gives, ends, refuses, asked}
-use Rattle.compose_moves.specs.Cursors.{stepsLeft, nextMeans, cursorAt as moveAt, SameState, MovesPlaced, StaysPlaced, directionFor, StartsPlaced}
-use Rattle.compose_moves.specs.Asking.{givenBy, onward, answerAt, GivesSteps}
+use Rattle.compose_moves.specs.Cursors.{stepsLeft, movesStartMeans, nextMeans, cursorAt as moveAt, SameState, MovesPlaced, StaysPlaced, directionFor, StartsPlaced}
+use Rattle.compose_moves.specs.Asking.{givenBy, onward, answerAt, GivesSteps, StartGivesSteps}
 use Rattle.compose_moves.specs.declared.MoveCursor.{MoveCursor}
 use Rattle.compose_moves.specs.declared.MovesStart.{MovesStart}
 use Rattle.compose_moves.specs.declared.MovesStart.the-variants.{At, Refused as NoStart}
@@ -78,18 +80,14 @@ module _ (s : Settings) (l : Lent) where
   keeps c d Done h k = k
   keeps c d (Refused n) h k = k
 
--- On any words, allowed lists and options, at any composed state: all its composed transitions in 01's order, or its first refusal; and then the end, or that refusal, ever after.
+-- On any words, allowed lists and options, at any composed state: refusal 10 at the start; or all its composed transitions in 01's order, or the first refusal among them; and then the end, or that refusal, ever after.
 pub moves-asked-on : (κs : Lfts 2) (κt : Lfts 4) (m1 m2 a1 a2 : RefT (List ℕ)) (o : ComposeFstOpOptions) (t : ComposeStateTuple) (b : MovesStart) → StartReply κs m1 m2 o t b
     →
     let l = lentOf o (now m1) (now m2) (now a1) (now a2) in
-    GivesSteps (StepReply κt m1 m2 a1 a2 o) (optionSettings o) l (sideMeans (o .side)) t (stepsAt (composing o (now m1) (now m2) (now a1) (now a2)) (tupleMeans t)) b
+    StartGivesSteps (StepReply κt m1 m2 a1 a2 o) (optionSettings o) l (sideMeans (o .side)) t (stepsAt (composing o (now m1) (now m2) (now a1) (now a2)) (tupleMeans t)) b
 moves-asked-on κs κt m1 m2 a1 a2 o t b (means, place) = record {
-  inOrder = λ c e k r h. asked-on (StepReply κt m1 m2 a1 a2 o) onward givenBy (λ d j. answerAt (stepsLeft s l d) j) (λ d q g. one s l d q (g .0)) c k r h ∙ ap (λ x. answerAt x k) (rw e at (means (now a1) (now a2)));
-  refuses = λ n e. refused-at b n e (place (now a1) (now a2));
-  begins = λ c e. rw e at (place (now a1) (now a2));
-  holds = λ c e k q d h.
-      let last = kept-on (StepReply κt m1 m2 a1 a2 o) onward (Kept s l c) (λ f r g. keeps s l c f r (g .1)) c k (AStep q d) h (refl, (rw e at (place (now a1) (now a2))) .place) in
-      keeps s l c (last .0) (AStep q d) (last .2 .1) (last .1);
+  refuses = λ n e. let start = refused-at b n e (place (now a1) (now a2)) in (start, sym (rw start at (means (now a1) (now a2))));
+  gives = λ d e. found b d e (means (now a1) (now a2)) (place (now a1) (now a2));
 }
   where
     s : Settings
@@ -98,6 +96,40 @@ moves-asked-on κs κt m1 m2 a1 a2 o t b (means, place) = record {
     l : Lent
     l = lentOf o (now m1) (now m2) (now a1) (now a2)
 
-    refused-at : (a : MovesStart) (n : ℕ) → directionFor s l (sideMeans (o .side)) t ≡ refused n → StartsPlaced s l (sideMeans (o .side)) t a → a ≡ NoStart n
+    side : Side
+    side = sideMeans (o .side)
+
+    steps : List (Checked Step)
+    steps = stepsAt (composing o (now m1) (now m2) (now a1) (now a2)) (tupleMeans t)
+
+    Answers : MoveCursor → NextStep → Type 0
+    Answers = StepReply κt m1 m2 a1 a2 o
+
+    refused-at : (a : MovesStart) (n : ℕ) → directionFor s l side t ≡ refused n → StartsPlaced s l side t a → a ≡ NoStart n
     refused-at (At c) n e h = absurd (good≢refused (sym (h .direction) ∙ e))
     refused-at (NoStart k) n e h = ap NoStart (refused-is (sym h ∙ e))
+
+    found : (a : MovesStart) (d : MatchType) → directionFor s l side t ≡ good d → movesStartMeans s l a ≡ steps → StartsPlaced s l side t a → (c : MoveCursor) × (a ≡ At c) × GivesSteps Answers s l side t steps c
+    found (NoStart n) d e m h = absurd (good≢refused (sym e ∙ h))
+    found (At c) d e m h = (
+      c,
+      refl,
+      record {
+        inOrder = λ k r g. asked-on Answers onward givenBy (λ x j. answerAt (stepsLeft s l x) j) (λ x q p. one s l x q (p .0)) c k r g ∙ ap (λ x. answerAt x k) m;
+        begins = h;
+        holds = λ k q x g.
+            let last = kept-on Answers onward (Kept s l c) (λ f r p. keeps s l c f r (p .1)) c k (AStep q x) g (refl, h .place) in
+            keeps s l c (last .0) (AStep q x) (last .2 .1) (last .1);
+      },
+    )
+
+-- from a start that is a cursor the steps are given
+pub from-cursor : {Answers : MoveCursor → NextStep → Type 0} {s : Settings} {l : Lent} {side : Side} {t : ComposeStateTuple} {steps : List (Checked Step)} {c : MoveCursor} (d : MatchType)
+    → directionFor s l side t ≡ good d → StartGivesSteps Answers s l side t steps (At c) → GivesSteps Answers s l side t steps c
+from-cursor {Answers} {s} {l} {side} {t} {steps} {c} d e h = go (h .gives d e)
+  where
+    same : {x y : MoveCursor} → At x ≡ At y → x ≡ y
+    same q = cc
+
+    go : (x : MoveCursor) × (At c ≡ At x) × GivesSteps Answers s l side t steps x → GivesSteps Answers s l side t steps c
+    go (x, q, g) = rw (same q) g

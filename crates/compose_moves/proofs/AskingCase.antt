@@ -1,5 +1,5 @@
--- Two composed states, asked on from their start, under costs and the sequence filter with side output. State 1 of 01's listing, (1, 0, 0): its one transition, 0:7 of weight 4 to (1, 1, 0), and then the end
--- ever after. The start of two machines whose one move is too heavy: refusal 12, ever after.
+-- Composed states, asked on from their start, under costs and the sequence filter. With side output: state 1 of 01's listing, (1, 0, 0): its one transition, 0:7 of weight 4 to (1, 1, 0), and then the end ever
+-- after; the start of two machines whose one move is too heavy: refusal 12, ever after. With side both: a state at which both machines have sigma transitions: refusal 10, and no cursor.
 use mathlib.Core.Path.{_≡_, refl}
 use mathlib.Core.Bool.{true, false}
 use mathlib.Core.List.{List, [], _∷_, flatMap, List·Memᴰ·head as here}
@@ -13,14 +13,14 @@ use Rattle.lists.specs.Asking.{AskedOn}
 use Rattle.papers.specs.Filter.{noEpsilon, onlyEpsilons}
 use Rattle.words.specs.Labels.{noLabel, good, refused}
 use Rattle.words.specs.Weights.{times}
-use Rattle.words.specs.Matches.{labelled, sortedMatches}
+use Rattle.words.specs.Matches.{outputs, labelled, sortedMatches}
 use Rattle.words.specs.Machines.{acceptorMark, stateCount, trCount, stateWord, trWord, firstOk, nextOk, firstOf, nextOf, listBy, listFrom, listOf}
 use Rattle.words.specs.Sigmas.{sigmaTrs, sigmaMatches, lookup, given}
 use Rattle.words.specs.Sides.{directionAt}
 use Rattle.words.specs.Filters.{noneAt, allAt}
 use Rattle.words.specs.Steps.{walk, keptAlong, keptAt, stepOf, stepsAt}
 use Rattle.fst.specs.declared.MatchType.the-variants.{MatchOutput}
-use Rattle.match_type.specs.declared.Side.the-variants.{Only}
+use Rattle.match_type.specs.declared.Side.the-variants.{Only, Both}
 use Rattle.matchers.specs.declared.Phase.the-variants.{Own}
 use Rattle.matchers.specs.declared.sigma_matcher.Sigma.{Sigma}
 use Rattle.matchers.specs.Meaning.{lookupItems}
@@ -32,11 +32,12 @@ use Rattle.compose_moves.specs.Walks.{edgeSteps, trSteps, trsSteps, walk
 use Rattle.compose_moves.specs.Cursors.{stepsLeft}
 use Rattle.compose_moves.specs.Asking.{givenBy, onward}
 use Rattle.compose_moves.specs.declared.MoveCursor.{MoveCursor}
-use Rattle.compose_moves.specs.declared.MovesStart.the-variants.{At}
+use Rattle.compose_moves.specs.declared.MovesStart.{MovesStart}
+use Rattle.compose_moves.specs.declared.MovesStart.the-variants.{At, Refused as NoStart}
 use Rattle.compose_moves.specs.declared.NextStep.{NextStep}
 use Rattle.compose_moves.specs.declared.NextStep.the-variants.{Step as AStep, Done, Refused}
 use Rattle.compose_moves.proofs.Cases.{machines, cursor}
-use Rattle.compose_moves.proofs.Asking.{StartReply, StepReply, moves-asked-on}
+use Rattle.compose_moves.proofs.Asking.{StartReply, StepReply, moves-asked-on, from-cursor}
 
 abbrev unset : Sigma
 unset = record { label = record { 0 = noLabel }; mode = 0; listed = false }
@@ -74,6 +75,19 @@ heavy = record {
   matches = record { on = MatchOutput; label = record { 0 = noLabel }; sigma = record { 0 = noLabel }; both = false; phase = Own; loops = false; tr = 0; sigmas = 0 };
 }
 
+-- two machines whose one state has a sigma transition on its inner side, 1:9 and 8:2
+abbrev sigma1 : List ℕ
+sigma1 = 1 ∷ 1 ∷ 1 ∷ 0 ∷ 0 ∷ 0 ∷ 1 ∷ 1 ∷ 0 ∷ 1 ∷ 9 ∷ 0 ∷ 0 ∷ 0 ∷ []
+
+abbrev sigma2 : List ℕ
+sigma2 = 1 ∷ 1 ∷ 1 ∷ 0 ∷ 0 ∷ 0 ∷ 1 ∷ 1 ∷ 0 ∷ 8 ∷ 2 ∷ 0 ∷ 0 ∷ 0 ∷ []
+
+abbrev named : ℕ → Sigma
+named x = record { label = record { 0 = x }; mode = 2; listed = false }
+
+abbrev bothSigmas : ComposeFstOpOptions
+bothSigmas = record { kind = 0; filter = 0; side = Both; sigma1 = named 9; sigma2 = named 8 }
+
 -- the words are lent in slices, wherever they lie; there are no allowed lists
 module _ (κs : Lfts 2) (κt : Lfts 4) (ptr1 ptr2 : ℕ × ℕ) (name1 name2 : ℕ) (unread1 unread2 : RefT (List ℕ)) where
   abbrev in1 : List ℕ → RefT (List ℕ)
@@ -107,11 +121,11 @@ module _ (κs : Lfts 2) (κt : Lfts 4) (ptr1 ptr2 : ℕ × ℕ) (name1 name2 : �
   -- whatever replies are allowed
   pub gives : (r : NextStep) → Gets 0 r → givenBy r ≡ some (good (record { input = 0; output = 7; weight = 4; to = record { s1 = 1; s2 = 1; f = 0 } }))
   unfolding stepsAt keptAt keptAlong walk stepOf given directionAt noneAt allAt noEpsilon onlyEpsilons every stepsLeft walkLeft trsSteps trSteps edgeSteps stepsOf times flatMap lookupItems lookup sortedMatches sigmaMatches sigmaTrs labelled itemsLeft matchesLeft ownLeft sigmaLeft withLabel recordsFrom keepIf stateCount trCount stateWord trWord firstOk nextOk firstOf nextOf listBy listFrom listOf acceptorMark
-  gives r h = moves-asked-on κs κt (in1 (machines .m1)) (in2 (machines .m2)) unread1 unread2 options (state 1) (At first) begins .inOrder first refl 0 r h
+  gives r h = from-cursor outputs refl (moves-asked-on κs κt (in1 (machines .m1)) (in2 (machines .m2)) unread1 unread2 options (state 1) (At first) begins) .inOrder 0 r h
 
   pub then-ends : (k : ℕ) (r : NextStep) → Gets (suc k) r → givenBy r ≡ none
   unfolding stepsAt keptAt keptAlong walk stepOf given directionAt noneAt allAt noEpsilon onlyEpsilons every stepsLeft walkLeft trsSteps trSteps edgeSteps stepsOf times flatMap lookupItems lookup sortedMatches sigmaMatches sigmaTrs labelled itemsLeft matchesLeft ownLeft sigmaLeft withLabel recordsFrom keepIf stateCount trCount stateWord trWord firstOk nextOk firstOf nextOf listBy listFrom listOf acceptorMark
-  then-ends k r h = moves-asked-on κs κt (in1 (machines .m1)) (in2 (machines .m2)) unread1 unread2 options (state 1) (At first) begins .inOrder first refl (suc k) r h
+  then-ends k r h = from-cursor outputs refl (moves-asked-on κs κt (in1 (machines .m1)) (in2 (machines .m2)) unread1 unread2 options (state 1) (At first) begins) .inOrder (suc k) r h
 
   -- the start of the heavy machines
   abbrev HeavyAnswer : MoveCursor → NextStep → Type 0
@@ -127,4 +141,9 @@ module _ (κs : Lfts 2) (κt : Lfts 4) (ptr1 ptr2 : ℕ × ℕ) (name1 name2 : �
 
   pub ever-too-heavy : (k : ℕ) (r : NextStep) → AskedOn HeavyAnswer onward heavy k r → givenBy r ≡ some (refused 12)
   unfolding stepsAt keptAt keptAlong walk stepOf given directionAt noneAt allAt noEpsilon onlyEpsilons every stepsLeft walkLeft trsSteps trSteps edgeSteps stepsOf times flatMap lookupItems lookup sortedMatches sigmaMatches sigmaTrs labelled itemsLeft matchesLeft ownLeft sigmaLeft withLabel recordsFrom keepIf stateCount trCount stateWord trWord firstOk nextOk firstOf nextOf listBy listFrom listOf acceptorMark
-  ever-too-heavy k r h = moves-asked-on κs κt (in1 heavy1) (in2 heavy2) unread1 unread2 options (state 0) (At heavy) heavy-begins .inOrder heavy refl k r h
+  ever-too-heavy k r h = from-cursor outputs refl (moves-asked-on κs κt (in1 heavy1) (in2 heavy2) unread1 unread2 options (state 0) (At heavy) heavy-begins) .inOrder k r h
+
+  -- both machines have sigma transitions
+  pub no-direction : (b : MovesStart) → StartReply κs (in1 sigma1) (in2 sigma2) bothSigmas (state 0) b → b ≡ NoStart 10
+  unfolding directionAt sigmaTrs labelled keepIf stateCount trCount stateWord trWord firstOk nextOk firstOf nextOf listBy listFrom listOf
+  no-direction b h = moves-asked-on κs κt (in1 sigma1) (in2 sigma2) unread1 unread2 bothSigmas (state 0) b h .refuses 10 refl .0
