@@ -25,6 +25,11 @@ pub apart-distinct : {A : Type 0} (R : A → A → Type 0) → ((a b : A) → R 
 apart-distinct R inj [] d = tt
 apart-distinct R inj (x ∷ xs) d = (λ y i r. d .0 (Memᴰ·cast (inj x y r) i), apart-distinct R inj xs (d .1))
 
+-- what is told apart by what it gives gives nothing twice
+pub apart-once : {A B : Type 0} (g : A → B) (l : List A) → Apart (λ a b. g a ≡ g b) l → Distinct (map g l)
+apart-once g [] d = tt
+apart-once g (x ∷ xs) d = (λ i. let m = Memᴰ·of-map g xs i in d .0 (m .0) (m .1) (sym (m .2)), apart-once g xs (d .1))
+
 pub apart-append : {A : Type 0} (R : A → A → Type 0) (xs ys : List A) → Apart R xs → Apart R ys → ((a b : A) → In a xs → In b ys → R a b → ⊥) → Apart R (xs ++ ys)
 apart-append R [] ys d e n = e
 apart-append R (x ∷ xs) ys d e n =

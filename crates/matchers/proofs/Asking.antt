@@ -18,14 +18,18 @@ use contract.Monad.{Fun}
 use denote.Ref.{RefT, now}
 use lib.ListN.{length, getElem?}
 use Rattle.lists.specs.Asking.{AskedOn}
+use Rattle.lists.proofs.Apart.{Apart, apart-once}
 use Rattle.lists.proofs.Asking.{asked-on, kept-on}
 use Rattle.lists.proofs.Places.{at-map}
 use Rattle.words.specs.Labels.{good, refused}
 use Rattle.words.specs.Matches.{Match, sortedMatches}
 use Rattle.words.specs.Machines.{acceptorMark, firstOf, machineOf}
-use Rattle.words.specs.Sigmas.{rewritesBoth, lookup, rewrite}
+use Rattle.words.specs.Sigmas.{Operand, rewritesBoth, lookup, rewrite}
 use Rattle.words.specs.Settings.{operandOf}
+use Rattle.words.specs.AsPapers.{edgeOf}
 use Rattle.words.proofs.CheckedLaws.{good-is, refused-is, good≢refused}
+use Rattle.words.proofs.ListLaws.{list-distinct}
+use Rattle.words.proofs.PapersLookup.{SameEdge, apart-sorted, found-apart}
 use Rattle.fst.specs.Meaning.{onOf}
 use Rattle.fst.specs.declared.Label.{Label}
 use Rattle.fst.specs.declared.MatchType.{MatchType}
@@ -83,9 +87,9 @@ past item (u ∷ us) zero h = absurd (omega arith)
 past item (u ∷ us) (suc k) h = past item us k (omega arith)
 
 -- a cursor that has these matches to give, and holds places, gives them
-gives : (κs : Lfts 1) (w : RefT (List ℕ)) (s : ℕ) (q : LookUp) (item : Match → Item) (ms : List Match) (c : Cursor) → itemsLeft (now w) c ≡ map item ms → Holds (now w) s q c
+gives : (κs : Lfts 1) (w : RefT (List ℕ)) (s : ℕ) (q : LookUp) (item : Match → Item) (ms : List Match) (c : Cursor) → itemsLeft (now w) c ≡ map item ms → Apart SameEdge ms → Holds (now w) s q c
     → Gives (NextReply κs w) (now w) s q item ms c
-gives κs w s q item ms c e h = record { inOrder = λ k r a u i. at k r a ∙ at-map item ms k i; thenNone = λ k r a i. at k r a ∙ past item ms k i; begins = h; holds = held }
+gives κs w s q item ms c e d h = record { inOrder = λ k r a u i. at k r a ∙ at-map item ms k i; thenNone = λ k r a i. at k r a ∙ past item ms k i; once = apart-once edgeOf ms d; begins = h; holds = held }
   where
     m : List ℕ
     m = now w
@@ -108,7 +112,7 @@ gives κs w s q item ms c e h = record { inOrder = λ k r a u i. at k r a ∙ at
 pub sorted-asked-on : (κs κt : Lfts 1) (w : RefT (List ℕ)) (on : MatchType) (s : StateId) (x : Label) (c : Cursor) → SortedReply κs w on s x c
     → Gives (NextReply κt w) (now w) (s .0) (sortedLookUp (onOf on) (x .0)) (itemOf (machineOf (now w)) (λ t. t)) (sortedMatches (onOf on) (machineOf (now w)) (s .0) (x .0)) c
 unfolding sortedItems
-sorted-asked-on κs κt w on s x c (means, place) = gives κt w (s .0) _ _ _ c means (first-holds (now w) on s x _ _ 0 c place (inl refl))
+sorted-asked-on κs κt w on s x c (means, place) = gives κt w (s .0) _ _ _ c means (apart-sorted (onOf on) (machineOf (now w)) (s .0) (x .0) (list-distinct (now w) (s .0))) (first-holds (now w) on s x _ _ 0 c place (inl refl))
 
 -- The sigma look-up: on any words, with any settings of sigma and any allowed list, at any state, of any label.
 pub sigma-asked-on : (κs : Lfts 2) (κt : Lfts 1) (w allowed : RefT (List ℕ)) (on : MatchType) (sigma : Sigma) (s : StateId) (x : Label) (i : SigmaIter)
@@ -117,7 +121,7 @@ pub sigma-asked-on : (κs : Lfts 2) (κt : Lfts 1) (w allowed : RefT (List ℕ))
     let o = operandOf (onOf on) (now w) (sigma .label .0) (sigma .mode) (allowedOf (sigma .listed) (now allowed)) in
     GivesOrRefuses (NextReply κt w) (now w) (s .0) (sigmaLookUp o (x .0)) (itemOf (o .machine) (rewrite (o .sigma .rewriteBoth) (o .on) (o .sigma .label) (x .0))) (lookup o (s .0) (x .0)) i
 unfolding lookupItems
-sigma-asked-on κs κt w allowed on sigma s x i (means, place) = record { refuses = λ n e. refused-at i n (rw e at means); gives = λ l e. found i l (rw e at means) place }
+sigma-asked-on κs κt w allowed on sigma s x i (means, place) = record { refuses = λ n e. refused-at i n (rw e at means); gives = λ l e. found i l (rw e at means) (apart l e) place }
   where
     m : List ℕ
     m = now w
@@ -137,10 +141,16 @@ sigma-asked-on κs κt w allowed on sigma s x i (means, place) = record { refuse
     item : Match → Item
     item = itemOf (machineOf m) (rewrite both (onOf on) (sigma .label .0) (x .0))
 
+    operand : Operand
+    operand = operandOf (onOf on) m (sigma .label .0) (sigma .mode) (allowedOf (sigma .listed) (now allowed))
+
+    apart : (l : List Match) → lookup operand (s .0) (x .0) ≡ good l → Apart SameEdge l
+    apart l e = found-apart operand (s .0) (x .0) l (list-distinct m (s .0)) e
+
     refused-at : (j : SigmaIter) (n : ℕ) → iterMeans m j ≡ refused n → j ≡ Refused n
     refused-at (From c) n e = absurd (good≢refused e)
     refused-at (Refused k) n e = ap Refused (refused-is e)
 
-    found : (j : SigmaIter) (l : List Match) → iterMeans m j ≡ good (map item l) → BeginsAt j first → (c : Cursor) × (j ≡ From c) × Gives (NextReply κt w) m (s .0) asks item l c
-    found (From c) l e p = (c, refl, gives κt w (s .0) asks item l c (good-is e) (first-holds m on s x (sigma .label) both _ c p (place-from m (s .0) stands)))
-    found (Refused k) l e p = absurd (good≢refused (sym e))
+    found : (j : SigmaIter) (l : List Match) → iterMeans m j ≡ good (map item l) → Apart SameEdge l → BeginsAt j first → (c : Cursor) × (j ≡ From c) × Gives (NextReply κt w) m (s .0) asks item l c
+    found (From c) l e d p = (c, refl, gives κt w (s .0) asks item l c (good-is e) d (first-holds m on s x (sigma .label) both _ c p (place-from m (s .0) stands)))
+    found (Refused k) l e d p = absurd (good≢refused (sym e))

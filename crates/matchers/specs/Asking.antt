@@ -1,17 +1,18 @@
 -- 02, 2.5: "Asked on, it is proved to give the definition's matches, each once and in order, then none ever after"; "it walks the list itself and keeps only the present place".
 use mathlib.Core.Path.{_≡_}
 use mathlib.Core.Bool.{Bool, false}
-use mathlib.Core.List.{List, List·Memᴰ as In}
+use mathlib.Core.List.{List, map, List·Memᴰ as In}
 use mathlib.Core.Logic.{_⊎_}
 use mathlib.Core.Option.{none, some}
 use Prim.Native.Nat.{ℕ, _≤_}
 use lib.ListN.{length}
-use Rattle.lists.specs.Lists.{At}
+use Rattle.lists.specs.Lists.{At, Distinct}
 use Rattle.lists.specs.Asking.{AskedOn}
 use Rattle.words.specs.Labels.{noLabel, Checked, good, refused}
 use Rattle.words.specs.Matches.{MatchType, inputs, outputs, Match}
 use Rattle.words.specs.Machines.{listOf}
 use Rattle.words.specs.Sigmas.{Operand}
+use Rattle.words.specs.AsPapers.{edgeOf}
 use Rattle.fst.specs.declared.MatchType.{MatchType as On}
 use Rattle.fst.specs.declared.MatchType.the-variants.{MatchInput, MatchOutput}
 use Rattle.matchers.specs.Meaning.{Item}
@@ -81,6 +82,8 @@ pub record Gives (Answers : Cursor → Step → Type 0) (m : List ℕ) (s : ℕ)
   pub inOrder : (k : ℕ) (r : Step) → AskedOn Answers (λ d a. cursorOf a) c k r → (u : Match) → At ms k u → givenBy r ≡ some (item u)
   -- .. and from their end on, however often it is asked, none
   pub thenNone : (k : ℕ) (r : Step) → AskedOn Answers (λ d a. cursorOf a) c k r → length ms ≤ k → givenBy r ≡ none
+  -- each once: among the matches neither the loop nor a record stands twice
+  pub once : Distinct (map edgeOf ms)
   -- the first cursor, and each that an asking hands back, holds what was asked, and places
   pub begins : Holds m s q c
   pub holds : (k : ℕ) (r : Step) → AskedOn Answers (λ d a. cursorOf a) c k r → Holds m s q (cursorOf r)

@@ -16,6 +16,7 @@ use Rattle.words.specs.Labels.{epsLabel, noLabel, good, refuseIf}
 use Rattle.words.specs.Matches.{MatchType, labelOn, Match, loop, own, viaSigma, labelled, sortedMatches}
 use Rattle.words.specs.Sigmas.{Operand, inner, isAllowed, isSet, isSigma, sigmaTrs, sigmaMatches, lookup}
 use Rattle.words.specs.AsPapers.{edgeOf}
+use Rattle.words.proofs.CheckedLaws.{good-is, past-check}
 
 pub in-labelled : (on : MatchType) (M : Machine) (s x : ℕ) {t : ℕ} → In t (M .list s) → labelOn on M t ≡ x → In t (labelled on M s x)
 unfolding labelled
@@ -121,7 +122,7 @@ rest≢along e = false≢true (sym (ap isRest e))
 loop-first : (l : List ℕ) → Distinct l → Apart SameEdge (loop ∷ map own l)
 loop-first l d = (λ m i e. let r = Memᴰ·of-map own l i in rest≢along (e ∙ sym (ap edgeOf (r .2))), apart-own l d)
 
-apart-sorted : (on : MatchType) (M : Machine) (s x : ℕ) → Distinct (M .list s) → Apart SameEdge (sortedMatches on M s x)
+pub apart-sorted : (on : MatchType) (M : Machine) (s x : ℕ) → Distinct (M .list s) → Apart SameEdge (sortedMatches on M s x)
 unfolding sortedMatches
 apart-sorted on M s x d = go (eqb x epsLabel) (eqb x noLabel)
   where
@@ -166,3 +167,10 @@ looked o s x d =
       refl,
       λ n. apart-append SameEdge owned others (apart-sorted (o .on) (o .machine) s x d) (apart-sigmas o s x d) (λ a b i j e. false≢true (sym n ∙ own-as-sigma o s x i j e)),
     )
+
+-- so the matches of a label that is not refused are all different edges
+pub found-apart : (o : Operand) (s x : ℕ) (l : List Match) → Distinct (o .machine .list s) → lookup o s x ≡ good l → Apart SameEdge l
+found-apart o s x l d e =
+    let r = looked o s x d in
+    let p = past-check (r .0) 11 (good (r .1)) l (sym (r .2) ∙ e) in
+    rw (← good-is (p .1)) (r .3 (p .0))
