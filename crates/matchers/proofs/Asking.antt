@@ -36,7 +36,7 @@ use Rattle.fst.specs.declared.MatchType.{MatchType}
 use Rattle.fst.specs.declared.StateId.{StateId}
 use Rattle.matchers.specs.Meaning.{Item, itemOf, sortedItems, lookupItems, allowedOf, standsFor}
 use Rattle.matchers.specs.Cursors.{itemsLeft, asked, givenBy, cursorOf, iterMeans, firstCursor, BeginsAt}
-use Rattle.matchers.specs.Asking.{LookUp, sortedLookUp, sigmaLookUp, Holds, Gives, GivesOrRefuses}
+use Rattle.matchers.specs.Asking.{LookUp, sortedLookUp, sigmaLookUp, Holds, onward, Gives, GivesOrRefuses}
 use Rattle.matchers.specs.declared.Cursor.{Cursor}
 use Rattle.matchers.specs.declared.Matcher.{Matcher}
 use Rattle.matchers.specs.declared.Step.{Step}
@@ -99,14 +99,14 @@ gives κs w s q item ms c e d h = record { inOrder = λ k r a u i. at k r a ∙ 
         let means = answers κs w d r a .0 in
         (ap (λ x. x .given) means ∙ head-asked (itemsLeft m d), λ k. ap (λ x. getElem? (x .left) k) means ∙ tail-asked (itemsLeft m d) k)
 
-    at : (k : ℕ) (r : Step) → AskedOn (NextReply κs w) (λ d a. cursorOf a) c k r → givenBy r ≡ getElem? (map item ms) k
-    at k r a = asked-on (NextReply κs w) (λ d a. cursorOf a) givenBy (λ d j. getElem? (itemsLeft m d) j) one c k r a ∙ ap (λ (l : List Item). getElem? l k) e
+    at : (k : ℕ) (r : Step) → AskedOn (NextReply κs w) onward c k r → givenBy r ≡ getElem? (map item ms) k
+    at k r a = asked-on (NextReply κs w) onward givenBy (λ d j. getElem? (itemsLeft m d) j) one c k r a ∙ ap (λ (l : List Item). getElem? l k) e
 
     keeps : (d : Cursor) (r : Step) → NextReply κs w d r → Holds m s q d → Holds m s q (cursorOf r)
     keeps d r a p = rw (answers κs w d r a .1) (after-holds m s q d p)
 
-    held : (k : ℕ) (r : Step) → AskedOn (NextReply κs w) (λ d a. cursorOf a) c k r → Holds m s q (cursorOf r)
-    held k r a = let last = kept-on (NextReply κs w) (λ d a. cursorOf a) (Holds m s q) keeps c k r a h in keeps (last .0) r (last .2) (last .1)
+    held : (k : ℕ) (r : Step) → AskedOn (NextReply κs w) onward c k r → Holds m s q (cursorOf r)
+    held k r a = let last = kept-on (NextReply κs w) onward (Holds m s q) keeps c k r a h in keeps (last .0) r (last .2) (last .1)
 
 -- The sorted look-up: on any words, at any state, of any label.
 pub sorted-asked-on : (κs κt : Lfts 1) (w : RefT (List ℕ)) (on : MatchType) (s : StateId) (x : Label) (c : Cursor) → SortedReply κs w on s x c

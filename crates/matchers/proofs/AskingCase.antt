@@ -17,8 +17,8 @@ use Rattle.words.specs.Machines.{acceptorMark, stateCount, trCount, stateWord, 
 use Rattle.words.specs.Sigmas.{sigmaTrs, sigmaMatches, lookup, rewrite}
 use Rattle.fst.specs.declared.MatchType.the-variants.{MatchInput}
 use Rattle.matchers.specs.Meaning.{Item, theLoop, whole, itemOf, sortedItems, lookupItems, standsFor}
-use Rattle.matchers.specs.Cursors.{recordsFrom, withLabel, sigmaLeft, ownLeft, matchesLeft, itemsLeft, givenBy, cursorOf}
-use Rattle.matchers.specs.Asking.{Gives}
+use Rattle.matchers.specs.Cursors.{recordsFrom, withLabel, sigmaLeft, ownLeft, matchesLeft, itemsLeft, givenBy}
+use Rattle.matchers.specs.Asking.{onward, Gives}
 use Rattle.matchers.specs.declared.IterItemMatcher.{IterItemMatcher}
 use Rattle.matchers.specs.declared.IterItemMatcher.the-variants.{EpsLoop, Tr}
 use Rattle.matchers.specs.declared.Phase.{Phase}
@@ -83,7 +83,7 @@ module _ (κs : Lfts 1) (κt : Lfts 2) (ptr : ℕ × ℕ) (name : ℕ) (unread :
 
   -- asking number k, counted from 0, of those that begin with the cursor c
   abbrev Gets : Cursor → ℕ → Step → Type 0
-  Gets c k r = AskedOn Answer (λ d a. cursorOf a) c k r
+  Gets c k r = AskedOn Answer onward c k r
 
   pub four-begins : SigmaReply κt lent unread MatchInput sigma (record { 0 = 0 }) (record { 0 = 4 }) (From (four Own 2))
   unfolding standsFor lookupItems lookup sortedItems sortedMatches sigmaMatches sigmaTrs labelled listOf acceptorMark itemsLeft matchesLeft ownLeft sigmaLeft withLabel recordsFrom keepIf stateCount trCount stateWord trWord firstOk nextOk firstOf nextOf listBy listFrom

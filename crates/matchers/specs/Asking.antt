@@ -75,18 +75,22 @@ pub record Holds (m : List ℕ) (s : ℕ) (q : LookUp) (c : Cursor) : Type 0 whe
   pub tr : PlaceIn m s (c .tr)
   pub sigmas : PlaceIn m s (c .sigmas)
 
+-- the cursor to ask on with: the one that was handed back, at the end too
+abbrev pub onward : Cursor → Step → Cursor
+onward c r = cursorOf r
+
 -- A look-up with the settings q at state s of the machine in m, which begins with the cursor c, gives the matches ms. `Answers c r` is what a function that is asked for the next match promises of its
 -- reply r; `item u` is what the match u gives.
 pub record Gives (Answers : Cursor → Step → Type 0) (m : List ℕ) (s : ℕ) (q : LookUp) (item : Match → Item) (ms : List Match) (c : Cursor) : Type 0 where
   -- asking number k gives match number k ..
-  pub inOrder : (k : ℕ) (r : Step) → AskedOn Answers (λ d a. cursorOf a) c k r → (u : Match) → At ms k u → givenBy r ≡ some (item u)
+  pub inOrder : (k : ℕ) (r : Step) → AskedOn Answers onward c k r → (u : Match) → At ms k u → givenBy r ≡ some (item u)
   -- .. and from their end on, however often it is asked, none
-  pub thenNone : (k : ℕ) (r : Step) → AskedOn Answers (λ d a. cursorOf a) c k r → length ms ≤ k → givenBy r ≡ none
+  pub thenNone : (k : ℕ) (r : Step) → AskedOn Answers onward c k r → length ms ≤ k → givenBy r ≡ none
   -- each once: among the matches neither the loop nor a record stands twice
   pub once : Distinct (map edgeOf ms)
   -- the first cursor, and each that an asking hands back, holds what was asked, and places
   pub begins : Holds m s q c
-  pub holds : (k : ℕ) (r : Step) → AskedOn Answers (λ d a. cursorOf a) c k r → Holds m s q (cursorOf r)
+  pub holds : (k : ℕ) (r : Step) → AskedOn Answers onward c k r → Holds m s q (cursorOf r)
 
 -- The answer i of a look-up that may be refused: the refusal by its number; or a cursor that gives the matches.
 pub record GivesOrRefuses (Answers : Cursor → Step → Type 0) (m : List ℕ) (s : ℕ) (q : LookUp) (item : Match → Item) (ms : Checked (List Match)) (i : SigmaIter) : Type 0 where
