@@ -1,0 +1,3 @@
+pub mod OpenedRoom
+pub mod Bounds
+pub mod FanOutCases

@@ -1,0 +1,42 @@
+-- The room of `composed` is enough for every opening, which is then refused by the checks 1 to 7 or not at all: so a caller that is lent no memory gets what the program prints.
+use mathlib.Core.Path.{_≡_, refl, sym, ap, _∙_}
+use mathlib.Core.List.{List, [], _∷_}
+use mathlib.Core.Option.{Option, none, some}
+use Prim.Native.Nat.{ℕ}
+use native.Mathlib.Omega.{arith}
+use lib.Dec.{eqb}
+use lib.ListN.{length}
+use borrow.Author.Tests.{eq-eqb}
+use Rattle.words.specs.Labels.{Checked, good, refused, andThen}
+use Rattle.words.specs.Sides.{Side}
+use Rattle.words.specs.Steps.{Triple, startAt}
+use Rattle.words.specs.Settings.{Settings, Lent, compositionOf}
+use Rattle.calls.specs.Checks.{Session, sideFor}
+use Rattle.calls.specs.Calls.{openOf, openWith}
+use Rattle.calls.specs.Listing.{settingsSize, settingsOf, emptyMemory, noSession}
+use Rattle.calls.proofs.OpenCases.{open-empty, open-begun}
+use Rattle.calls.proofs.ListingLaws.{rooms}
+use Rattle.fan_outs.specs.FanOut.{fanOutAt, fanOutOf, queried, fanOutLine}
+
+-- whatever comes after an accepted opening comes after accepted checks 1 to 7
+pub room-enough : {A : Type 0} (s : Settings) (l : Lent) (got : Session) (after : Checked A) → andThen (openOf s l got emptyMemory .answer) (λ u. after) ≡ andThen (sideFor s l) (λ side. after)
+unfolding openWith
+room-enough s l got after = go (sideFor s l) refl
+  where
+    by-start : (side : Side) (t : Option Triple) → sideFor s l ≡ good side → startAt (compositionOf s l side) ≡ t → andThen (openOf s l got emptyMemory .answer) (λ u. after) ≡ after
+    by-start side none e h = rw (open-empty s l got emptyMemory side e h)
+    by-start side (some t) e h = rw (open-begun s l got emptyMemory side t e h (record { room = let r = rooms .1 in omega (arith, r); headed = let r = rooms .0 in omega (arith, r) }))
+
+    go : (o : Checked Side) → sideFor s l ≡ o → andThen (openOf s l got emptyMemory .answer) (λ u. after) ≡ andThen o (λ side. after)
+    go (refused k) e = rw e
+    go (good side) e = by-start side (startAt (compositionOf s l side)) e refl
+
+-- the program's answer without memory
+pub line-checked : (w : List ℕ) (l : Lent) (query : List ℕ) → length w ≡ settingsSize → fanOutLine w l query ≡ andThen (sideFor (settingsOf w) l) (λ side. queried (settingsOf w) l query)
+unfolding fanOutLine
+line-checked w l query e = rw (eq-eqb (length w) settingsSize e) (room-enough (settingsOf w) l (noSession (settingsOf w)) (queried (settingsOf w) l query))
+
+-- and with three words on its fourth line it is that of the call
+pub line-is-call : (w : List ℕ) (l : Lent) (n q x : ℕ) → length w ≡ settingsSize → fanOutLine w l (n ∷ q ∷ x ∷ []) ≡ fanOutOf (settingsOf w) l n q x
+unfolding fanOutOf
+line-is-call w l n q x e = line-checked w l (n ∷ q ∷ x ∷ []) e
