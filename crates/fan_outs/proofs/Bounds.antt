@@ -10,14 +10,15 @@ use lib.ListN.{length, length-append, length-map}
 use Rattle.lists.specs.Lists.{putIf, keepIf}
 use Rattle.words.specs.Labels.{epsLabel, noLabel, Checked, good}
 use Rattle.words.specs.Machines.{trCount, firstOf, listOf, machineOf}
-use Rattle.words.specs.Matches.{MatchType, labelOn, Match, loop, own, viaSigma, labelled, sortedMatches}
+use Rattle.words.specs.Matches.{MatchType, labelOn, viaSigma, labelled, sortedMatches}
 use Rattle.words.specs.Sigmas.{Operand, isAllowed, isSet, isSigma, sigmaTrs, sigmaMatches, lookup}
 use Rattle.words.specs.Settings.{operandOf}
 use Rattle.words.proofs.CheckedLaws.{good-is, past-check, past-then}
 use Rattle.words.proofs.ListLaws.{list-length}
+use Rattle.compose_bounds.proofs.Lookups.{sorted-few}
 use Rattle.fan_outs.specs.FanOut.{fanOut}
 
-keep-length : {A : Type 0} (P : A → Bool) (l : List A) → length (keepIf P l) ≤ length l
+pub keep-length : {A : Type 0} (P : A → Bool) (l : List A) → length (keepIf P l) ≤ length l
 unfolding keepIf
 keep-length P [] = omega arith
 keep-length P (x ∷ xs) = go (P x) (keep-length P xs)
@@ -29,18 +30,6 @@ keep-length P (x ∷ xs) = go (P x) (keep-length P xs)
 labelled-length : (on : MatchType) (m : List ℕ) (q x : ℕ) → length (labelled on (machineOf m) q x) ≤ trCount m
 unfolding labelled listOf
 labelled-length on m q x = let a = keep-length (λ t. eqb (labelOn on (machineOf m) t) x) (listOf m q) in let b = list-length m (firstOf m q) in omega (arith, a, b)
-
-sorted-length : (on : MatchType) (m : List ℕ) (q x : ℕ) → length (sortedMatches on (machineOf m) q x) ≤ trCount m + 1
-unfolding sortedMatches
-sorted-length on m q x = go (eqb x epsLabel) (eqb x noLabel)
-  where
-    own-length : (y : ℕ) → length (map own (labelled on (machineOf m) q y)) ≤ trCount m
-    own-length y = let e = length-map (labelled on (machineOf m) q y) own in let h = labelled-length on m q y in omega (arith, e, h)
-
-    go : (a b : Bool) → length (cond a (loop ∷ map own (labelled on (machineOf m) q epsLabel)) (cond b (map own (labelled on (machineOf m) q epsLabel)) (map own (labelled on (machineOf m) q x)))) ≤ trCount m + 1
-    go true b = let h = own-length epsLabel in omega (arith, h)
-    go false true = let h = own-length epsLabel in omega (arith, h)
-    go false false = let h = own-length x in omega (arith, h)
 
 module _ (on : MatchType) (m : List ℕ) (sigma mode : ℕ) (allowed : Option (List ℕ)) (q x : ℕ) where
   abbrev o : Operand
@@ -63,6 +52,6 @@ module _ (on : MatchType) (m : List ℕ) (sigma mode : ℕ) (allowed : Option (L
       let u = ap length (good-is (k .1)) in
       let v = length-append (sortedMatches on (machineOf m) q x) (sigmaMatches o q x) in
       let w = good-is (r .2) in
-      let a = sorted-length on m q x in
+      let a = sorted-few o q (trCount m) (λ y. labelled-length on m q y) x in
       let b = sigma-length in
       omega (arith, u, v, w, a, b)

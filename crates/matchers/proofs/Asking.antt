@@ -87,7 +87,7 @@ past item (u ∷ us) zero h = absurd (omega arith)
 past item (u ∷ us) (suc k) h = past item us k (omega arith)
 
 -- a cursor that has these matches to give, and holds places, gives them
-gives : (κs : Lfts 1) (w : RefT (List ℕ)) (s : ℕ) (q : LookUp) (item : Match → Item) (ms : List Match) (c : Cursor) → itemsLeft (now w) c ≡ map item ms → Apart SameEdge ms → Holds (now w) s q c
+pub gives : (κs : Lfts 1) (w : RefT (List ℕ)) (s : ℕ) (q : LookUp) (item : Match → Item) (ms : List Match) (c : Cursor) → itemsLeft (now w) c ≡ map item ms → Apart SameEdge ms → Holds (now w) s q c
     → Gives (NextReply κs w) (now w) s q item ms c
 gives κs w s q item ms c e d h = record { inOrder = λ k r a u i. at k r a ∙ at-map item ms k i; thenNone = λ k r a i. at k r a ∙ past item ms k i; once = apart-once edgeOf ms d; begins = h; holds = held }
   where

@@ -31,21 +31,21 @@ use Rattle.matchers.specs.declared.sigma_matcher.SigmaIter.{SigmaIter}
 use Rattle.matchers.specs.declared.sigma_matcher.SigmaIter.the-variants.{At as From, Refused}
 use Rattle.matchers.proofs.Asking.{SortedReply, SigmaReply, NextReply, sorted-asked-on, sigma-asked-on}
 
-abbrev words : List ℕ
+abbrev pub words : List ℕ
 words = 1 ∷ 3 ∷ 1 ∷ 1 ∷ 0 ∷ 0 ∷ 1 ∷ 0 ∷ 0 ∷ 0 ∷ 6 ∷ 1 ∷ 0 ∷ 2 ∷ 4 ∷ 6 ∷ 2 ∷ 0 ∷ 3 ∷ 9 ∷ 9 ∷ 3 ∷ 0 ∷ 0 ∷ []
 
 -- a transition of the state, which leads back to it
-abbrev tr : ℕ → ℕ → ℕ → IterItemMatcher
+abbrev pub tr : ℕ → ℕ → ℕ → IterItemMatcher
 tr i o w = Tr (record { ilabel = record { 0 = i }; olabel = record { 0 = o }; weight = w; nextstate = record { 0 = 0 } })
 
 abbrev item : ℕ → ℕ → ℕ → Item
 item i o w = whole (record { input = i; output = o; weight = w; target = 0 })
 
 -- The sigma look-up of 4, with the sigma label 9, rewritten on the matched side alone: 4:6, then sigma's 9:9 as 4:9, then the end.
-abbrev sigma : Sigma
+abbrev pub sigma : Sigma
 sigma = record { label = record { 0 = 9 }; mode = 2; listed = false }
 
-abbrev four : Phase → ℕ → Cursor
+abbrev pub four : Phase → ℕ → Cursor
 four phase t = record { on = MatchInput; label = record { 0 = 4 }; sigma = record { 0 = 9 }; both = false; phase = phase; loops = false; tr = t; sigmas = 1 }
 
 abbrev ownFour : Step

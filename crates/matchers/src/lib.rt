@@ -58,7 +58,7 @@ pub enum Step {
 }
 
 // The label that the transitions must have: NO_LABEL asks for the epsilon transitions.
-fn looked(label: Label) -> Label
+pub fn looked(label: Label) -> Label
     ensures { λ r. ⌜ r .0 ≡ lookedFor (label .0) ⌝ }
 {
     if label.0 == NO_LABEL.0 {

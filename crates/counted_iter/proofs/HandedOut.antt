@@ -1,0 +1,122 @@
+-- 02, 2.6: the number that a look-up states is that of the definition's matches, and that of the matches which it then hands out, the first with its answer and the others by asking on (2.5). The premises are the
+-- contracts of the public functions as the toolchain reads them off the code.
+use mathlib.Core.Path.{_≡_, refl, sym, ap, subst, _∙_}
+use mathlib.Core.Bool.{Bool, cond}
+use mathlib.Core.List.{List, [], _∷_, map}
+use mathlib.Core.Option.{none, some, Option·none-ne-some, Option·some-injective}
+use Prim.Native.Nat.{ℕ, suc, _≤_, _<_}
+use contract.Lifetimes.{Lfts}
+use denote.Ref.{RefT, now}
+use lib.ListN.{length}
+use Rattle.lists.specs.Asking.{AskedOn}
+use Rattle.lists.proofs.Apart.{Apart}
+use Rattle.lists.proofs.Places.{at-place}
+use Rattle.words.specs.Labels.{Checked, good, refused, andThen}
+use Rattle.words.specs.Matches.{Match}
+use Rattle.words.specs.Machines.{acceptorMark, firstOf, machineOf}
+use Rattle.words.specs.Sigmas.{Operand, rewritesBoth, lookup, rewrite}
+use Rattle.words.specs.Settings.{operandOf}
+use Rattle.words.proofs.CheckedLaws.{good-is, refused-is, good≢refused}
+use Rattle.words.proofs.ListLaws.{list-distinct}
+use Rattle.words.proofs.PapersLookup.{SameEdge, found-apart}
+use Rattle.fst.specs.Meaning.{onOf}
+use Rattle.fst.specs.declared.Label.{Label}
+use Rattle.fst.specs.declared.MatchType.{MatchType}
+use Rattle.fst.specs.declared.StateId.{StateId}
+use Rattle.fan_outs.specs.FanOut.{fanOut}
+use Rattle.matchers.specs.Meaning.{Item, matchMeans, itemOf, lookupItems, allowedOf, standsFor}
+use Rattle.matchers.specs.Cursors.{itemsLeft, Asked, asked, givenBy, cursorAfter, firstCursor}
+use Rattle.matchers.specs.Asking.{LookUp, sigmaLookUp, Holds, onward, Gives}
+use Rattle.matchers.specs.declared.IterItemMatcher.{IterItemMatcher}
+use Rattle.matchers.specs.declared.Cursor.{Cursor}
+use Rattle.matchers.specs.declared.Step.{Step}
+use Rattle.matchers.specs.declared.sigma_matcher.Sigma.{Sigma}
+use Rattle.matchers.proofs.Asking.{NextReply, gives}
+use Rattle.matchers.proofs.Held.{after-holds, first-holds, place-from}
+use Rattle.counted_iter.specs.Counted.{countMeans, firstMeans, GoesOnAt}
+use Rattle.counted_iter.specs.HandedOut.{HandsOut, HandedOut, CountsOrRefuses}
+use Rattle.counted_iter.specs.declared.CountedIter.{CountedIter}
+use Rattle.counted_iter.specs.declared.CountedIter.the-variants.{First, Empty, Refused}
+use Rattle.counted_iter.proofs.counted_iter.Reads as counted-iter
+
+-- i is a reply that the contract of `counted_iter` allows, asked with the lent words w, the side, the settings of sigma, the lent allowed list, the state and the label
+abbrev pub CountedReply : Lfts 2 → (w allowed : RefT (List ℕ)) → MatchType → Sigma → StateId → Label → CountedIter → Type 0
+CountedReply κs w allowed on sigma s x i = counted-iter.Learnt κs (w, (on, (sigma, (allowed, (s, (x, tt)))))) i (w, (on, (sigma, (allowed, (s, (x, tt))))))
+
+-- what gives these matches hands out as many
+hands : (Answers : Cursor → Step → Type 0) (m : List ℕ) (s : ℕ) (q : LookUp) (item : Match → Item) (us : List Match) (c : Cursor) → Gives Answers m s q item us c → HandsOut Answers c (length us)
+hands Answers m s q item us c g = record { gives = λ k r a h. let u = at-place us k h in (item (u .0), g .inOrder k r a (u .0) (u .1)); ends = g .thenNone }
+
+-- On any words, with any settings of sigma and any allowed list, at any state, of any label.
+pub count-is-handed-out : (κs : Lfts 2) (κt : Lfts 1) (w allowed : RefT (List ℕ)) (on : MatchType) (sigma : Sigma) (s : StateId) (x : Label) (i : CountedIter)
+    → CountedReply κs w allowed on sigma s x i
+    →
+    let o = operandOf (onOf on) (now w) (sigma .label .0) (sigma .mode) (allowedOf (sigma .listed) (now allowed)) in
+    CountsOrRefuses (NextReply κt w) (now w) (s .0) (sigmaLookUp o (x .0)) (itemOf (o .machine) (rewrite (o .sigma .rewriteBoth) (o .on) (o .sigma .label) (x .0))) (lookup o (s .0) (x .0)) i
+unfolding fanOut lookupItems
+count-is-handed-out κs κt w allowed on sigma s x i (count, (first, place)) =
+    record {
+      refuses = λ n e. refused-at i n (rw e at count);
+      empty = λ e. none-at i (rw e at first) (apart [] e) place;
+      first = λ u us e. first-at i u us (rw e at count) (rw e at first) (apart (u ∷ us) e) place;
+      handedOut = λ n e. by-found (lookup operand (s .0) (x .0)) refl i n e count first place;
+    }
+  where
+    m : List ℕ
+    m = now w
+
+    both : Bool
+    both = rewritesBoth (sigma .mode) (acceptorMark m)
+
+    stands : Bool
+    stands = standsFor (sigma .label .0) (allowedOf (sigma .listed) (now allowed)) (x .0)
+
+    begin : Cursor
+    begin = firstCursor m on s x (sigma .label) both (cond stands (firstOf m (s .0)) 0)
+
+    asks : LookUp
+    asks = record { on = onOf on; label = x .0; sigma = sigma .label .0; both = both }
+
+    item : Match → Item
+    item = itemOf (machineOf m) (rewrite both (onOf on) (sigma .label .0) (x .0))
+
+    operand : Operand
+    operand = operandOf (onOf on) m (sigma .label .0) (sigma .mode) (allowedOf (sigma .listed) (now allowed))
+
+    apart : (l : List Match) → lookup operand (s .0) (x .0) ≡ good l → Apart SameEdge l
+    apart l e = found-apart operand (s .0) (x .0) l (list-distinct m (s .0)) e
+
+    held : (c : Cursor) → c ≡ cursorAfter m begin → Holds m (s .0) asks c
+    held c e = subst (Holds m (s .0) asks) (sym e) (after-holds m (s .0) asks begin (first-holds m on s x (sigma .label) both _ begin refl (place-from m (s .0) stands)))
+
+    refused-at : (j : CountedIter) (n : ℕ) → countMeans j ≡ refused n → j ≡ Refused n
+    refused-at (First k v c) n e = absurd (good≢refused e)
+    refused-at (Empty c) n e = absurd (good≢refused e)
+    refused-at (Refused k) n e = ap Refused (refused-is e)
+
+    none-at : (j : CountedIter) → firstMeans m j ≡ good (asked []) → Apart SameEdge [] → GoesOnAt j (cursorAfter m begin) → (c : Cursor) × (j ≡ Empty c) × Gives (NextReply κt w) m (s .0) asks item [] c
+    none-at (First k v c) e d p = absurd (Option·none-ne-some _ (sym (ap (λ (y : Asked). y .given) (good-is e))))
+    none-at (Empty c) e d p = (c, refl, gives κt w (s .0) asks item [] c (ap (λ (y : Asked). y .left) (good-is e)) d (held c p))
+    none-at (Refused k) e d p = absurd (good≢refused (sym e))
+
+    first-at : (j : CountedIter) (u : Match) (us : List Match) → countMeans j ≡ good (length (u ∷ us)) → firstMeans m j ≡ good (asked (map item (u ∷ us))) → Apart SameEdge (u ∷ us) → GoesOnAt j (cursorAfter m begin)
+        → (v : IterItemMatcher) × (c : Cursor) × (j ≡ First (length (u ∷ us)) v c) × (matchMeans v ≡ item u) × Gives (NextReply κt w) m (s .0) asks item us c
+    first-at (First k v c) u us n e d p =
+        let h = good-is e in
+        (v, c, ap (λ (z : ℕ). First z v c) (good-is n), Option·some-injective _ _ (ap (λ (y : Asked). y .given) h), gives κt w (s .0) asks item us c (ap (λ (y : Asked). y .left) h) (d .1) (held c p))
+    first-at (Empty c) u us n e d p = absurd (Option·none-ne-some _ (ap (λ (y : Asked). y .given) (good-is e)))
+    first-at (Refused k) u us n e d p = absurd (good≢refused (sym e))
+
+    handed : (j : CountedIter) (n : ℕ) (l : List Match) → lookup operand (s .0) (x .0) ≡ good l → n ≡ length l → firstMeans m j ≡ good (asked (map item l)) → countMeans j ≡ good (length l)
+        → GoesOnAt j (cursorAfter m begin) → HandedOut (NextReply κt w) j n
+    handed j n [] f z e a p =
+        let r = none-at j e (apart [] f) p in
+        subst (λ (y : CountedIter). HandedOut (NextReply κt w) y n) (sym (r .1)) (z, hands _ m (s .0) asks item [] (r .0) (r .2))
+    handed j n (u ∷ us) f z e a p =
+        let r = first-at j u us a e (apart (u ∷ us) f) p in
+        subst (λ (y : CountedIter). HandedOut (NextReply κt w) y n) (sym (r .2)) (length us, z, hands _ m (s .0) asks item us (r .1) (r .4))
+
+    by-found : (f : Checked (List Match)) → lookup operand (s .0) (x .0) ≡ f → (j : CountedIter) (n : ℕ) → countMeans j ≡ good n → countMeans j ≡ andThen (lookup operand (s .0) (x .0)) (λ ms. good (length ms))
+        → firstMeans m j ≡ andThen (andThen (lookup operand (s .0) (x .0)) (λ ms. good (map item ms))) (λ items. good (asked items)) → GoesOnAt j (cursorAfter m begin) → HandedOut (NextReply κt w) j n
+    by-found (refused k) f j n z a e p = absurd (good≢refused (sym z ∙ rw f at a))
+    by-found (good l) f j n z a e p = handed j n l f (good-is (sym z ∙ rw f at a)) (rw f at e) (rw f at a) p

@@ -1,0 +1,3 @@
+pub mod Counts
+pub mod HandedOut
+pub mod CountedCase
