@@ -8,13 +8,17 @@ use native.Mathlib.Omega.{arith}
 use lib.Dec.{eqb}
 use lib.ListN.{length, length-append, length-map}
 use Rattle.lists.specs.Lists.{putIf, keepIf}
-use Rattle.words.specs.Labels.{epsLabel, noLabel, Checked, good}
-use Rattle.words.specs.Machines.{trCount, firstOf, listOf, machineOf}
+use Rattle.words.specs.Labels.{MAX, epsLabel, noLabel, Checked, good}
+use Rattle.words.specs.Machines.{limit, trCount, firstOf, listOf, machineOf}
 use Rattle.words.specs.Matches.{MatchType, labelOn, viaSigma, labelled, sortedMatches}
 use Rattle.words.specs.Sigmas.{Operand, isAllowed, isSet, isSigma, sigmaTrs, sigmaMatches, lookup}
-use Rattle.words.specs.Settings.{operandOf}
+use Rattle.words.specs.Sides.{Side}
+use Rattle.words.specs.Settings.{Settings, Lent, operandOf}
 use Rattle.words.proofs.CheckedLaws.{good-is, past-check, past-then}
+use Rattle.words.proofs.FormLaws.{form}
 use Rattle.words.proofs.ListLaws.{list-length}
+use Rattle.calls.specs.Checks.{sideFor}
+use Rattle.calls.proofs.ExpandKept.{sided}
 use Rattle.compose_bounds.proofs.Lookups.{sorted-few}
 use Rattle.fan_outs.specs.FanOut.{fanOut}
 
@@ -55,3 +59,11 @@ module _ (on : MatchType) (m : List ℕ) (sigma mode : ℕ) (allowed : Option (L
       let a = sorted-few o q (trCount m) (λ y. labelled-length on m q y) x in
       let b = sigma-length in
       omega (arith, u, v, w, a, b)
+
+  -- a count of a machine within the limit is a word
+  pub fan-out-word : trCount m ≤ limit → (n : ℕ) → fanOut o q x ≡ good n → n ≤ MAX
+  fan-out-word h n e = omega (arith, h, fan-out-bound n e)
+
+-- the checks 1 to 7 leave machines within the limit
+pub within-limit : (s : Settings) (l : Lent) (side : Side) → sideFor s l ≡ good side → (trCount (l .m1) ≤ limit) × (trCount (l .m2) ≤ limit)
+within-limit s l side e = let h = sided s l side e in (form (l .m1) (h .formed1) .trs, form (l .m2) (h .formed2) .trs)
