@@ -1,3 +1,4 @@
 pub mod Exported
 pub mod Trusted
 pub mod Caller
+pub mod FanOutWords

@@ -1,6 +1,7 @@
-// The five calls for C and Rust: `include/rinkolza.h` says what each word and number means. None of this file has a precondition; those of `trusted`, for a caller that owns its
-// memory, ask that the checks 1 to 8 pass.
+// The five calls for C and Rust, and in `fan_out` the look-up of 02, 2.6: `include/rinkolza.h` says what each word and number means. None of these has a precondition; those of `trusted`, for a caller
+// that owns its memory, ask that the checks 1 to 8 pass.
 mod answers;
+mod fan_out;
 mod slices;
 mod trusted;
 
