@@ -3,3 +3,4 @@ pub mod Reading
 pub mod Printing
 pub mod Chunks
 pub mod Ended
+pub mod FanOutText

@@ -1,4 +1,4 @@
-// The lines of the listing, put into a buffer from a place on. Each function answers the place after what it put; the caller has checked that there is room.
+// The lines of the listing, and a number alone, put into a buffer from a place on. Each function answers the place after what it put; the caller has checked that there is room.
 mod text;
 
 ghost use Prim.Native.Nat.{_+_, _≤_};
@@ -6,7 +6,9 @@ ghost use mathlib.Core.List.{_∷_};
 ghost use lib.ListN.{length};
 ghost use Rattle.calls.specs.Listing.{sideLine, stateLine, trLine, endLine, refusedLine};
 ghost use Rattle.listing_text.specs.Printing.{lineBytes, finalWord};
+ghost use Rattle.listing_text.specs.FanOutText.{countBytes};
 ghost use Rattle.listing_write.specs.Written.{Written, finalOf};
+use text::put_number;
 use text::put_text;
 use text::put_word;
 use text::put_words;
@@ -91,4 +93,14 @@ pub fn put_refused(out: &mut [u8], to: usize, n: u32) -> usize
     let a = put_text(out, to, b"refused");
     let b = put_word(out, a, n);
     put_text(out, b, b"\n")
+}
+
+// A number alone.
+pub fn put_count(out: &mut [u8], to: usize, n: u32) -> usize
+    requires { ⌜ to + 64 ≤ length (now out) ⌝ }
+    ensures { λ r. ⌜ Written (now (out .entry)) to (countBytes n) (now (out .exit)) r ⌝ }
+    ensures near { λ r. ⌜ r ≤ to + 64 ⌝ }
+{
+    let a = put_number(out, to, n);
+    put_text(out, a, b"\n")
 }

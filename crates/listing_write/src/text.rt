@@ -20,7 +20,7 @@ pub fn put_text(out: &mut [u8], to: usize, text: &[u8]) -> usize
 }
 
 // n in decimal: no 32-bit number has more than ten digits.
-fn put_number(out: &mut [u8], to: usize, n: u32) -> usize
+pub fn put_number(out: &mut [u8], to: usize, n: u32) -> usize
     requires { ⌜ to + 10 ≤ length (now out) ⌝ }
     ensures { λ r. ⌜ Written (now (out .entry)) to (decimal n) (now (out .exit)) r ⌝ }
     ensures near { λ r. ⌜ r ≤ to + 10 ⌝ }
