@@ -7,8 +7,8 @@ ghost use Rattle.io.specs.Counts.{Counts};
 ghost use Rattle.calls.specs.Listing.{listingOn};
 ghost use Rattle.listing_text.specs.Printing.{bytesOf};
 ghost use Rattle.listing_text.specs.Ended.{endedBytes};
-ghost use Rattle.listing_read.specs.Meaning.{readInput, roomsOf};
-ghost use Rattle.listing_read.specs.Held.{held, heldEnded};
+ghost use Rattle.listing_read.specs.Meaning.{leftWords};
+ghost use Rattle.listing_read.specs.Held.{endedWords};
 ghost use Rattle.listing_write.specs.Written.{Written};
 ghost use Rattle.lazy_fst.specs.Meaning.{lentWith};
 use fst::REFUSED_SETTINGS;
@@ -78,14 +78,16 @@ pub fn answer(
     out: &mut [u8; 131200],
 ) -> usize
     ensures { λ n. ⌜ (
-        let rooms = roomsOf (now (settings .entry)) (now (first .entry)) (now (second .entry)) in
-        let input = readInput r (now (settings .entry)) (now (first .entry)) (now (second .entry)) in
-        Written (now (out .entry)) 0 (endedBytes rooms input) (now (out .exit)) n
+        let words = leftWords (now (settings .entry)) (r .settings) in
+        let m1 = leftWords (now (first .entry)) (r .first) in
+        let m2 = leftWords (now (second .entry)) (r .second) in
+        Written (now (out .entry)) 0 (endedBytes words m1 m2) (now (out .exit)) n
         ) ⌝ }
     ensures counts { λ n. ⌜ Counts n (now (out .exit)) ⌝ }
     ensures stored { λ n. ⌜ (
-        let words = held r (now (settings .entry)) (now (first .entry)) (now (second .entry)) in
-        held r (now (settings .exit)) (now (first .exit)) (now (second .exit)) ≡ heldEnded words
+        (now (settings .exit) ≡ endedWords (r .settings) (now (settings .entry)))
+        × (now (first .exit) ≡ endedWords (r .first) (now (first .entry)))
+        × (now (second .exit) ≡ endedWords (r .second) (now (second .entry)))
         ) ⌝ }
 {
     let s = r.settings;

@@ -74,42 +74,49 @@ module _ (ws : List ℕ) (l : LineReader) where
   pub stepped-digit : (b : ℕ) → l .bad ≡ false → isBlank b ≡ false → isDigit b ≡ true → l .value * 10 + (b - 48) ≤ MAX → Stepped b (lineOf (l .count) (l .value * 10 + (b - 48)) true) ws
   stepped-digit b g e d h = (stepped-by b g e d (le-leb (l .value * 10 + (b - 48)) MAX h), stays b e)
 
-module _ (r : Reader) (s f g : List ℕ) (b : ℕ) where
+module _ (r : Reader) (s f g q : List ℕ) (b : ℕ) where
   abbrev H : Held
-  H = held r s f g
+  H = held r s f g q
 
-  abbrev byteBy : Bool → Bool → Bool → Bool → Held
-  byteBy x y z w =
+  abbrev byteBy : Bool → Bool → Bool → Bool → Bool → Held
+  byteBy x y z w v =
       cond x
-      (cond y (held (readerOf (r .at + 1) (r .settings) (r .first) (r .second)) s f g)
-      (cond z (held (readerOf (r .at) (steppedLine (length s) (r .settings) b) (r .first) (r .second)) (steppedWords (r .settings) s b) f g)
-      (cond w (held (readerOf (r .at) (r .settings) (steppedLine (length f) (r .first) b) (r .second)) s (steppedWords (r .first) f b) g)
-      (held (readerOf (r .at) (r .settings) (r .first) (steppedLine (length g) (r .second) b)) s f (steppedWords (r .second) g b)))))
+      (cond y (held (readerOf (r .at + 1) (r .settings) (r .first) (r .second) (r .query)) s f g q)
+      (cond z (held (readerOf (r .at) (steppedLine (length s) (r .settings) b) (r .first) (r .second) (r .query)) (steppedWords (r .settings) s b) f g q)
+      (cond w (held (readerOf (r .at) (r .settings) (steppedLine (length f) (r .first) b) (r .second) (r .query)) s (steppedWords (r .first) f b) g q)
+      (cond v (held (readerOf (r .at) (r .settings) (r .first) (steppedLine (length g) (r .second) b) (r .query)) s f (steppedWords (r .second) g b) q)
+      (held (readerOf (r .at) (r .settings) (r .first) (r .second) (steppedLine (length q) (r .query) b)) s f g (steppedWords (r .query) q b))))))
       H
 
-  byte-by : {x y z w : Bool} → ltb (r .at) 3 ≡ x → eqb b lineFeed ≡ y → eqb (r .at) 0 ≡ z → eqb (r .at) 1 ≡ w → byteBy x y z w ≡ heldByte H b
+  byte-by : {x y z w v : Bool} → ltb (r .at) 4 ≡ x → eqb b lineFeed ≡ y → eqb (r .at) 0 ≡ z → eqb (r .at) 1 ≡ w → eqb (r .at) 2 ≡ v → byteBy x y z w v ≡ heldByte H b
   unfolding heldByte
-  byte-by x y z w = λ k. byteBy (sym x k) (sym y k) (sym z k) (sym w k)
+  byte-by x y z w v = λ k. byteBy (sym x k) (sym y k) (sym z k) (sym w k) (sym v k)
 
-  pub held-third : 2 < r .at → H ≡ heldByte H b
-  held-third h = byte-by (le-ltb (r .at) 3 (omega arith)) refl refl refl
+  pub held-fourth : 3 < r .at → H ≡ heldByte H b
+  held-fourth h = byte-by (le-ltb (r .at) 4 (omega arith)) refl refl refl refl
 
-  pub held-feed : r .at ≤ 2 → b ≡ 10 → held (readerOf (r .at + 1) (r .settings) (r .first) (r .second)) s f g ≡ heldByte H b
-  held-feed h e = byte-by (lt-ltb (r .at) 3 (omega arith)) (eq-eqb b 10 e) refl refl
+  pub held-feed : r .at ≤ 3 → b ≡ 10 → held (readerOf (r .at + 1) (r .settings) (r .first) (r .second) (r .query)) s f g q ≡ heldByte H b
+  held-feed h e = byte-by (lt-ltb (r .at) 4 (omega arith)) (eq-eqb b 10 e) refl refl refl
 
-  pub held-settings : (l : LineReader) (out : List ℕ) → r .at ≤ 2 → (b ≡ 10 → ⊥) → r .at ≡ 0 → Stepped s (r .settings) b l out → held (readerOf (r .at) l (r .first) (r .second)) out f g ≡ heldByte H b
+  pub held-settings : (l : LineReader) (out : List ℕ) → r .at ≤ 3 → (b ≡ 10 → ⊥) → r .at ≡ 0 → Stepped s (r .settings) b l out
+      → held (readerOf (r .at) l (r .first) (r .second) (r .query)) out f g q ≡ heldByte H b
   held-settings l out h n z p =
-      (λ k. held (readerOf (r .at) (p .0 k) (r .first) (r .second)) (p .1 k) f g) ∙ byte-by (lt-ltb (r .at) 3 (omega arith)) (ne-eqb b 10 n) (eq-eqb (r .at) 0 z) refl
+      (λ k. held (readerOf (r .at) (p .0 k) (r .first) (r .second) (r .query)) (p .1 k) f g q) ∙ byte-by (lt-ltb (r .at) 4 (omega arith)) (ne-eqb b 10 n) (eq-eqb (r .at) 0 z) refl refl
 
-  pub held-first : (l : LineReader) (out : List ℕ) → r .at ≤ 2 → (b ≡ 10 → ⊥) → (r .at ≡ 0 → ⊥) → r .at ≡ 1 → Stepped f (r .first) b l out
-      → held (readerOf (r .at) (r .settings) l (r .second)) s out g ≡ heldByte H b
+  pub held-first : (l : LineReader) (out : List ℕ) → r .at ≤ 3 → (b ≡ 10 → ⊥) → (r .at ≡ 0 → ⊥) → r .at ≡ 1 → Stepped f (r .first) b l out
+      → held (readerOf (r .at) (r .settings) l (r .second) (r .query)) s out g q ≡ heldByte H b
   held-first l out h n z w p =
-      (λ k. held (readerOf (r .at) (r .settings) (p .0 k) (r .second)) s (p .1 k) g) ∙ byte-by (lt-ltb (r .at) 3 (omega arith)) (ne-eqb b 10 n) (ne-eqb (r .at) 0 z) (eq-eqb (r .at) 1 w)
+      (λ k. held (readerOf (r .at) (r .settings) (p .0 k) (r .second) (r .query)) s (p .1 k) g q) ∙ byte-by (lt-ltb (r .at) 4 (omega arith)) (ne-eqb b 10 n) (ne-eqb (r .at) 0 z) (eq-eqb (r .at) 1 w) refl
 
-  pub held-second : (l : LineReader) (out : List ℕ) → r .at ≤ 2 → (b ≡ 10 → ⊥) → (r .at ≡ 0 → ⊥) → (r .at ≡ 1 → ⊥) → Stepped g (r .second) b l out
-      → held (readerOf (r .at) (r .settings) (r .first) l) s f out ≡ heldByte H b
-  held-second l out h n z w p =
-      (λ k. held (readerOf (r .at) (r .settings) (r .first) (p .0 k)) s f (p .1 k)) ∙ byte-by (lt-ltb (r .at) 3 (omega arith)) (ne-eqb b 10 n) (ne-eqb (r .at) 0 z) (ne-eqb (r .at) 1 w)
+  pub held-second : (l : LineReader) (out : List ℕ) → r .at ≤ 3 → (b ≡ 10 → ⊥) → (r .at ≡ 0 → ⊥) → (r .at ≡ 1 → ⊥) → r .at ≡ 2 → Stepped g (r .second) b l out
+      → held (readerOf (r .at) (r .settings) (r .first) l (r .query)) s f out q ≡ heldByte H b
+  held-second l out h n z w v p =
+      (λ k. held (readerOf (r .at) (r .settings) (r .first) (p .0 k) (r .query)) s f (p .1 k) q) ∙ byte-by (lt-ltb (r .at) 4 (omega arith)) (ne-eqb b 10 n) (ne-eqb (r .at) 0 z) (ne-eqb (r .at) 1 w) (eq-eqb (r .at) 2 v)
+
+  pub held-query : (l : LineReader) (out : List ℕ) → r .at ≤ 3 → (b ≡ 10 → ⊥) → (r .at ≡ 0 → ⊥) → (r .at ≡ 1 → ⊥) → (r .at ≡ 2 → ⊥) → Stepped q (r .query) b l out
+      → held (readerOf (r .at) (r .settings) (r .first) (r .second) l) s f g out ≡ heldByte H b
+  held-query l out h n z w v p =
+      (λ k. held (readerOf (r .at) (r .settings) (r .first) (r .second) (p .0 k)) s f g (p .1 k)) ∙ byte-by (lt-ltb (r .at) 4 (omega arith)) (ne-eqb b 10 n) (ne-eqb (r .at) 0 z) (ne-eqb (r .at) 1 w) (ne-eqb (r .at) 2 v)
 
 -- a byte more after others
 after-byte : (h : Held) (xs : List ℕ) (b : ℕ) → heldBytes h (xs ++ (b ∷ [])) ≡ heldByte (heldBytes h xs) b

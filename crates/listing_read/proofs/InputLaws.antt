@@ -17,61 +17,76 @@ use Rattle.listing_read.specs.declared.line.LineReader.{LineReader}
 use Rattle.listing_read.specs.declared.Reader.{Reader}
 use Rattle.listing_read.proofs.ScanLaws.{scan-within}
 
-module _ (r : Reader) (s f g : List ℕ) where
+module _ (r : Reader) (s f g q : List ℕ) where
   abbrev I : Input
-  I = readInput r s f g
+  I = readInput r s f g q
 
   abbrev W : Rooms
-  W = roomsOf s f g
+  W = roomsOf s f g q
+
+  S : scanOf s (r .settings) ≡ within (length s) (scanOf s (r .settings))
+  S = scan-within s (r .settings)
+
+  F : scanOf f (r .first) ≡ within (length f) (scanOf f (r .first))
+  F = scan-within f (r .first)
+
+  G : scanOf g (r .second) ≡ within (length g) (scanOf g (r .second))
+  G = scan-within g (r .second)
+
+  Q : scanOf q (r .query) ≡ within (length q) (scanOf q (r .query))
+  Q = scan-within q (r .query)
 
   -- an input whose lines are within their slices is within them
   pub input-within : I ≡ inRooms W I
-  input-within = λ k. made (r .at) (scan-within s (r .settings) k) (scan-within f (r .first) k) (scan-within g (r .second) k)
+  input-within = λ k. made (r .at) (S k) (F k) (G k) (Q k)
 
   -- `readByte` by its tests
-  abbrev by : ℕ → Bool → Bool → Bool → Bool → Input
-  by b x y z w =
+  abbrev by : ℕ → Bool → Bool → Bool → Bool → Bool → Input
+  by b x y z w v =
       inRooms W
       (cond x
       (cond y (nextLine I)
-      (cond z (made (r .at) (step (I .settings) b) (I .first) (I .second))
-      (cond w (made (r .at) (I .settings) (step (I .first) b) (I .second)) (made (r .at) (I .settings) (I .first) (step (I .second) b)))))
+      (cond z (made (r .at) (step (I .settings) b) (I .first) (I .second) (I .query))
+      (cond w (made (r .at) (I .settings) (step (I .first) b) (I .second) (I .query))
+      (cond v (made (r .at) (I .settings) (I .first) (step (I .second) b) (I .query)) (made (r .at) (I .settings) (I .first) (I .second) (step (I .query) b))))))
       I)
 
-  by-tests : (b : ℕ) {x y z w : Bool} → ltb (r .at) 3 ≡ x → eqb b lineFeed ≡ y → eqb (r .at) 0 ≡ z → eqb (r .at) 1 ≡ w → by b x y z w ≡ inRooms W (readByte I b)
+  by-tests : (b : ℕ) {x y z w v : Bool} → ltb (r .at) 4 ≡ x → eqb b lineFeed ≡ y → eqb (r .at) 0 ≡ z → eqb (r .at) 1 ≡ w → eqb (r .at) 2 ≡ v → by b x y z w v ≡ inRooms W (readByte I b)
   unfolding readByte
-  by-tests b x y z w = λ k. by b (sym x k) (sym y k) (sym z k) (sym w k)
+  by-tests b x y z w v = λ k. by b (sym x k) (sym y k) (sym z k) (sym w k) (sym v k)
 
-  pub after-third : (b : ℕ) → 2 < r .at → I ≡ inRooms W (readByte I b)
-  after-third b h = input-within ∙ by-tests b (le-ltb (r .at) 3 (omega arith)) refl refl refl
+  pub after-fourth : (b : ℕ) → 3 < r .at → I ≡ inRooms W (readByte I b)
+  after-fourth b h = input-within ∙ by-tests b (le-ltb (r .at) 4 (omega arith)) refl refl refl refl
 
-  pub line-feed : (b : ℕ) → r .at ≤ 2 → b ≡ 10 → readInput (readerOf (r .at + 1) (r .settings) (r .first) (r .second)) s f g ≡ inRooms W (readByte I b)
-  line-feed b h e = ap nextLine input-within ∙ by-tests b (lt-ltb (r .at) 3 (omega arith)) (eq-eqb b 10 e) refl refl
+  pub line-feed : (b : ℕ) → r .at ≤ 3 → b ≡ 10 → readInput (readerOf (r .at + 1) (r .settings) (r .first) (r .second) (r .query)) s f g q ≡ inRooms W (readByte I b)
+  line-feed b h e = ap nextLine input-within ∙ by-tests b (lt-ltb (r .at) 4 (omega arith)) (eq-eqb b 10 e) refl refl refl
 
-  pub in-settings : (b : ℕ) (l : LineReader) (s′ : List ℕ) → r .at ≤ 2 → (b ≡ 10 → ⊥) → r .at ≡ 0 → scanOf s′ l ≡ within (length s) (step (scanOf s (r .settings)) b)
-      → readInput (readerOf (r .at) l (r .first) (r .second)) s′ f g ≡ inRooms W (readByte I b)
+  pub in-settings : (b : ℕ) (l : LineReader) (s′ : List ℕ) → r .at ≤ 3 → (b ≡ 10 → ⊥) → r .at ≡ 0 → scanOf s′ l ≡ within (length s) (step (scanOf s (r .settings)) b)
+      → readInput (readerOf (r .at) l (r .first) (r .second) (r .query)) s′ f g q ≡ inRooms W (readByte I b)
   in-settings b l s′ h n z e =
-      (λ k. made (r .at) (e k) (scan-within f (r .first) k) (scan-within g (r .second) k))
-      ∙ by-tests b (lt-ltb (r .at) 3 (omega arith)) (ne-eqb b 10 n) (eq-eqb (r .at) 0 z) refl
+      (λ k. made (r .at) (e k) (F k) (G k) (Q k)) ∙ by-tests b (lt-ltb (r .at) 4 (omega arith)) (ne-eqb b 10 n) (eq-eqb (r .at) 0 z) refl refl
 
-  pub in-first : (b : ℕ) (l : LineReader) (f′ : List ℕ) → r .at ≤ 2 → (b ≡ 10 → ⊥) → (r .at ≡ 0 → ⊥) → r .at ≡ 1 → scanOf f′ l ≡ within (length f) (step (scanOf f (r .first)) b)
-      → readInput (readerOf (r .at) (r .settings) l (r .second)) s f′ g ≡ inRooms W (readByte I b)
+  pub in-first : (b : ℕ) (l : LineReader) (f′ : List ℕ) → r .at ≤ 3 → (b ≡ 10 → ⊥) → (r .at ≡ 0 → ⊥) → r .at ≡ 1 → scanOf f′ l ≡ within (length f) (step (scanOf f (r .first)) b)
+      → readInput (readerOf (r .at) (r .settings) l (r .second) (r .query)) s f′ g q ≡ inRooms W (readByte I b)
   in-first b l f′ h n z w e =
-      (λ k. made (r .at) (scan-within s (r .settings) k) (e k) (scan-within g (r .second) k))
-      ∙ by-tests b (lt-ltb (r .at) 3 (omega arith)) (ne-eqb b 10 n) (ne-eqb (r .at) 0 z) (eq-eqb (r .at) 1 w)
+      (λ k. made (r .at) (S k) (e k) (G k) (Q k)) ∙ by-tests b (lt-ltb (r .at) 4 (omega arith)) (ne-eqb b 10 n) (ne-eqb (r .at) 0 z) (eq-eqb (r .at) 1 w) refl
 
-  pub in-second : (b : ℕ) (l : LineReader) (g′ : List ℕ) → r .at ≤ 2 → (b ≡ 10 → ⊥) → (r .at ≡ 0 → ⊥) → (r .at ≡ 1 → ⊥) → scanOf g′ l ≡ within (length g) (step (scanOf g (r .second)) b)
-      → readInput (readerOf (r .at) (r .settings) (r .first) l) s f g′ ≡ inRooms W (readByte I b)
-  in-second b l g′ h n z w e =
-      (λ k. made (r .at) (scan-within s (r .settings) k) (scan-within f (r .first) k) (e k))
-      ∙ by-tests b (lt-ltb (r .at) 3 (omega arith)) (ne-eqb b 10 n) (ne-eqb (r .at) 0 z) (ne-eqb (r .at) 1 w)
+  pub in-second : (b : ℕ) (l : LineReader) (g′ : List ℕ) → r .at ≤ 3 → (b ≡ 10 → ⊥) → (r .at ≡ 0 → ⊥) → (r .at ≡ 1 → ⊥) → r .at ≡ 2 → scanOf g′ l ≡ within (length g) (step (scanOf g (r .second)) b)
+      → readInput (readerOf (r .at) (r .settings) (r .first) l (r .query)) s f g′ q ≡ inRooms W (readByte I b)
+  in-second b l g′ h n z w v e =
+      (λ k. made (r .at) (S k) (F k) (e k) (Q k)) ∙ by-tests b (lt-ltb (r .at) 4 (omega arith)) (ne-eqb b 10 n) (ne-eqb (r .at) 0 z) (ne-eqb (r .at) 1 w) (eq-eqb (r .at) 2 v)
+
+  pub in-query : (b : ℕ) (l : LineReader) (q′ : List ℕ) → r .at ≤ 3 → (b ≡ 10 → ⊥) → (r .at ≡ 0 → ⊥) → (r .at ≡ 1 → ⊥) → (r .at ≡ 2 → ⊥) → scanOf q′ l ≡ within (length q) (step (scanOf q (r .query)) b)
+      → readInput (readerOf (r .at) (r .settings) (r .first) (r .second) l) s f g q′ ≡ inRooms W (readByte I b)
+  in-query b l q′ h n z w v e =
+      (λ k. made (r .at) (S k) (F k) (G k) (e k)) ∙ by-tests b (lt-ltb (r .at) 4 (omega arith)) (ne-eqb b 10 n) (ne-eqb (r .at) 0 z) (ne-eqb (r .at) 1 w) (ne-eqb (r .at) 2 v)
 
 pub one-on : (i n : ℕ) → i < n → i + 1 ≤ n
 one-on i n h = omega arith
 
 -- rooms are lengths
-pub same-rooms : (s f g s₀ f₀ g₀ : List ℕ) → length s ≡ length s₀ → length f ≡ length f₀ → length g ≡ length g₀ → roomsOf s f g ≡ roomsOf s₀ f₀ g₀
-same-rooms s f g s₀ f₀ g₀ x y z = λ k. record { settings = x k; first = y k; second = z k }
+pub same-rooms : (s f g q s₀ f₀ g₀ q₀ : List ℕ) → length s ≡ length s₀ → length f ≡ length f₀ → length g ≡ length g₀ → length q ≡ length q₀ → roomsOf s f g q ≡ roomsOf s₀ f₀ g₀ q₀
+same-rooms s f g q s₀ f₀ g₀ q₀ x y z w = λ k. record { settings = x k; first = y k; second = z k; query = w k }
 
 -- one byte more of a chunk: i bytes of it are read, from I₀ on, in rooms W
 pub one-more : (W′ W : Rooms) (I₀ I I′ : Input) (chunk : List ℕ) (i : ℕ) → W′ ≡ W → i < length chunk → I ≡ inRooms W (readBytes I₀ (take i chunk)) → I′ ≡ inRooms W′ (readByte I (getD chunk i 0))

@@ -1,4 +1,4 @@
--- What a reader and its three slices are after each byte, field by field and word by word, on any fields. What they stand for is in Meaning.antt.
+-- What a reader and its four slices are after each byte, field by field and word by word, on any fields. What they stand for is in Meaning.antt.
 use mathlib.Core.Bool.{true, false, cond}
 use mathlib.Core.List.{List, [], _∷_}
 use Prim.Native.Nat.{ℕ, _+_, _-_, _*_}
@@ -36,31 +36,28 @@ pub record Held : Type 0 where
   pub settings : List ℕ
   pub first : List ℕ
   pub second : List ℕ
+  pub query : List ℕ
 
-abbrev pub held : Reader → List ℕ → List ℕ → List ℕ → Held
-held r settings first second = record { reader = r; settings = settings; first = first; second = second }
+abbrev pub held : Reader → List ℕ → List ℕ → List ℕ → List ℕ → Held
+held r settings first second query = record { reader = r; settings = settings; first = first; second = second; query = query }
 
 -- one byte goes into the line that is being read
-abbrev pub heldInLine : Reader → List ℕ → List ℕ → List ℕ → ℕ → Held
-heldInLine r s f g b =
-    cond (eqb (r .at) 0) (held (readerOf (r .at) (steppedLine (length s) (r .settings) b) (r .first) (r .second)) (steppedWords (r .settings) s b) f g)
-    (cond (eqb (r .at) 1) (held (readerOf (r .at) (r .settings) (steppedLine (length f) (r .first) b) (r .second)) s (steppedWords (r .first) f b) g)
-    (held (readerOf (r .at) (r .settings) (r .first) (steppedLine (length g) (r .second) b)) s f (steppedWords (r .second) g b)))
+abbrev pub heldInLine : Reader → List ℕ → List ℕ → List ℕ → List ℕ → ℕ → Held
+heldInLine r s f g q b =
+    cond (eqb (r .at) 0) (held (readerOf (r .at) (steppedLine (length s) (r .settings) b) (r .first) (r .second) (r .query)) (steppedWords (r .settings) s b) f g q)
+    (cond (eqb (r .at) 1) (held (readerOf (r .at) (r .settings) (steppedLine (length f) (r .first) b) (r .second) (r .query)) s (steppedWords (r .first) f b) g q)
+    (cond (eqb (r .at) 2) (held (readerOf (r .at) (r .settings) (r .first) (steppedLine (length g) (r .second) b) (r .query)) s f (steppedWords (r .second) g b) q)
+    (held (readerOf (r .at) (r .settings) (r .first) (r .second) (steppedLine (length q) (r .query) b)) s f g (steppedWords (r .query) q b))))
 
 -- one byte of the input
 unfoldable pub heldByte : Held → ℕ → Held
 heldByte h b =
     let r = h .reader in
-    cond (ltb (r .at) 3)
-    (cond (eqb b lineFeed) (held (readerOf (r .at + 1) (r .settings) (r .first) (r .second)) (h .settings) (h .first) (h .second)) (heldInLine r (h .settings) (h .first) (h .second) b))
+    cond (ltb (r .at) 4)
+    (cond (eqb b lineFeed) (held (readerOf (r .at + 1) (r .settings) (r .first) (r .second) (r .query)) (h .settings) (h .first) (h .second) (h .query))
+    (heldInLine r (h .settings) (h .first) (h .second) (h .query) b))
     h
 
 unfoldable pub heldBytes : Held → List ℕ → Held
 heldBytes h [] = h
 heldBytes h (b ∷ bs) = heldBytes (heldByte h b) bs
-
--- the input has ended: the words that were being read are stored
-abbrev pub heldEnded : Held → Held
-heldEnded h =
-    let r = h .reader in
-    held r (endedWords (r .settings) (h .settings)) (endedWords (r .first) (h .first)) (endedWords (r .second) (h .second))

@@ -3,8 +3,8 @@ ghost use mathlib.Core.Path.{_≡_};
 ghost use lib.ListN.{length, take};
 ghost use Rattle.io.specs.Counts.{Counts};
 ghost use Rattle.listing_text.specs.Reading.{isBlank, wordEnded, step};
-ghost use Rattle.listing_text.specs.Chunks.{within, lineWords};
-ghost use Rattle.listing_read.specs.Meaning.{scanOf, newLine, failedLine};
+ghost use Rattle.listing_text.specs.Chunks.{within};
+ghost use Rattle.listing_read.specs.Meaning.{scanOf, leftWords, newLine, failedLine};
 ghost use Rattle.listing_read.specs.Held.{endedLine, endedWords, steppedLine, steppedWords};
 
 const MAX: u64 = 4294967295;
@@ -109,7 +109,7 @@ pub fn step_byte(line: LineReader, b: u8, words: &mut [u32]) -> LineReader
 
 // The line has ended: how many words it is left with, at the start of the slice. None, where it is bad.
 pub fn line_words(line: LineReader, words: &mut [u32]) -> usize
-    ensures { λ r. ⌜ take r (now (words .exit)) ≡ lineWords (length (now (words .entry))) (scanOf (now (words .entry)) line) ⌝ }
+    ensures { λ r. ⌜ take r (now (words .exit)) ≡ leftWords (now (words .entry)) line ⌝ }
     ensures counts { λ r. ⌜ Counts r (now (words .exit)) ⌝ }
     ensures stored { λ r. ⌜ now (words .exit) ≡ endedWords line (now (words .entry)) ⌝ }
 {

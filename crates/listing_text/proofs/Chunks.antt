@@ -67,25 +67,26 @@ within-within room (reading words value inside) = go (leb (length words) room) r
     go false e = refl
 
 -- an input by its parts
-abbrev pub made : ℕ → Scan → Scan → Scan → Input
-made at s f g = record { at = at; settings = s; first = f; second = g }
+abbrev pub made : ℕ → Scan → Scan → Scan → Scan → Input
+made at s f g q = record { at = at; settings = s; first = f; second = g; query = q }
 
-same : (at : ℕ) {s t f g u v : Scan} → s ≡ t → f ≡ g → u ≡ v → made at s f u ≡ made at t g v
-same at p q e = λ k. record { at = at; settings = p k; first = q k; second = e k }
+same : (at : ℕ) {s s′ f f′ g g′ q q′ : Scan} → s ≡ s′ → f ≡ f′ → g ≡ g′ → q ≡ q′ → made at s f g q ≡ made at s′ f′ g′ q′
+same at S F G Q = λ k. made at (S k) (F k) (G k) (Q k)
 
 -- `readByte` with its tests as arguments
-abbrev byTests : Bool → Bool → Bool → Bool → Input → ℕ → Input
-byTests x y z w i b =
+abbrev byTests : Bool → Bool → Bool → Bool → Bool → Input → ℕ → Input
+byTests x y z w v i b =
     cond x
     (cond y (nextLine i)
-    (cond z (record { at = i .at; settings = step (i .settings) b; first = i .first; second = i .second })
-    (cond w (record { at = i .at; settings = i .settings; first = step (i .first) b; second = i .second })
-    (record { at = i .at; settings = i .settings; first = i .first; second = step (i .second) b }))))
+    (cond z (made (i .at) (step (i .settings) b) (i .first) (i .second) (i .query))
+    (cond w (made (i .at) (i .settings) (step (i .first) b) (i .second) (i .query))
+    (cond v (made (i .at) (i .settings) (i .first) (step (i .second) b) (i .query))
+    (made (i .at) (i .settings) (i .first) (i .second) (step (i .query) b))))))
     i
 
 pub rooms-byte : (r : Rooms) (i : Input) (b : ℕ) → inRooms r (readByte (inRooms r i) b) ≡ inRooms r (readByte i b)
 unfolding readByte
-rooms-byte r i b = go (ltb (i .at) 3) (eqb b lineFeed) (eqb (i .at) 0) (eqb (i .at) 1)
+rooms-byte r i b = go (ltb (i .at) 4) (eqb b lineFeed) (eqb (i .at) 0) (eqb (i .at) 1) (eqb (i .at) 2)
   where
     S : within (r .settings) (within (r .settings) (i .settings)) ≡ within (r .settings) (i .settings)
     S = within-within (r .settings) (i .settings)
@@ -96,16 +97,20 @@ rooms-byte r i b = go (ltb (i .at) 3) (eqb b lineFeed) (eqb (i .at) 0) (eqb (i .
     G : within (r .second) (within (r .second) (i .second)) ≡ within (r .second) (i .second)
     G = within-within (r .second) (i .second)
 
-    go : (x y z w : Bool) → inRooms r (byTests x y z w (inRooms r i) b) ≡ inRooms r (byTests x y z w i b)
-    go false y z w = same (i .at) S F G
-    go true true z w = same (i .at + 1) S F G
-    go true false true w = same (i .at) (within-step (r .settings) (i .settings) b) F G
-    go true false false true = same (i .at) S (within-step (r .first) (i .first) b) G
-    go true false false false = same (i .at) S F (within-step (r .second) (i .second) b)
+    Q : within (r .query) (within (r .query) (i .query)) ≡ within (r .query) (i .query)
+    Q = within-within (r .query) (i .query)
+
+    go : (x y z w v : Bool) → inRooms r (byTests x y z w v (inRooms r i) b) ≡ inRooms r (byTests x y z w v i b)
+    go false y z w v = same (i .at) S F G Q
+    go true true z w v = same (i .at + 1) S F G Q
+    go true false true w v = same (i .at) (within-step (r .settings) (i .settings) b) F G Q
+    go true false false true v = same (i .at) S (within-step (r .first) (i .first) b) G Q
+    go true false false false true = same (i .at) S F (within-step (r .second) (i .second) b) Q
+    go true false false false false = same (i .at) S F G (within-step (r .query) (i .query) b)
 
 pub rooms-bytes : (r : Rooms) (i : Input) (bs : List ℕ) → inRooms r (readBytes (inRooms r i) bs) ≡ inRooms r (readBytes i bs)
 unfolding readBytes
-rooms-bytes r i [] = same (i .at) (within-within (r .settings) (i .settings)) (within-within (r .first) (i .first)) (within-within (r .second) (i .second))
+rooms-bytes r i [] = same (i .at) (within-within (r .settings) (i .settings)) (within-within (r .first) (i .first)) (within-within (r .second) (i .second)) (within-within (r .query) (i .query))
 rooms-bytes r i (b ∷ bs) =
     sym (rooms-bytes r (readByte (inRooms r i) b) bs)
     ∙ ap (λ (k : Input). inRooms r (readBytes k bs)) (rooms-byte r i b)

@@ -2,3 +2,4 @@ pub mod Chunks
 pub mod LineLaws
 pub mod SameListing
 pub mod TextCases
+pub mod SameFanOut

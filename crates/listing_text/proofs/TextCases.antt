@@ -39,7 +39,7 @@ pub blanks : Prints "\t00 00000000000\r  4294967295 0 0004294967295\t\t0 \r\n 3 
 unfolding Prints printedBytes lineAt step steps Holds starCases oddLines lineBytes spaced decimalBy flatMap listing
 blanks = ap (flatMap lineBytes) (star-case _ (here refl))
 
--- lines after the third are not read
+-- lines after the third play no part
 pub fourth-line : Prints "0 0 4294967295 0 4294967295 0\n3 2 1 0 0 0 1 0 0 2 0 0 0 1 0 1 0 1 1 0 2 5 2 2 0\n3 2 1 0 0 0 1 0 0 2 0 0 0 1 3 0 7 4 1 0 5 8 1 2 0\nno words\n7 7" listed
 unfolding Prints printedBytes lineAt step steps Holds starCases oddLines lineBytes spaced decimalBy flatMap listing
 fourth-line = ap (flatMap lineBytes) (star-case _ (here refl))

@@ -43,6 +43,6 @@ lineBytes (refusedLine n) = ascii "refused" ++ spaced (decimal n ∷ [])
 abbrev pub bytesOf : List Line → List ℕ
 bytesOf lines = flatMap lineBytes lines
 
--- "`composed` reads settings .. and both machines as decimal words, one line each": what it prints, as a function of the bytes that it reads. Lines after the third are not read.
+-- "`composed` reads settings .. and both machines as decimal words, one line each": what it prints, as a function of the bytes that it reads. Lines after the third play no part.
 unfoldable pub printedBytes : List ℕ → List ℕ
 printedBytes input = bytesOf (listing (wordsRead (lineAt 0 input)) (wordsRead (lineAt 1 input)) (wordsRead (lineAt 2 input)))

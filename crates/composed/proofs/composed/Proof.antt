@@ -3,6 +3,7 @@ use mathlib.Core.Path.{_≡_, _∙_}
 use native.Mathlib.Omega.{arith}
 use lib.ListN.{length}
 use borrow.Author.Needs.{needs}
+use Rattle.listing_text.specs.Chunks.{lineWords}
 use Rattle.listing_text.specs.Ended.{endedBytes}
 use Rattle.listing_text.proofs.SameListing.{same-listing}
 use Rattle.listing_write.proofs.WrittenLaws.{same-text}
@@ -11,17 +12,20 @@ use Rattle.composed.proofs.composed.Tie as tie
 
 returns : tie.Need-returns
 returns c =
-    let h = c .before .before .before .before .before .before .before .before .before .before .before .read-lines .ensures in
+    let l = c .before .before .before .before .before .before .before .before .before .before .before .before .read-lines in
+    let h = l .ensures in
     let w = c .before .before .before .answer .ensures in
-    let x : length (c .before .before .before .before .before .before .before .before .before .before .before .read-lines .last .0) ≡ 6 = omega (arith, c .before .before .before .before .before .before .before .before .before .before .settings2 .given) in
-    let y : length (c .before .before .before .before .before .before .before .before .before .before .before .read-lines .last .1 .0) ≡ 4096 = omega (arith, c .before .before .before .before .before .before .before .before .before .first2 .given) in
-    let z : length (c .before .before .before .before .before .before .before .before .before .before .before .read-lines .last .1 .1 .0) ≡ 4096 = omega (arith, c .before .before .before .before .before .before .before .before .second2 .given) in
-    ((h .0, same-text ((λ k. endedBytes (record { settings = x k; first = y k; second = z k }) (h .1 k)) ∙ same-listing (h .0)) (w .0)), w .1 .0)
+    let x : length (l .last .1 .0) ≡ 6 = omega (arith, c .before .before .before .before .before .before .before .before .before .before .before .settings2 .given) in
+    let y : length (l .last .1 .1 .0) ≡ 4096 = omega (arith, c .before .before .before .before .before .before .before .before .before .before .first2 .given) in
+    let z : length (l .last .1 .1 .1 .0) ≡ 4096 = omega (arith, c .before .before .before .before .before .before .before .before .before .second2 .given) in
+    let e = (λ k. endedBytes (lineWords (x k) (h .1 k .settings)) (lineWords (y k) (h .1 k .first)) (lineWords (z k) (h .1 k .second))) ∙ same-listing (h .0) in
+    ((h .0, same-text e (w .0)), w .1 .0)
 
 pub composed-spec : {M : Type 1} → statement M
 composed-spec =
     tie.close
     (tie.spec
+    (λ c. search needs)
     (λ c. search needs)
     (λ c. search needs)
     (λ c. search needs)

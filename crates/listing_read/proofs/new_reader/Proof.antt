@@ -12,6 +12,9 @@ new-line-requires-2 c κs = search needs
 new-line-requires-3 : tie.Need-new-line-requires-3
 new-line-requires-3 c κs = search needs
 
+new-line-requires-4 : tie.Need-new-line-requires-4
+new-line-requires-4 c κs = search needs
+
 with-lines-requires : tie.Need-with-lines-requires
 with-lines-requires c κs = search needs
 
@@ -25,5 +28,6 @@ new-reader-spec =
     new-line-requires
     new-line-requires-2
     new-line-requires-3
+    new-line-requires-4
     with-lines-requires
     returns)

@@ -17,19 +17,19 @@ use Rattle.listing_text.proofs.Chunks.{next-chunk}
 use Rattle.listing_read.specs.Meaning.{readInput, roomsOf, newReader}
 use Rattle.listing_read.specs.declared.Reader.{Reader}
 use Rattle.listing_read.proofs.InputLaws.{input-within, same-rooms}
-use Rattle.composed.specs.Read.{handedOn, Reads}
+use Rattle.listing_input.specs.Read.{handedOn, Reads}
 
 -- before the first byte
-pub none-came : (r : Reader) (s f g : List ℕ) → r ≡ newReader → Reads (roomsOf s f g) (readInput r s f g)
+pub none-came : (r : Reader) (s f g q : List ℕ) → r ≡ newReader → Reads (roomsOf s f g q) (readInput r s f g q)
 unfolding readBytes
-none-came r s f g e = ([], ap (λ (x : Reader). readInput x s f g) e ∙ input-within newReader s f g)
+none-came r s f g q e = ([], ap (λ (x : Reader). readInput x s f g q) e ∙ input-within newReader s f g q)
 
 -- a chunk more, in slices of the same lengths
-pub more-came : (s₀ f₀ g₀ s f g : List ℕ) (I I′ : Input) (chunk : List ℕ) → length s ≡ length s₀ → length f ≡ length f₀ → length g ≡ length g₀ → Reads (roomsOf s₀ f₀ g₀) I → I′ ≡ inRooms (roomsOf s f g) (readBytes I chunk)
-    → Reads (roomsOf s₀ f₀ g₀) I′
-more-came s₀ f₀ g₀ s f g I I′ chunk p q t h e = (
+pub more-came : (s₀ f₀ g₀ q₀ s f g q : List ℕ) (I I′ : Input) (chunk : List ℕ) → length s ≡ length s₀ → length f ≡ length f₀ → length g ≡ length g₀ → length q ≡ length q₀ → Reads (roomsOf s₀ f₀ g₀ q₀) I
+    → I′ ≡ inRooms (roomsOf s f g q) (readBytes I chunk) → Reads (roomsOf s₀ f₀ g₀ q₀) I′
+more-came s₀ f₀ g₀ q₀ s f g q I I′ chunk x y z w h e = (
   h .0 ++ chunk,
-  e ∙ (λ k. inRooms (same-rooms s f g s₀ f₀ g₀ p q t k) (readBytes (h .1 k) chunk)) ∙ next-chunk (roomsOf s₀ f₀ g₀) unread (h .0) chunk,
+  e ∙ (λ k. inRooms (same-rooms s f g q s₀ f₀ g₀ q₀ x y z w k) (readBytes (h .1 k) chunk)) ∙ next-chunk (roomsOf s₀ f₀ g₀ q₀) unread (h .0) chunk,
 )
 
 -- what a read that failed hands on, and one that did not

@@ -1,4 +1,4 @@
--- What the program holds of its input. What `read` puts into a buffer no contract of the toolchain's library names, so that a promise can only speak of some bytes; that they are those of standard input, in their
+-- What a program holds of its input. What `read` puts into a buffer no contract of the toolchain's library names, so that a promise can only speak of some bytes; that they are those of standard input, in their
 -- order, is what the loop of `read_lines` does with them.
 use mathlib.Core.Path.{_≡_}
 use mathlib.Core.Bool.{Bool, false, _&&_}
@@ -8,23 +8,17 @@ use lib.Dec.{ltb}
 use lib.IntN.{ℤ, pos, negsuc}
 use lib.ListN.{take}
 use Rattle.listing_text.specs.Chunks.{Input, Rooms, unread, readBytes, inRooms}
-use Rattle.listing_text.specs.Printing.{printedBytes}
-use Rattle.listing_write.specs.Written.{Written}
 
 -- what a read hands on: the bytes that came; where it failed, a byte that is of no word, so that the line that is being read is not taken for a whole one
 abbrev pub handedOn : ℤ → List ℕ → List ℕ
 handedOn (pos k) chunk = take k chunk
 handedOn (negsuc k) chunk = 33 ∷ []
 
--- whether to read on after a read: bytes came, and the third line has not ended
-abbrev pub readsOn : ℕ → ℤ → Bool
-readsOn at (pos k) = ltb at 3 && ltb 0 k
-readsOn at (negsuc k) = false
+-- whether to read on for so many lines after a read: bytes came, and not so many lines have ended
+abbrev pub readsOn : ℕ → ℕ → ℤ → Bool
+readsOn lines at (pos k) = ltb at lines && ltb 0 k
+readsOn lines at (negsuc k) = false
 
 -- the reading, in these rooms, of some bytes, whatever the chunks in which they came
 abbrev pub Reads : Rooms → Input → Type 0
 Reads rooms i = (input : List ℕ) × (i ≡ inRooms rooms (readBytes unread input))
-
--- out′ is out with what `composed` prints of some bytes, and n is the number of bytes printed
-abbrev pub Prints : List ℕ → List ℕ → ℕ → Type 0
-Prints out out′ n = (input : List ℕ) × Written out 0 (printedBytes input) out′ n
