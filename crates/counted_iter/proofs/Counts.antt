@@ -8,6 +8,7 @@ use native.Mathlib.Omega.{arith}
 use lib.Dec.{eqb, leb}
 use lib.ListN.{length, length-append, length-map}
 use Rattle.lists.specs.Lists.{putIf}
+use Rattle.lists.proofs.Members.{put-length, keep-length}
 use Rattle.words.specs.Labels.{Checked, good, refused, andThen}
 use Rattle.words.specs.Matches.{MatchType, labelOn, Match, loop, own, viaSigma}
 use Rattle.words.specs.Machines.{trCount, nextOf, listFrom, machineOf}
@@ -21,11 +22,6 @@ use Rattle.matchers.specs.declared.Phase.the-variants.{Own, Sigmas}
 use Rattle.matchers.specs.declared.Cursor.{Cursor}
 use Rattle.matchers.proofs.Seeks.{with-turn}
 use Rattle.fan_outs.specs.FanOut.{fanOut}
-use Rattle.fan_outs.proofs.Bounds.{keep-length}
-
-put-length : {A : Type 0} (b : Bool) (x : A) (l : List A) → length (putIf b x l) ≡ cond b 1 0 + length l
-put-length true x l = omega arith
-put-length false x l = omega arith
 
 -- a turn: one, if the record has the label, and those from its link on
 pub count-turn : (on : MatchType) (m : List ℕ) (x t : ℕ) → (t ≡ 0 → ⊥) → t ≤ trCount m

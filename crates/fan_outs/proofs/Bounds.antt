@@ -7,7 +7,7 @@ use Prim.Native.Nat.{ℕ, _+_, _≤_}
 use native.Mathlib.Omega.{arith}
 use lib.Dec.{eqb}
 use lib.ListN.{length, length-append, length-map}
-use Rattle.lists.specs.Lists.{putIf, keepIf}
+use Rattle.lists.proofs.Members.{keep-length}
 use Rattle.words.specs.Labels.{MAX, epsLabel, noLabel, Checked, good}
 use Rattle.words.specs.Machines.{limit, trCount, firstOf, listOf, machineOf}
 use Rattle.words.specs.Matches.{MatchType, labelOn, viaSigma, labelled, sortedMatches}
@@ -21,15 +21,6 @@ use Rattle.calls.specs.Checks.{sideFor}
 use Rattle.calls.proofs.ExpandKept.{sided}
 use Rattle.compose_bounds.proofs.Lookups.{sorted-few}
 use Rattle.fan_outs.specs.FanOut.{fanOut}
-
-pub keep-length : {A : Type 0} (P : A → Bool) (l : List A) → length (keepIf P l) ≤ length l
-unfolding keepIf
-keep-length P [] = omega arith
-keep-length P (x ∷ xs) = go (P x) (keep-length P xs)
-  where
-    go : (b : Bool) → length (keepIf P xs) ≤ length xs → length (putIf b x (keepIf P xs)) ≤ length (x ∷ xs)
-    go true h = omega arith
-    go false h = omega arith
 
 labelled-length : (on : MatchType) (m : List ℕ) (q x : ℕ) → length (labelled on (machineOf m) q x) ≤ trCount m
 unfolding labelled listOf

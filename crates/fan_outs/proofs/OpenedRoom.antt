@@ -1,12 +1,11 @@
 -- The room of `composed` is enough for every opening, which is then refused by the checks 1 to 7 or not at all: so a caller that is lent no memory gets what the program prints.
-use mathlib.Core.Path.{_≡_, refl, sym, ap, _∙_}
-use mathlib.Core.List.{List, [], _∷_}
+use mathlib.Core.Path.{_≡_, refl, _∙_}
+use mathlib.Core.List.{List}
 use mathlib.Core.Option.{Option, none, some}
 use Prim.Native.Nat.{ℕ}
 use native.Mathlib.Omega.{arith}
-use lib.Dec.{eqb}
-use lib.ListN.{length}
-use borrow.Author.Tests.{eq-eqb}
+use lib.ListN.{length, getD}
+use borrow.Author.Tests.{eq-eqb, ne-eqb}
 use Rattle.words.specs.Labels.{Checked, good, refused, andThen}
 use Rattle.words.specs.Sides.{Side}
 use Rattle.words.specs.Steps.{Triple, startAt}
@@ -16,7 +15,7 @@ use Rattle.calls.specs.Calls.{openOf, openWith}
 use Rattle.calls.specs.Listing.{settingsSize, settingsOf, emptyMemory, noSession}
 use Rattle.calls.proofs.OpenCases.{open-empty, open-begun}
 use Rattle.calls.proofs.ListingLaws.{rooms}
-use Rattle.fan_outs.specs.FanOut.{fanOutAt, fanOutOf, queried, fanOutLine}
+use Rattle.fan_outs.specs.FanOut.{fanOutAt, fanOutOf, querySize, queried, fanOutLine}
 
 -- whatever comes after an accepted opening comes after accepted checks 1 to 7
 pub room-enough : {A : Type 0} (s : Settings) (l : Lent) (got : Session) (after : Checked A) → andThen (openOf s l got emptyMemory .answer) (λ u. after) ≡ andThen (sideFor s l) (λ side. after)
@@ -36,7 +35,13 @@ pub line-checked : (w : List ℕ) (l : Lent) (query : List ℕ) → length w ≡
 unfolding fanOutLine
 line-checked w l query e = rw (eq-eqb (length w) settingsSize e) (room-enough (settingsOf w) l (noSession (settingsOf w)) (queried (settingsOf w) l query))
 
--- and with three words on its fourth line it is that of the call
-pub line-is-call : (w : List ℕ) (l : Lent) (n q x : ℕ) → length w ≡ settingsSize → fanOutLine w l (n ∷ q ∷ x ∷ []) ≡ fanOutOf (settingsOf w) l n q x
+-- with three words on its fourth line it is that of the call ..
+pub line-is-call : (w : List ℕ) (l : Lent) (query : List ℕ) → length w ≡ settingsSize → length query ≡ querySize
+    → fanOutLine w l query ≡ fanOutOf (settingsOf w) l (getD query 0 0) (getD query 1 0) (getD query 2 0)
 unfolding fanOutOf
-line-is-call w l n q x e = line-checked w l (n ∷ q ∷ x ∷ []) e
+line-is-call w l query e f = line-checked w l query e ∙ rw (eq-eqb (length query) querySize f) refl
+
+-- .. and with another number of words that of the call for a machine which is none
+pub line-unasked : (w : List ℕ) (l : Lent) (query : List ℕ) → length w ≡ settingsSize → (length query ≡ querySize → ⊥) → fanOutLine w l query ≡ fanOutOf (settingsOf w) l 0 0 0
+unfolding fanOutOf fanOutAt
+line-unasked w l query e f = line-checked w l query e ∙ rw (ne-eqb (length query) querySize f) refl

@@ -9,6 +9,7 @@ use lib.Dec.{eqb, eqb·suc-suc}
 use lib.ListN.{length}
 use borrow.Author.Tests.{eqb-true, ne-eqb}
 use Rattle.lists.specs.Lists.{putIf, keepIf, every}
+use Rattle.lists.proofs.Members.{keep-length}
 use Rattle.papers.specs.Filter.{noEpsilon, onlyEpsilons}
 use Rattle.words.specs.Labels.{epsLabel, noLabel}
 use Rattle.words.specs.Weights.{Kind, zeroOf, isZero}
@@ -41,15 +42,6 @@ most-holds k weight (u ∷ us) t i = ⊎-elim (λ e. here e) (λ j. later (most-
     later (inr h) = inr (omega (arith, h))
 
 module _ {A : Type 0} (P : A → Bool) where
-  keep-length : (l : List A) → length (keepIf P l) ≤ length l
-  unfolding keepIf
-  keep-length [] = omega arith
-  keep-length (x ∷ xs) = go (P x) (keep-length xs)
-    where
-      go : (b : Bool) → length (keepIf P xs) ≤ length xs → length (putIf b x (keepIf P xs)) ≤ length (x ∷ xs)
-      go true h = omega (arith, h)
-      go false h = omega (arith, h)
-
   -- none holds where none is kept
   kept-none : (l : List A) → every (λ x. not (P x)) l ≡ eqb (length (keepIf P l)) 0
   unfolding keepIf every
@@ -68,7 +60,7 @@ module _ {A : Type 0} (P : A → Bool) where
     where
       go : (b : Bool) → every P xs ≡ eqb (length (keepIf P xs)) (length xs) → b && every P xs ≡ eqb (length (putIf b x (keepIf P xs))) (length (x ∷ xs))
       go true e = e ∙ sym (eqb·suc-suc (length (keepIf P xs)) (length xs))
-      go false e = let h = keep-length xs in sym (ne-eqb (length (keepIf P xs)) (length (x ∷ xs)) (λ z. omega (arith, h, z)))
+      go false e = let h = keep-length P xs in sym (ne-eqb (length (keepIf P xs)) (length (x ∷ xs)) (λ z. omega (arith, h, z)))
 
 module _ {on : MatchType} {k : Kind} {m : List ℕ} {s : ℕ} {r : ListFacts} (f : TrueOf on k m s r) where
   -- one by one

@@ -1,11 +1,12 @@
--- What is in a list that was joined or kept from, and what holds for every one of a list. Of _++_ and map the library has it.
+-- What is in a list that was joined or kept from, how long it is, and what holds for every one of a list. Of _++_ and map the library has it.
 use mathlib.Core.Path.{_≡_, refl, _∙_, ap, ap₂}
-use mathlib.Core.Bool.{Bool, true, false, _&&_, _||_, and-eq-true-iff, true≢false}
+use mathlib.Core.Bool.{Bool, true, false, cond, _&&_, _||_, and-eq-true-iff, true≢false}
 use mathlib.Core.List.{List, [], _∷_, flatMap, List·Memᴰ as In, List·Memᴰ·head as here, List·Memᴰ·tail as there, Memᴰ·append-left, Memᴰ·append-right, List·Memᴰ·append-cases, List·Memᴰ·not-nil, List·Memᴰ·cases-cons}
 use mathlib.Core.Logic.{_⊎_, inl, inr, ⊎-elim}
 use Prim.Native.Nat.{ℕ, zero, suc, _+_, _≤_, _<_}
 use native.Mathlib.Omega.{arith}
 use native.Mathlib.Decide.{ℕ-discrete}
+use lib.ListN.{length}
 use Rattle.lists.specs.Lists.{putIf, keepIf, every, interval}
 
 -- the halves of an `&&` that is true, by the library's `and-eq-true-iff`
@@ -94,3 +95,18 @@ pub of-interval : (s n : ℕ) {i : ℕ} → In i (interval s n) → (s ≤ i) ×
 unfolding interval
 of-interval s zero h = absurd (List·Memᴰ·not-nil h)
 of-interval s (suc n) {i} h = ⊎-elim (λ e. (omega arith, omega arith)) (λ j. let r = of-interval (suc s) n j in (omega arith, omega arith)) (List·Memᴰ·cases-cons h)
+
+-- one more, if it is put in front
+pub put-length : {A : Type 0} (b : Bool) (x : A) (l : List A) → length (putIf b x l) ≡ cond b 1 0 + length l
+put-length true x l = omega arith
+put-length false x l = omega arith
+
+-- no more are kept than there are
+pub keep-length : {A : Type 0} (P : A → Bool) (l : List A) → length (keepIf P l) ≤ length l
+unfolding keepIf
+keep-length P [] = omega arith
+keep-length P (x ∷ xs) = go (P x) (keep-length P xs)
+  where
+    go : (b : Bool) → length (keepIf P xs) ≤ length xs → length (putIf b x (keepIf P xs)) ≤ length (x ∷ xs)
+    go true h = omega (arith, h)
+    go false h = omega (arith, h)

@@ -10,7 +10,7 @@ use lib.Dec.{eqb}
 use lib.ListN.{length, getD, length-map}
 use borrow.Author.Tests.{eqb-true, ne-eqb, eq-eqb}
 use Rattle.lists.specs.Lists.{putIf, keepIf, every, interval}
-use Rattle.lists.proofs.Members.{and-left, and-right, or-cases, of-interval}
+use Rattle.lists.proofs.Members.{and-left, and-right, or-cases, of-interval, keep-length}
 use Rattle.lists.proofs.Totals.{length-interval}
 use Rattle.words.specs.Matches.{MatchType, inputs, outputs, labelOn}
 use Rattle.words.specs.Machines.{headerWords, stateWords, trWords, stateCount, trCount, trWord, nextOf, listFrom, machineOf, noFall}
@@ -67,15 +67,6 @@ room-by m (suc n) (suc t) b h e =
 -- they end with the machine's records
 pub straight-room : (m : List ℕ) (t : ℕ) → t ≤ trCount m → straight m t ≡ true → t + length (listFrom m t) ≤ trCount m + 1
 straight-room m t h e = room-by m (length (listFrom m t)) t (omega arith) h e
-
-keep-length : (P : ℕ → Bool) (l : List ℕ) → length (keepIf P l) ≤ length l
-unfolding keepIf
-keep-length P [] = omega arith
-keep-length P (u ∷ us) = go (P u) (keep-length P us)
-  where
-    go : (b : Bool) → length (keepIf P us) ≤ length us → length (putIf b u (keepIf P us)) ≤ length (u ∷ us)
-    go true h = omega arith
-    go false h = omega arith
 
 -- the labels of consecutive records stand as many words apart as a record has
 place-label : (on : MatchType) (m : List ℕ) (a i : ℕ) → labelAt m (labelPlace on m a) i ≡ labelOn on (machineOf m) (a + i)
