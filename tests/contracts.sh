@@ -4,8 +4,8 @@
 # functions for a caller that owns its memory, which stand in one file.
 set -eu
 cd "$(dirname "$0")/.."
-free='crates/(fst|semirings|compose_filters|fst_properties|compose_state_tuple|compose_fst_op|tr_lists|matchers|match_input|compose_moves|compose_weigh|session_checks|listing_read|listing_input)/'
-free="$free|crates/(lazy_fst|rinkolza|listing)/src/lib.rt"
+free='crates/(fst|semirings|compose_filters|fst_properties|compose_state_tuple|compose_fst_op|tr_lists|matchers|counted_iter|match_input|compose_moves|compose_weigh|session_checks|listing_read|listing_input|fan_out_call)/'
+free="$free|crates/(lazy_fst|rinkolza|listing)/src/lib.rt|crates/rinkolza/src/fan_out.rt"
 owned='crates/rinkolza/src/trusted.rt'
 named=$(awk '/^[0-9]+\. / { on = /^33\. / } on' docs/DECISIONS.md | grep -o '`[^` ]*` in `crates/[^` ]*`' | sed 's/`//g; s/ in / /' | sort -u)
 [ -n "$named" ] || { echo "contracts: DECISIONS 33 names no function"; exit 1; }
