@@ -4,9 +4,9 @@
  * The library is an archive made by `rt staticlib rinkolza` from the crate
  * crates/rinkolza, for x86-64 Linux. Every function below is proved to meet
  * its contract (crates/rinkolza/src), an equation with the definitions in
- * crates/rinkolza/specs and crates/calls/specs. Five of them check all that
- * they are given; the five rinkolza_trusted_... do not, and may be called by
- * those alone who own their memory, see below.
+ * crates/rinkolza/specs, crates/calls/specs and crates/fan_outs/specs. Six of
+ * them check all that they are given; the five rinkolza_trusted_... do not, and
+ * may be called by those alone who own their memory, see below.
  *
  * ---------------------------------------------------------------------------
  * Rules for every call
@@ -18,7 +18,7 @@
  *   RINKOLZA_MEMO_WORDS words; it counts as a slice that is not const.
  * - A slice that is not const must not overlap any other slice of the same
  *   call. Slices that are const may overlap each other.
- * - The five functions that check ask nothing else of a caller: any words in
+ * - The six functions that check ask nothing else of a caller: any words in
  *   any slice, of any length, and any number are answered. Bad machines,
  *   settings, sessions, memory and lengths get a refusal.
  * - There is no global state, no allocation and no input or output. A call
@@ -32,9 +32,9 @@
  *   belongs to them; and the memos, which may change in any call that is lent
  *   them. The two for records return no number.
  * - Lengths: settings has 6 words, session 9, answer 2 (the answer of
- *   rinkolza_trusted_final_weights: 2 for each found state). With any other
- *   length the call is refused with 1 and changes nothing (rinkolza_records:
- *   see there).
+ *   rinkolza_trusted_final_weights: 2 for each found state; of rinkolza_fan_out:
+ *   1). With any other length the call is refused with 1 and changes nothing
+ *   (rinkolza_records: see there).
  * - rinkolza_run uses at most 128 KiB of stack, rinkolza_expand,
  *   rinkolza_trusted_expand and rinkolza_trusted_run 80 KiB, every other call
  *   16 KiB.
@@ -144,7 +144,7 @@
  * is claimed of readings.
  *
  * ---------------------------------------------------------------------------
- * Settings, 6 words (const, for rinkolza_open)
+ * Settings, 6 words (const, for rinkolza_open and rinkolza_fan_out)
  *
  *     0  kind of the weights: RINKOLZA_COST or RINKOLZA_COUNT
  *     1  filter: RINKOLZA_SEQUENCE, _ALTERNATE, _MATCH, _NULL, _TRIVIAL or
@@ -236,9 +236,9 @@
  * ---------------------------------------------------------------------------
  * Calls for a caller that owns its memory
  *
- * A call that checks goes through both machines and all used memory, whatever
- * it is asked for. The functions rinkolza_trusted_... answer the same without
- * the checks 1 to 8. They ask that these checks pass. That is proved
+ * A call that checks goes through both machines and all used memory that it is
+ * lent, whatever it is asked for. The functions rinkolza_trusted_... answer the
+ * same without the checks 1 to 8. They ask that these checks pass. That is proved
  * (OwnedClaim in crates/readings/specs/Owned.antt) for a caller that after an
  * accepted rinkolza_open keeps to this:
  *
@@ -248,6 +248,9 @@
  * - it gets the session, the heads, the states and the trs as the call before
  *   left them, or the states and trs lengthened at their ends;
  * - nobody but these calls writes to any of them.
+ *
+ * rinkolza_fan_out, which is lent neither session nor memory, is none of these
+ * calls: it may be made at any time, on whatever words.
  *
  * The two that expand, rinkolza_trusted_expand and rinkolza_trusted_run, are
  * lent two memos beside memory: memo1 for machine 1, memo2 for machine 2, each of
@@ -285,6 +288,7 @@
  *   rinkolza_final_weight  1 to 9, then 12
  *   rinkolza_run           1 to 8, then as for the expansions that it makes
  *   rinkolza_records       1 to 9, each of which gives an empty part
+ *   rinkolza_fan_out       1 to 7, then 9, then 11
  *   rinkolza_trusted_...   1 for lengths, then as above from 9 on
  */
 #ifndef RINKOLZA_H
@@ -308,6 +312,7 @@ extern "C" {
 #define RINKOLZA_SETTINGS_WORDS 6
 #define RINKOLZA_SESSION_WORDS 9
 #define RINKOLZA_ANSWER_WORDS 2
+#define RINKOLZA_FAN_OUT_WORDS 1
 #define RINKOLZA_STATE_WORDS 6
 #define RINKOLZA_TR_WORDS 5
 #define RINKOLZA_MEMO_WORDS 5120
@@ -372,11 +377,13 @@ extern "C" {
 /* the session's side differs from the rule, more is used than there is room
  * for, or the form of memory is broken */
 #define RINKOLZA_REFUSED_SESSION UINT32_C(8)
-/* the state is not found yet: its number is not below the used states */
+/* the state is not found yet: its number is not below the used states; of
+ * rinkolza_fan_out: there is no such machine, or it has no such state */
 #define RINKOLZA_REFUSED_NOT_FOUND UINT32_C(9)
 /* side both: the states of both machines have sigma transitions */
 #define RINKOLZA_REFUSED_BOTH_SIGMA UINT32_C(10)
-/* the walked label is the sigma label of the machine that is looked up */
+/* the walked label, or the one that rinkolza_fan_out is asked for, is the sigma
+ * label of the machine that is looked up */
 #define RINKOLZA_REFUSED_SIGMA_WALKED UINT32_C(11)
 /* a weight is too large */
 #define RINKOLZA_REFUSED_WEIGHT UINT32_C(12)
@@ -469,6 +476,27 @@ void rinkolza_records(const uint32_t *session, size_t session_len,
                       const uint32_t *trs, size_t trs_len,
                       uint32_t n,
                       uint32_t *answer, size_t answer_len);
+
+/*
+ * How many matches the look-up of a label has at a state of one machine, 1 or 2,
+ * the loop and sigma matches included. Machine 1 is looked up on its outputs,
+ * machine 2 on its inputs, each with its own sigma label and allowed list,
+ * whatever the side; on an unsorted side every transition with the label counts.
+ * Label 0: the loop, by which the machine rests, and the epsilon transitions;
+ * label RINKOLZA_NO_LABEL: the epsilon transitions alone. Accepted: answer[0] is
+ * the number. It is lent no memory and no session; as an opening does, it goes
+ * through both machines.
+ * Refusals: 1 to 7 as an opening's (1 also where settings is not of 6 words or
+ * answer not of 1), then 9 where machine is neither 1 nor 2 or the state is not
+ * below the machine's S, then 11 where the label is that machine's sigma label.
+ */
+uint32_t rinkolza_fan_out(const uint32_t *settings, size_t settings_len,
+                          const uint32_t *m1, size_t m1_len,
+                          const uint32_t *m2, size_t m2_len,
+                          const uint32_t *allowed1, size_t allowed1_len, uint32_t has1,
+                          const uint32_t *allowed2, size_t allowed2_len, uint32_t has2,
+                          uint32_t machine, uint32_t state, uint32_t label,
+                          uint32_t *answer, size_t answer_len);
 
 /*
  * As rinkolza_expand, without the checks 1 to 8, which must pass. The memos are

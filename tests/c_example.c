@@ -1,4 +1,4 @@
-/* Calls the library from C: document 01's case 1 by each filter, by the first listed and compared with 01's listing by tests/c_example.sh; sigma; then slices of every short length and
+/* Calls the library from C: document 01's case 1 by each filter, by the first listed and compared with 01's listing by tests/c_example.sh; sigma; look-ups; then slices of every short length and
  * damaged words, where it checks that a refused call changes nothing. Where the checks 1 to 8 pass, it makes the call that does not check too, on a copy of the same words, and
  * compares all that the two leave. Memos are lent from call to call of an opening, and now and then put back to zeros; so too in compositions of drawn machines, state by state.
  * It prints the listing, then what it counted; it ends with 1 at the first thing that is wrong. */
@@ -79,6 +79,35 @@ static void any_letter(void) {
     }
 }
 
+/* How many matches a label has. Machine 2 has an epsilon, the label 3 twice and sigma, 9; machine 1 writes 3 and then 9, where that is a label like others. */
+static void look_ups(void) {
+    static const uint32_t one[] = {1, 2, 1, 0, 0, 0, 1, 1, 0, 1, 3, 0, 0, 2, 1, 9, 0, 0, 0};
+    static const uint32_t two[] = {1, 4, 1, 0, 0, 0, 1, 1, 0, 0, 5, 0, 0, 2, 3, 6, 0, 0, 3, 3, 7, 0, 0, 4, 9, 8, 0, 0, 0};
+    static const uint32_t six[7] = {RINKOLZA_COST, RINKOLZA_SEQUENCE, RINKOLZA_NO_LABEL, 0, 9, RINKOLZA_REWRITE_BY_MARK, 0}, allowed[] = {4};
+    /* machine, state, label, whether 4 alone is allowed; what is returned, and the number */
+    static const uint32_t asked[][6] = {
+        {2, 0, 3, 0, 0, 3}, {2, 0, 3, 1, 0, 2}, {2, 0, 4, 1, 0, 1}, {2, 0, RINKOLZA_EPSILON, 0, 0, 2}, {2, 0, RINKOLZA_NO_LABEL, 0, 0, 1}, {1, 0, 9, 0, 0, 1},
+        {1, 0, RINKOLZA_EPSILON, 0, 0, 1}, {2, 0, 9, 0, RINKOLZA_REFUSED_SIGMA_WALKED, 77}, {2, 1, 9, 0, RINKOLZA_REFUSED_NOT_FOUND, 77}, {3, 0, 3, 0, RINKOLZA_REFUSED_NOT_FOUND, 77},
+    };
+    uint32_t number[2];
+    size_t i, n;
+    for (i = 0; i < LEN(asked); i++) {
+        const uint32_t *a = asked[i];
+        number[0] = number[1] = 77;
+        need(rinkolza_fan_out(six, 6, one, LEN(one), two, LEN(two), NULL, 0, 0, allowed, 1, a[3], a[0], a[1], a[2], number, RINKOLZA_FAN_OUT_WORDS) == a[4], "what a look-up returns");
+        need(number[0] == a[5] && number[1] == 77, "the number of a look-up");
+    }
+    /* settings of one word too few or too many, and an answer of none or of two */
+    for (n = 0; n <= 2; n++) {
+        number[0] = 77;
+        need(rinkolza_fan_out(six, 5 + n, one, LEN(one), two, LEN(two), NULL, 0, 0, NULL, 0, 0, 2, 0, 3, number, 1) == (n == 1 ? 0 : 1), "a look-up: settings");
+        need(number[0] == (n == 1 ? 3 : 77), "a look-up: written");
+        number[0] = 77;
+        need(rinkolza_fan_out(six, 6, one, LEN(one), two, LEN(two), NULL, 0, 0, NULL, 0, 0, 2, 0, 3, number, n) == (n == 1 ? 0 : 1), "a look-up: answer");
+        need(number[0] == (n == 1 ? 3 : 77), "a look-up: written");
+    }
+}
+
 /* The listing of document 01. */
 static void list(void) {
     static const char *const sides[3] = {"input", "output", "both"};
@@ -111,10 +140,10 @@ typedef struct {
 } slice;
 
 #define SLICES 9
-#define LENDINGS (2 * SLICES + 2)
+#define LENDINGS (2 * SLICES + 3)
 #define PAGES 8
 
-/* Slice `which`, a second one of the sort at SLICES + `which`, or a memo at 2 * SLICES and behind: `held` words of `from`, then others. */
+/* Slice `which`, a second one of the sort at SLICES + `which`, a memo at 2 * SLICES and behind, or a number of matches after them: `held` words of `from`, then others. */
 static slice lend(int which, const uint32_t *from, size_t n, size_t held) {
     static unsigned char *ends[LENDINGS];
     static uint32_t olds[LENDINGS][RINKOLZA_STATE_WORDS * RECORDS];
@@ -145,7 +174,7 @@ static uint32_t draw(void) {
     return seed >> 8;
 }
 
-static unsigned long calls, refused, trusted, recalled, expanded;
+static unsigned long calls, refused, trusted, recalled, expanded, looked_up;
 
 /* What a call after the opening is lent, the slices in the order of `all` below; without the session, and with it. */
 #define REST(x) (x)[2].w, (x)[2].n, (x)[3].w, (x)[3].n, (x)[8].w, (x)[8].n, has, (x)[8].w, (x)[8].n, has, (x)[4].w, (x)[4].n, (x)[5].w, (x)[5].n, (x)[6].w, (x)[6].n
@@ -224,7 +253,20 @@ static void trust(int call, const slice *x, uint32_t n, uint32_t has, uint32_t r
     if (call == 3) need(next[1] == y[1].w[RINKOLZA_SESSION_USED_STATES] - next[0] && (r != 0) == (next[1] > 0) && (r == 0 || y[5].w[RINKOLZA_STATE_WORDS * next[0] + 3] == 0), "where a run stopped");
 }
 
-/* All five calls on fresh copies of the words, with slices of the given lengths and, where `damage` is not 0, some words replaced. */
+/* A look-up on the words of an opening that returned r: refused by 1 to 7 as that is, and written to where it is accepted alone. A session of another length is the opening's own 1. */
+static void look_up(const slice *x, uint32_t has, uint32_t r) {
+    uint32_t label = draw() % 4 ? draw() % 8 : RINKOLZA_MAX - draw() % 2, got;
+    slice a = lend(2 * SLICES + 2, answer, draw() % 8 ? 1 : draw() % 3, 1);
+    got = rinkolza_fan_out(x[0].w, x[0].n, x[2].w, x[2].n, x[3].w, x[3].n, x[8].w, x[8].n, has, x[8].w, x[8].n, has, 1 + draw() % 2, draw() % 4, label, a.w, a.n);
+    looked_up += got == 0;
+    need(got == 0 || same(a), "a look-up that was refused wrote");
+    need(got == 0 || got == 9 || got == 11 || got < 8, "a look-up: a number of no refusal of it");
+    if (a.n != 1 || x[0].n != 6) need(got == 1, "a look-up: lengths");
+    else if (r == 0 || r > 7) need(got == 0 || got > 7, "a look-up: refused where an opening is not");
+    else if (x[1].n == 9) need(got == r, "a look-up: another refusal than the opening's");
+}
+
+/* All five calls, and with the opening a look-up, on fresh copies of the words, with slices of the given lengths and, where `damage` is not 0, some words replaced. */
 static void all_calls(size_t settings_len, size_t session_len, size_t answer_len, size_t heads_len, size_t states_len, size_t trs_len, int damage) {
     int call, i;
     for (call = 0; call < 5; call++) {
@@ -250,6 +292,7 @@ static void all_calls(size_t settings_len, size_t session_len, size_t answer_len
         default: rinkolza_records(LENT(all), n, a.w, a.n); break;
         }
         if (call != 0) trust(call, all, n, has, r);
+        else look_up(all, has, r);
         calls++;
         refused += r != 0;
         need(r <= 13, "a number of no refusal");
@@ -317,6 +360,7 @@ int main(void) {
     int round;
     each_filter();
     any_letter();
+    look_ups();
     list();
 
     /* expand again: as stored */
@@ -341,8 +385,9 @@ int main(void) {
         all_calls(6, 9, 2, 1 + draw() % 4, draw() % 48, draw() % 40, (int)(draw() % 4));
     }
     need(trusted > 10000, "few calls that do not check");
+    need(looked_up > 1000, "few look-ups");
     for (round = 0; round < 400; round++) one_by_one();
     need(recalled > 1000 && expanded > 10000, "few expansions with memos that know something");
-    fprintf(stderr, "%lu calls, %lu refused, %lu made without checks too, %lu of them expanded by memos of calls before; %lu expansions of drawn machines\n", calls, refused, trusted, recalled, expanded);
+    fprintf(stderr, "%lu calls, %lu refused, %lu made without checks too, %lu of them expanded by memos of calls before; %lu expansions of drawn machines; %lu look-ups\n", calls, refused, trusted, recalled, expanded, looked_up);
     return 0;
 }

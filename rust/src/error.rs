@@ -25,11 +25,11 @@ pub enum Refusal {
     NoSide = 7,
     /// 8: session or memory broken.
     Broken = 8,
-    /// 9: state not found yet.
+    /// 9: state not found yet; of a fan-out, no such state.
     NotFound = 9,
     /// 10: both states need matching.
     BothNeedMatching = 10,
-    /// 11: a walked label is sigma.
+    /// 11: a walked label, or one whose fan-out is asked for, is sigma.
     SigmaWalked = 11,
     /// 12: weight too large.
     TooLarge = 12,
@@ -89,7 +89,7 @@ impl Refusal {
             Refusal::Broken => {
                 "the session does not belong to these machines and this memory, or the memory is broken"
             }
-            Refusal::NotFound => "the state has not been found yet",
+            Refusal::NotFound => "there is no such state, or it has not been found yet",
             Refusal::BothNeedMatching => {
                 "both states have a sigma transition, so that neither machine can be walked"
             }

@@ -21,6 +21,9 @@
 //! readings that agree depends on its [`Filter`]: by the default and two others once; by the rest it may be more often,
 //! or never.
 //!
+//! [`Inputs::fan_out`] says how many matches a label has at a state of either machine, so that wide rules are found
+//! without composing.
+//!
 //! [`Composition`] keeps a composition open: it expands states one by one, as they are asked for, which costs some
 //! third more than a whole run (more where states are few), and shows how far a long run has come. A machine, and a
 //! composition, has at most [`LARGEST_COUNT`] states and as many transitions. What a composition may be refused for is a
@@ -45,8 +48,8 @@ mod weight_text;
 pub mod words;
 
 pub use error::{Error, Refusal};
-pub use machine::{By, Machine, Tr, EPSILON, LARGEST_COUNT, LARGEST_LABEL};
-pub use prepare::{to_sort, Inputs};
+pub use machine::{By, Machine, Tr, EPSILON, LARGEST_COUNT, LARGEST_LABEL, NO_LABEL};
+pub use prepare::{to_sort, Inputs, Which};
 pub use readings::{Reading, Readings};
 pub use session::{compose, Composition, Progress, Side, Triple};
 pub use settings::{Filter, Kind, Options, Rewrite, Room, Sigma, Sort};

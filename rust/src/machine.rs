@@ -11,6 +11,9 @@ use std::ops::Range;
 pub const EPSILON: u32 = 0;
 /// The largest number that can be a label; 4294967295 never is one.
 pub const LARGEST_LABEL: u32 = u32::MAX - 1;
+/// The number that is never a label. Looked up, it has the epsilon transitions without the loop, see
+/// [`Inputs::fan_out`](crate::Inputs::fan_out).
+pub const NO_LABEL: u32 = u32::MAX;
 /// The most states, and the most transitions, that a machine or a composition may have.
 pub const LARGEST_COUNT: usize = 16_777_215;
 
@@ -37,9 +40,17 @@ impl Tr {
             target,
         }
     }
+
+    /// The label on this side.
+    pub const fn label(&self, by: By) -> u32 {
+        match by {
+            By::Input => self.input,
+            By::Output => self.output,
+        }
+    }
 }
 
-/// The side of a machine by whose labels its lists are sorted.
+/// The side of a machine by whose labels its lists are sorted or looked up.
 #[derive(Clone, Copy, Debug, PartialEq, Eq)]
 pub enum By {
     /// By input labels; the second machine's inner side.
@@ -281,14 +292,14 @@ impl Machine {
             state
                 .trs
                 .windows(2)
-                .all(|w| label(by, &w[0]) <= label(by, &w[1]))
+                .all(|w| w[0].label(by) <= w[1].label(by))
         })
     }
 
     /// Sorts every list; transitions with equal labels stay in their order.
     pub fn sort(&mut self, by: By) {
         for state in &mut self.states {
-            state.trs.sort_by_key(|tr| label(by, tr));
+            state.trs.sort_by_key(|tr| tr.label(by));
         }
     }
 
@@ -308,13 +319,6 @@ fn one_more(count: usize, what: &str) -> Result<(), Error> {
     Err(Error::Machine(format!(
         "a machine has at most {LARGEST_COUNT} {what}"
     )))
-}
-
-fn label(by: By, tr: &Tr) -> u32 {
-    match by {
-        By::Input => tr.input,
-        By::Output => tr.output,
-    }
 }
 
 #[cfg(test)]

@@ -2,10 +2,30 @@
 
 #![forbid(unsafe_code)]
 
+use crate::error::{Error, Refusal};
 use crate::machine::{By, Machine};
 use crate::settings::{Options, Sort};
-use crate::sys::Lent;
+use crate::sys::{self, Lent};
 use crate::words::{self, Marks};
+
+/// One of the two machines of a composition.
+#[derive(Clone, Copy, Debug, PartialEq, Eq, Hash)]
+pub enum Which {
+    /// The first, which is looked up by its output labels.
+    First,
+    /// The second, which is looked up by its input labels.
+    Second,
+}
+
+impl Which {
+    /// The machine's number, 1 or 2, as in the library's header.
+    pub fn number(self) -> u32 {
+        match self {
+            Which::First => 1,
+            Which::Second => 2,
+        }
+    }
+}
 
 /// What a composition is made of, in the words that the library takes (machines: see [`words`](crate::words)); it stays
 /// the same through all calls.
@@ -44,6 +64,42 @@ impl Inputs {
             allowed1: self.allowed1.as_deref(),
             allowed2: self.allowed2.as_deref(),
         }
+    }
+
+    /// The fan-out of a look-up: how many matches the label has at a state of one of the machines. The state's number is
+    /// that in its machine, which sorting does not change.
+    ///
+    /// The first machine is looked up by its outputs, the second by its inputs, each with its own sigma: the transitions
+    /// with the label count, and those with sigma where it may match the label. [`EPSILON`](crate::EPSILON) has a match
+    /// for the machine at rest (the loop) and one for each epsilon transition, [`NO_LABEL`](crate::NO_LABEL) the latter
+    /// alone. These are the matches that an expansion pairs with each transition that it walks.
+    ///
+    /// Nothing is opened for it and nothing kept: each call goes through both machines, as an opening does.
+    ///
+    /// # Errors
+    ///
+    /// [`Error::Refused`] by the numbers 1 to 7, as by an opening; then by [`Refusal::NotFound`] where the machine has no
+    /// such state; then by [`Refusal::SigmaWalked`] where the label is the machine's sigma label. It names no composed
+    /// state.
+    ///
+    /// ```
+    /// use rinkolza::{text, Format, Inputs, Machine, Options, Sigma, Which, EPSILON, NO_LABEL};
+    ///
+    /// // The letter 2 has two rules, any letter (9) has one; an epsilon leads on without a letter.
+    /// let rules = "0 0 2 2 5\n0 1 2 3\n0 0 9 9\n0 1 0 4\n1\n";
+    /// let rules = text::read(rules, "rules", &Format::default())?;
+    /// let options = Options::new().with_sigma2(Sigma::new(9));
+    /// let inputs = Inputs::of(&Machine::new(), &rules, &options);
+    /// assert_eq!(inputs.fan_out(Which::Second, 0, 2)?, 3);
+    /// assert_eq!(inputs.fan_out(Which::Second, 0, 7)?, 1);
+    /// assert_eq!(inputs.fan_out(Which::Second, 0, EPSILON)?, 2);
+    /// assert_eq!(inputs.fan_out(Which::Second, 0, NO_LABEL)?, 1);
+    /// assert_eq!(inputs.fan_out(Which::Second, 1, 2)?, 0);
+    /// # Ok::<(), rinkolza::Error>(())
+    /// ```
+    pub fn fan_out(&self, machine: Which, state: u32, label: u32) -> Result<u32, Error> {
+        sys::fan_out(&self.settings, &self.lent(), machine.number(), state, label)
+            .map_err(|number| Error::refused(Refusal::known(number)))
     }
 }
 

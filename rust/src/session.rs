@@ -9,7 +9,7 @@
 
 use crate::error::{Error, Refusal};
 use crate::machine::Machine;
-use crate::prepare::Inputs;
+use crate::prepare::{Inputs, Which};
 use crate::settings::{Options, Room, FEW_STATES, FEW_TRS};
 use crate::sys::Owned;
 use crate::words::{self, Trs};
@@ -174,6 +174,30 @@ impl Composition {
     pub fn final_weight(&self, n: u32) -> Result<Option<u32>, Error> {
         let weight = self.owned.final_weight(n);
         weight.map_err(|number| Error::refused(Refusal::known(number)).at(Some(n)))
+    }
+
+    /// How many matches the look-up of a label has at a state of one of the two machines, see [`Inputs::fan_out`]. The
+    /// state's number is that in its machine; [`Composition::triple`] tells of which two a composed state is made. Each
+    /// call goes through both machines.
+    ///
+    /// # Errors
+    ///
+    /// [`Error::Refused`], without a composed state, by [`Refusal::NotFound`] where the machine has no such state, or by
+    /// [`Refusal::SigmaWalked`] where the label is the machine's sigma label.
+    ///
+    /// ```
+    /// use rinkolza::{Composition, Machine, Options, Tr, Which};
+    ///
+    /// let word = Machine::from_lists(Some(0), &[(0, Tr::new(1, 5, 2, 1))], &[(1, 0)])?;
+    /// let rules = [(0, Tr::new(5, 8, 1, 0)), (0, Tr::new(5, 9, 3, 0))];
+    /// let rules = Machine::from_lists(Some(0), &rules, &[(0, 4)])?;
+    /// let mut composition = Composition::open(&word, &rules, &Options::default())?;
+    /// assert_eq!(composition.fan_out(Which::Second, 0, 5)?, 2);
+    /// assert_eq!(composition.expand(0)?.len(), 2);
+    /// # Ok::<(), rinkolza::Error>(())
+    /// ```
+    pub fn fan_out(&self, machine: Which, state: u32, label: u32) -> Result<u32, Error> {
+        self.owned.inputs().fan_out(machine, state, label)
     }
 
     /// The transitions of state n, where it is expanded; else none.

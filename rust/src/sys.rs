@@ -5,7 +5,7 @@
 //! points to as many words as its length says and that a slice that is written overlaps no other; Rust's slices and
 //! borrows give both.
 //!
-//! The five functions here answer any words: machines, settings, sessions and memory may be damaged, and each call
+//! The six functions here answer any words: machines, settings, sessions and memory may be damaged, and each call
 //! checks them anew. The calls that do not check are made by [`Owned`] alone, which nobody else can write to.
 
 use crate::error::{reserve, Error, Refusal};
@@ -243,6 +243,52 @@ pub fn records<'m>(lent: &Lent<'_>, session: &Session, memory: &'m Memory, n: u3
         [n, answer.as_mut_ptr(), answer.len()]
     );
     memory.part(answer[0], answer[1])
+}
+
+/// How many matches the look-up of a label has at a state of machine 1, by its outputs, or 2, by its inputs: the loop and
+/// sigma matches included. Label 0: the loop and the epsilon transitions; label 4294967295: the epsilon transitions alone.
+/// No session is needed and no memory.
+///
+/// # Errors
+///
+/// The refusal's number: 1 to 7 as an opening's; 9 where there is no such machine or state; 11 where the label is that
+/// machine's sigma label.
+pub fn fan_out(
+    settings: &[u32; 6],
+    lent: &Lent<'_>,
+    machine: u32,
+    state: u32,
+    label: u32,
+) -> Result<u32, u32> {
+    let (list1, has1) = listed(lent.allowed1);
+    let (list2, has2) = listed(lent.allowed2);
+    let mut answer = [0; 1];
+    // SAFETY: every pointer and length is that of a live slice; the answer, which is written, is borrowed as such.
+    let number = unsafe {
+        rinkolza_fan_out(
+            settings.as_ptr(),
+            settings.len(),
+            lent.first.as_ptr(),
+            lent.first.len(),
+            lent.second.as_ptr(),
+            lent.second.len(),
+            list1.as_ptr(),
+            list1.len(),
+            has1,
+            list2.as_ptr(),
+            list2.len(),
+            has2,
+            machine,
+            state,
+            label,
+            answer.as_mut_ptr(),
+            answer.len(),
+        )
+    };
+    match number {
+        0 => Ok(answer[0]),
+        refused => Err(refused),
+    }
 }
 
 /// A composition that owns its inputs, session and memory, so that its calls need not check them.
@@ -606,6 +652,26 @@ extern "C" {
         answer: *mut u32,
         answer_len: usize,
     );
+
+    fn rinkolza_fan_out(
+        settings: *const u32,
+        settings_len: usize,
+        m1: *const u32,
+        m1_len: usize,
+        m2: *const u32,
+        m2_len: usize,
+        allowed1: *const u32,
+        allowed1_len: usize,
+        has1: u32,
+        allowed2: *const u32,
+        allowed2_len: usize,
+        has2: u32,
+        machine: u32,
+        state: u32,
+        label: u32,
+        answer: *mut u32,
+        answer_len: usize,
+    ) -> u32;
 
     fn rinkolza_trusted_expand(
         session: *mut u32,

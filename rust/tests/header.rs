@@ -7,12 +7,13 @@ use rinkolza::{sys, Options, Refusal, LARGEST_COUNT};
 use std::fs;
 use std::path::Path;
 
-const CALLS: [&str; 10] = [
+const CALLS: [&str; 11] = [
     "rinkolza_open",
     "rinkolza_expand",
     "rinkolza_final_weight",
     "rinkolza_run",
     "rinkolza_records",
+    "rinkolza_fan_out",
     "rinkolza_trusted_expand",
     "rinkolza_trusted_final_weight",
     "rinkolza_trusted_records",

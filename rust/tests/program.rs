@@ -2,8 +2,8 @@
 
 mod common;
 
-use common::FILTERS;
-use rinkolza::{compose, text, Filter, Format, Options};
+use common::{Draw, FILTERS};
+use rinkolza::{compose, text, words, By, Filter, Format, Inputs, Machine, Options, Sigma, Which};
 use std::collections::BTreeSet;
 use std::io::Write;
 use std::path::PathBuf;
@@ -289,6 +289,30 @@ fn wrong_calls() {
 }
 
 #[test]
+fn wrong_calls_of_fan_out() {
+    let glyphs = example("glyphs.txt");
+    for words in [
+        &["fan-out"][..],
+        &["fan-out", "-", &glyphs],
+        &["fan-out", "--by=both", "-"],
+        &["fan-out", "--top=0", "-"],
+        &["fan-out", "--top=-1", "-"],
+        &["fan-out", "--top=ten", "-"],
+        &["fan-out", "--sigma=x", "-"],
+        &["fan-out", "--allowed=3", "-"],
+        &["fan-out", "--sort=input", "-"],
+        &["fan-out", "--show-weight-one", "-"],
+        &["print", "--top=3", "-"],
+    ] {
+        let (status, error) = complaint(words, "");
+        assert!(
+            status == 2 && error.contains("--help"),
+            "{words:?}: {error}"
+        );
+    }
+}
+
+#[test]
 fn refusals_in_words() {
     let folder = std::env::temp_dir().join(format!("rinkolza-program-{}", std::process::id()));
     std::fs::create_dir_all(&folder).unwrap();
@@ -363,6 +387,148 @@ fn sigma_by_its_options() {
     }
 }
 
+/// What `fan-out` prints of a machine, below its heading and with spaces for tabs.
+fn widest(options: &[&str], machine: &str) -> String {
+    let output = call(&[&["fan-out"], options, &["-"]].concat(), machine);
+    let (status, text, error) = said(&output);
+    assert_eq!((status, error), (0, ""), "{options:?}");
+    let rows = text.strip_prefix("state\tlabel\tmatches\n");
+    rows.expect("a heading").replace('\t', " ")
+}
+
+/// Of the inputs, state 0 has 2 and 3 twice, state 1 an epsilon, state 2 the label 5 three times, and state 3 nothing.
+#[test]
+fn the_widest_look_ups() {
+    let machine = "0 0 3 1\n0 1 2 1\n0 1 3 1\n0 2 2 8\n1 2 0 6\n\
+                   2 3 5 6\n2 3 4 7\n2 0 5 7\n2 0 5 6\n3\n";
+    for (options, rows) in [
+        (&[][..], "2 5 3\n0 2 2\n1 0 2\n"),
+        (&["--by=input", "--top=3"], "2 5 3\n0 2 2\n1 0 2\n"),
+        (&["--top", "2"], "2 5 3\n0 2 2\n"),
+        (&["--by=output"], "0 1 3\n2 6 2\n1 6 1\n"),
+        (&["--by=output", "--top=1"], "0 1 3\n"),
+        (&["--kind=count"], "2 5 3\n0 2 2\n1 0 2\n"),
+        (&["--sigma=4"], "2 5 4\n0 2 2\n1 0 2\n"),
+    ] {
+        assert_eq!(widest(options, machine), rows, "{options:?}");
+    }
+    assert_eq!(widest(&[], ""), "");
+    let lines: String = (0..12).map(|state| format!("{state} 0 1 1\n")).collect();
+    assert_eq!(widest(&[], &lines).lines().count(), 10);
+    assert_eq!(widest(&["--top=100"], &lines).lines().count(), 12);
+    let kept = widest(&["--keep-state-numbering", "--acceptor"], "7 4 9\n7 4 9\n");
+    assert_eq!(kept, "7 9 2\n");
+}
+
+/// State 0 has the letter 2 twice and sigma, 9; state 1 sigma alone, twice; state 2 an epsilon, the letter 5 and sigma.
+#[test]
+fn the_widest_look_ups_with_sigma() {
+    let machine = "0 0 2 2\n0 0 2 3\n0 1 9 9\n1 1 9 9\n1 2 9 9\n2 2 0 1\n2 0 9 1\n2 0 5 1\n";
+    for (options, rows) in [
+        (&[][..], "0 2 2\n1 9 2\n2 0 2\n"),
+        (&["--sigma=9"], "0 2 3\n1 other 2\n2 0 2\n"),
+        (&["--sigma=9", "--allowed=5"], "0 2 2\n1 other 2\n2 0 2\n"),
+        (&["--sigma=9", "--allowed=0,2"], "0 2 3\n1 other 2\n2 0 2\n"),
+        (&["--sigma=9", "--allowed=0,9"], "0 2 2\n2 0 2\n"),
+        (&["--sigma=9", "--allowed="], "0 2 2\n2 0 2\n"),
+        (&["--by=output", "--sigma=9"], "2 1 3\n0 2 2\n1 other 2\n"),
+    ] {
+        assert_eq!(widest(options, machine), rows, "{options:?}");
+    }
+    let (status, error) = complaint(&["fan-out", "--sigma=0", "-"], machine);
+    assert_eq!(status, 1);
+    assert!(
+        error.starts_with("rinkolza: refused 4: a sigma label is 0"),
+        "{error}"
+    );
+}
+
+#[test]
+fn the_widest_look_ups_by_symbols() {
+    let (symbols, glyphs) = (example("labels.syms"), example("glyphs.txt"));
+    let table = format!("--symbols={symbols}");
+    let rows = |options: &[&str]| {
+        let words = [&["fan-out", &table], options, &[&glyphs]].concat();
+        let output = call(&words, "");
+        let (status, text, error) = said(&output);
+        assert_eq!((status, error), (0, ""));
+        text.lines().skip(1).collect::<Vec<_>>().join(" ")
+    };
+    assert_eq!(rows(&[]), "0\tf\t2 1\ti\t1 2\tacute\t1");
+    assert_eq!(rows(&["--numeric"]), "0\t3\t2 1\t4\t1 2\t6\t1");
+    assert_eq!(rows(&["--by=output", "--top=1"]), "0\t<eps>\t3");
+    assert_eq!(
+        rows(&["--sigma=acute", "--top=3"]),
+        "0\tf\t2 1\ti\t1 2\tother\t1"
+    );
+    let one = format!("--isymbols={symbols}");
+    let acceptor = ["--acceptor", "--by=output", &one];
+    assert_eq!(widest(&acceptor, "0 0 V\n0 0 V\n"), "0 V 2\n");
+}
+
+/// The table of a machine by look-ups of every label of every state. 77 is a letter that no state names.
+fn rows_by_look_ups(machine: &Machine, by: By, sigma: &Sigma) -> String {
+    let (none, options) = (Machine::new(), Options::new());
+    let (inputs, which) = match by {
+        By::Input => (
+            Inputs::of(&none, machine, &options.with_sigma2(sigma.clone())),
+            Which::Second,
+        ),
+        By::Output => (
+            Inputs::of(machine, &none, &options.with_sigma1(sigma.clone())),
+            Which::First,
+        ),
+    };
+    let mut rows = Vec::new();
+    for state in machine.states() {
+        let mut labels: BTreeSet<u32> = machine.trs(state).iter().map(|tr| tr.label(by)).collect();
+        labels.retain(|label| Some(*label) != sigma.label);
+        labels.insert(77);
+        let look_up = |label| inputs.fan_out(which, state, label).unwrap();
+        let mut widest = (0, 0);
+        for label in labels {
+            widest = if look_up(label) > widest.1 {
+                (label, look_up(label))
+            } else {
+                widest
+            };
+        }
+        rows.push((std::cmp::Reverse(widest.1), state, widest.0));
+    }
+    rows.retain(|row| row.0 .0 > 0);
+    rows.sort_unstable();
+    let lines = rows
+        .iter()
+        .map(|(matches, state, label)| format!("{state} {label} {}\n", matches.0));
+    lines.collect::<String>().replace(" 77 ", " other ")
+}
+
+#[test]
+fn the_table_is_that_of_all_look_ups() {
+    let mut draw = Draw(181);
+    let mut met = BTreeSet::new();
+    for round in 0..40 {
+        let machine = words::decode(&draw.machine(None, 9, 9)).unwrap();
+        let text = text::write(&machine, &Format::default()).unwrap();
+        let mut sigma = Sigma::default();
+        let mut options = vec!["--keep-state-numbering", "--top=99"];
+        if round % 3 > 0 {
+            sigma = Sigma::new(3);
+            options.push("--sigma=3");
+        }
+        if round % 3 > 1 {
+            sigma = sigma.with_allowed([2, 77]);
+            options.push("--allowed=77,2");
+        }
+        let by = [By::Input, By::Output][round % 2];
+        options.push(["--by=input", "--by=output"][round % 2]);
+        let rows = rows_by_look_ups(&machine, by, &sigma);
+        assert_eq!(widest(&options, &text), rows, "{options:?} of {text}");
+        met.extend(rows.split_whitespace().map(str::to_string));
+    }
+    assert!(met.contains("other") && met.contains("8"), "{met:?}");
+}
+
 /// The commands of README's part on sigma, with what it says that they print.
 #[test]
 fn the_readme_on_sigma() {
@@ -425,6 +591,11 @@ fn helpful_words() {
         let (status, error) = complaint(&["compose", option, "-", "a"], "");
         assert!(status == 2 && error.contains(word), "{option}: {error}");
     }
+    for option in ["--sigma1=3", "--sigma2=3", "--sigma_label=3"] {
+        let (status, error) = complaint(&["fan-out", option, "-"], "");
+        let word = "it is named by --sigma (";
+        assert!(status == 2 && error.contains(word), "{option}: {error}");
+    }
     let (status, error) = complaint(&["print", "-"], "\u{feff}0 1 5 6\n");
     assert!(
         status == 3 && error.contains("standard input:1: the text begins with a byte-order mark"),
@@ -470,7 +641,7 @@ fn the_help_fits_and_names_every_option() {
         assert!(help.contains(&format!("--{name}")), "--{name}");
         count += 1;
     }
-    assert_eq!(count, 24);
+    assert_eq!(count, 28);
     for word in [
         "16777215",
         "refused 13",
@@ -555,6 +726,15 @@ fn four_hundred_glyphs_with_kerning_in_full() {
     let composed = composed_with(&[], &(first + &last), &second, "kerning");
     // Not `assert_eq`: the texts are long.
     assert!(composed == expected + &last);
+}
+
+/// 160400 transitions; of all states the last alone has a glyph twice, and every state is printed.
+#[test]
+fn the_widest_look_ups_of_kerning_in_full() {
+    let machine = kerning(400) + "400\t1\t7\t7\n";
+    let rows = widest(&["--top=1000"], &machine);
+    let others: String = (0..400).map(|state| format!("{state} 1 1\n")).collect();
+    assert_eq!(rows, "400 7 2\n".to_string() + &others);
 }
 
 const PRIME: u64 = (1 << 61) - 1;

@@ -1,4 +1,4 @@
-//! Every call does with a small stack: all ten are made on a thread with 160 KiB of it, 48 of them taken where nothing is checked, on machines that take the checks through all their
+//! Every call does with a small stack: all eleven are made on a thread with 160 KiB of it, 48 of them taken where nothing is checked, on machines that take the checks through all their
 //! paths, and answer as on the main thread.
 
 mod common;
@@ -33,6 +33,7 @@ struct Checked {
     expanded: Vec<Result<Vec<Tr>, u32>>,
     ran: Result<(), u32>,
     weights: Vec<Result<Option<u32>, u32>>,
+    fan_outs: Vec<Result<u32, u32>>,
     left: Fixed,
 }
 
@@ -47,7 +48,16 @@ struct Trusted {
     left: Owned,
 }
 
-/// Opens, expands, runs, weighs and hands back; each of the calls on expansions checks the records too.
+/// The look-ups of some labels at the start of either machine, and at a state that is not there.
+fn fan_outs(inputs: &Inputs) -> Vec<Result<u32, u32>> {
+    let queries = [[1, 0, 0], [1, 0, 5], [2, 0, 3], [2, 0, MANY], [2, MANY, 1]];
+    let look_up = |[machine, state, label]: [u32; 3]| {
+        sys::fan_out(&inputs.settings, &inputs.lent(), machine, state, label)
+    };
+    queries.map(look_up).to_vec()
+}
+
+/// Opens, expands, runs, weighs, hands back and looks up; each of the calls on expansions checks the records too.
 fn checked(inputs: Inputs) -> Result<Checked, u32> {
     let mut left = Fixed::open(inputs, MOST)?;
     let expanded = (0..4).map(|n| left.expand(n)).collect();
@@ -58,6 +68,7 @@ fn checked(inputs: Inputs) -> Result<Checked, u32> {
         weights: (0..left.found().min(9))
             .map(|n| left.final_weight(n))
             .collect(),
+        fan_outs: fan_outs(&left.inputs),
         left,
     })
 }

@@ -207,7 +207,7 @@ pub trait World: Sized {
     fn trs(&self, n: u32) -> Vec<Tr>;
 }
 
-/// The five calls that check, in memory that stays as it is.
+/// The five calls that check and are lent memory, which stays as it is.
 #[derive(Clone, Debug, PartialEq, Eq)]
 pub struct Fixed {
     pub inputs: Inputs,

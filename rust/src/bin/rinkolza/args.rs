@@ -9,8 +9,10 @@ struct Known {
     commands: &'static [&'static str],
 }
 
-const EACH: &[&str] = &["compose", "print", "draw"];
+const EACH: &[&str] = &["compose", "print", "draw", "fan-out"];
+const MACHINES: &[&str] = &["compose", "print", "draw"];
 const COMPOSE: &[&str] = &["compose"];
+const FAN_OUT: &[&str] = &["fan-out"];
 
 const fn known(name: &'static str, value: bool, commands: &'static [&'static str]) -> Known {
     Known {
@@ -20,16 +22,16 @@ const fn known(name: &'static str, value: bool, commands: &'static [&'static str
     }
 }
 
-const OPTIONS: [Known; 24] = [
+const OPTIONS: [Known; 28] = [
     known("kind", true, EACH),
     known("symbols", true, EACH),
     known("isymbols", true, EACH),
     known("osymbols", true, EACH),
     known("numeric", false, EACH),
     known("keep-state-numbering", false, EACH),
-    known("show-weight-one", false, EACH),
+    known("show-weight-one", false, MACHINES),
     known("output", true, EACH),
-    known("sort", true, EACH),
+    known("sort", true, MACHINES),
     known("acceptor", false, EACH),
     known("acceptor1", false, COMPOSE),
     known("acceptor2", false, COMPOSE),
@@ -45,10 +47,14 @@ const OPTIONS: [Known; 24] = [
     known("triples", false, COMPOSE),
     known("progress", false, COMPOSE),
     known("words", false, &["print"]),
+    known("by", true, FAN_OUT),
+    known("top", true, FAN_OUT),
+    known("sigma", true, FAN_OUT),
+    known("allowed", true, FAN_OUT),
 ];
 
-/// For those who know OpenFst's tools: what stands for an option of theirs.
-fn hint(name: &str) -> String {
+/// For those who know OpenFst's tools, or another command: what stands for an option of theirs.
+fn hint(command: &str, name: &str) -> String {
     let ours = name.replace('_', "-");
     match ours.as_str() {
         "connect" => {
@@ -58,7 +64,12 @@ fn hint(name: &str) -> String {
         "rho1" | "rho2" | "rho-label" => {
             ": a label for the rest, which OpenFst calls rho, is not offered; sigma (--sigma1, --sigma2) is any letter".to_string()
         }
-        "sigma" | "sigma-label" => ": it is named by --sigma1 or --sigma2".to_string(),
+        "sigma" | "sigma-label" | "sigma1" | "sigma2" if command == "fan-out" => {
+            ": it is named by --sigma".to_string()
+        }
+        "sigma" | "sigma-label" if command == "compose" => {
+            ": it is named by --sigma1 or --sigma2".to_string()
+        }
         _ if ours != name && OPTIONS.iter().any(|option| option.name == ours) => format!(": it is --{ours}"),
         _ => String::new(),
     }
@@ -140,13 +151,17 @@ impl Args {
         let option = OPTIONS
             .iter()
             .find(|option| option.name == name)
-            .ok_or_else(|| Stop::usage(format!("there is no option --{name}{}", hint(name))))?;
+            .ok_or_else(|| {
+                let hint = hint(&self.command, name);
+                Stop::usage(format!("there is no option --{name}{hint}"))
+            })?;
         if EACH.contains(&self.command.as_str())
             && !option.commands.contains(&self.command.as_str())
         {
             return Err(Stop::usage(format!(
-                "{} has no option --{name}",
-                self.command
+                "{} has no option --{name}{}",
+                self.command,
+                hint(&self.command, name)
             )));
         }
         let value = match (option.value, value) {

@@ -135,7 +135,8 @@ fn sigma(args: &Args, machine: &str, symbols: Option<&SymbolTable>) -> Result<Si
     Ok(sigma)
 }
 
-fn labels(option: &str, list: &str, symbols: Option<&SymbolTable>) -> Result<Vec<u32>, Stop> {
+/// Labels on the command line, apart by commas.
+pub fn labels(option: &str, list: &str, symbols: Option<&SymbolTable>) -> Result<Vec<u32>, Stop> {
     list.split(',')
         .filter(|word| !word.is_empty())
         .map(|word| label(option, word, symbols))
@@ -143,7 +144,7 @@ fn labels(option: &str, list: &str, symbols: Option<&SymbolTable>) -> Result<Vec
 }
 
 /// A label on the command line: a symbol of the table, without a table a number.
-fn label(option: &str, word: &str, symbols: Option<&SymbolTable>) -> Result<u32, Stop> {
+pub fn label(option: &str, word: &str, symbols: Option<&SymbolTable>) -> Result<u32, Stop> {
     match symbols {
         Some(table) => table.number(word).ok_or_else(|| {
             Stop::usage(format!(
@@ -213,7 +214,8 @@ fn counts(composition: &Composition, machine: &Machine) -> String {
     )
 }
 
-fn refused(error: Error) -> Stop {
+/// An error of the crate: a refusal, or what else there is.
+pub fn refused(error: Error) -> Stop {
     match error.refusal() {
         Some(_) => Stop::new(REFUSED, error),
         None => Stop::new(INPUT, error),

@@ -4,6 +4,7 @@
 
 mod args;
 mod compose;
+mod fan_out;
 mod files;
 
 use args::{Args, Stop, INPUT};
@@ -34,11 +35,14 @@ fn run() -> Result<(), Stop> {
     match args.command.as_str() {
         "compose" => compose::compose(&args),
         "print" | "draw" => one_machine(&args),
+        "fan-out" => fan_out::fan_out(&args),
         "--help" | "-h" | "help" => write_out(&args, HELP),
         "--version" | "-V" => {
             write_out(&args, concat!("rinkolza ", env!("CARGO_PKG_VERSION"), "\n"))
         }
-        "" => Err(Stop::usage("say what to do: compose, print or draw")),
+        "" => Err(Stop::usage(
+            "say what to do: compose, print, draw or fan-out",
+        )),
         other => Err(Stop::usage(format!("there is no command {other}"))),
     }
 }
