@@ -16,7 +16,7 @@ use Rattle.words.specs.Matches.{Match}
 use Rattle.words.specs.Machines.{acceptorMark, firstOf, machineOf}
 use Rattle.words.specs.Sigmas.{Operand, rewritesBoth, lookup, rewrite}
 use Rattle.words.specs.Settings.{operandOf}
-use Rattle.words.proofs.CheckedLaws.{good-is, refused-is, good≢refused}
+use Rattle.words.proofs.CheckedLaws.{good-is, refused-is, good≢refused, past-then}
 use Rattle.words.proofs.ListLaws.{list-distinct}
 use Rattle.words.proofs.PapersLookup.{SameEdge, found-apart}
 use Rattle.fst.specs.Meaning.{onOf}
@@ -31,7 +31,9 @@ use Rattle.matchers.specs.declared.IterItemMatcher.{IterItemMatcher}
 use Rattle.matchers.specs.declared.Cursor.{Cursor}
 use Rattle.matchers.specs.declared.Step.{Step}
 use Rattle.matchers.specs.declared.sigma_matcher.Sigma.{Sigma}
-use Rattle.matchers.proofs.Asking.{NextReply, gives}
+use Rattle.matchers.specs.declared.sigma_matcher.SigmaIter.{SigmaIter}
+use Rattle.matchers.specs.declared.sigma_matcher.SigmaIter.the-variants.{At as From}
+use Rattle.matchers.proofs.Asking.{SigmaReply, NextReply, gives, sigma-asked-on}
 use Rattle.matchers.proofs.Held.{after-holds, first-holds, place-from}
 use Rattle.counted_iter.specs.Counted.{countMeans, firstMeans, GoesOnAt}
 use Rattle.counted_iter.specs.HandedOut.{HandsOut, HandedOut, CountsOrRefuses}
@@ -46,6 +48,19 @@ CountedReply κs w allowed on sigma s x i = counted-iter.Learnt κs (w, (on, (si
 -- what gives these matches hands out as many
 hands : (Answers : Cursor → Step → Type 0) (m : List ℕ) (s : ℕ) (q : LookUp) (item : Match → Item) (us : List Match) (c : Cursor) → Gives Answers m s q item us c → HandsOut Answers c (length us)
 hands Answers m s q item us c g = record { gives = λ k r a h. let u = at-place us k h in (item (u .0), g .inOrder k r a (u .0) (u .1)); ends = g .thenNone }
+
+-- The look-up that does not count hands out as many: asked on from its first cursor, by the theorem of 2.5.
+pub sigma-hands-out : (κs : Lfts 2) (κt : Lfts 1) (w allowed : RefT (List ℕ)) (on : MatchType) (sigma : Sigma) (s : StateId) (x : Label) (i : SigmaIter)
+    → SigmaReply κs w allowed on sigma s x i
+    →
+    let o = operandOf (onOf on) (now w) (sigma .label .0) (sigma .mode) (allowedOf (sigma .listed) (now allowed)) in
+    (n : ℕ) → fanOut o (s .0) (x .0) ≡ good n → (c : Cursor) × (i ≡ From c) × HandsOut (NextReply κt w) c n
+unfolding fanOut
+sigma-hands-out κs κt w allowed on sigma s x i h n e =
+    let o = operandOf (onOf on) (now w) (sigma .label .0) (sigma .mode) (allowedOf (sigma .listed) (now allowed)) in
+    let r = past-then (lookup o (s .0) (x .0)) (λ ms. good (length ms)) n e in
+    let g = sigma-asked-on κs κt w allowed on sigma s x i h .gives (r .0) (r .1) in
+    (g .0, g .1, subst (HandsOut (NextReply κt w) (g .0)) (good-is (r .2)) (hands _ (now w) (s .0) _ _ (r .0) (g .0) (g .2)))
 
 -- On any words, with any settings of sigma and any allowed list, at any state, of any label.
 pub count-is-handed-out : (κs : Lfts 2) (κt : Lfts 1) (w allowed : RefT (List ℕ)) (on : MatchType) (sigma : Sigma) (s : StateId) (x : Label) (i : CountedIter)
