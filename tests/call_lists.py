@@ -5,7 +5,8 @@
     python3 tests/call_lists.py --rust RUST     compares the model with the Rust on the machines that are drawn
 
 What must be printed is worked out by the model in model.py. RUST is the folder of rustfst's sources, or the program that oracle/build made around it; it knows
-no sessions and no memory, so what is compared with it are the side, the lists and final weights, where it is the reference (reference.py).
+no sessions and no memory, so what is compared with it are the side, the lists and final weights, where it is the reference (reference.py). Fan-outs of look-ups
+(request 2.6) stand after openings, and in lists of their own.
 """
 import os
 import random
@@ -15,20 +16,25 @@ from functools import partial
 from itertools import product
 
 import rust
+from fan_outs import drawn_query, of_fan_out, of_fan_outs
 from features import BOTH, Watched, of_cell, of_sigmas
-from gen import ADDED, ALL, FILTERS, own_and_sigma_case, sigma_case
+from gen import ADDED, ALL, FILTERS, own_and_sigma_case, sigma_case, unsorted_case
 from machine import LIMIT, MAX, Words
-from model import EXPANDED, FILTER_STATE, FIRST, MOVES, STATE_WORDS, TR_WORDS, Lent, World, filtered
+from model import EXPANDED, FILTER_STATE, FIRST, MOVES, STATE_WORDS, TR_WORDS, Lent, World, fan_out, filtered
 from reference import reference
 from state_cases import parsed
 
 SEED, CASES, OPENINGS = 1, 80, 3000
+# the lists of fan-outs alone that are drawn, to take few of them, and the fan-outs in each
+FAN_OUT_LISTS, IN_EACH = 2000, 6
 # the numbers that each call must answer somewhere in the lists
 WANTED = {"o": (0, 1, 2, 3, 4, 5, 6, 7, 13), "e": range(14), "f": (*range(10), 12), "r": (*range(9), 10, 11, 12, 13)}
 # request 2.1's "from any f": the cells that must be gone through from an f that only a changed record has
 ANY_F = [of_cell(filter, move, f, filtered(filter, move, None, None, f)) for filter, move, f in product(ADDED, MOVES, (1, 2))]
 # what must be shown of sigma, each in so many lists: a refusal is of a call that looked up a label with own and sigma matches
 SIGMAS, OFTEN = [*of_sigmas(), *(f"{BOTH}, refused {n}" for n in (11, 12, 13))], 3
+# and so of the fan-out of a look-up
+FAN_OUTS = [*of_fan_outs()]
 
 
 def weight(draw, kind):
@@ -90,15 +96,21 @@ def drawn_inputs(draw):
     return [settings, drawn_list(draw), drawn_list(draw), *(machine(draw, k, settings[0], settings[2 + 2 * k]) for k in (0, 1))]
 
 
+def fan_out_inputs(draw):
+    """The same, some with an aim at lists that fall."""
+    return unsorted_case(draw, ALL, 3) if draw.random() < 0.3 else drawn_inputs(draw)
+
+
 ODD = (0, 1, 2, 3, 4, 5, len(FILTERS), 7, 8, 9, 65536, LIMIT, LIMIT + 1, 2 ** 31, MAX)
 
 
 class Case:
-    """One list of calls: its lines in `asked`, what the program prints in `seen`, what its accepted calls passed in `passed`, the present one in `passing`."""
+    """One list of calls: its lines in `asked`, what the program prints in `seen`, what its accepted calls passed in `passed`, the present one in `passing`.
+    Fan-outs are drawn by `asking`, so that the other calls do not depend on them."""
 
-    def __init__(self, draw):
-        self.draw, self.asked, self.seen, self.passed, self.passing = draw, [], [], set(), set()
-        self.settings, *lists, m1, m2 = drawn_inputs(draw)
+    def __init__(self, draw, asking=None, inputs=drawn_inputs):
+        self.draw, self.asking, self.asked, self.seen, self.passed, self.passing = draw, asking, [], [], set(), set()
+        self.settings, *lists, m1, m2 = inputs(draw)
         self.lent = Lent(m1, m2, *lists)
         fill = draw.choice((0, 0, 7, MAX))
         sizes = (draw.choice((1, 2, 5)) * some(draw), STATE_WORDS * draw.choice((1, 3, 6, 12)) * some(draw) + draw.randrange(STATE_WORDS),
@@ -131,6 +143,15 @@ class Case:
     def open(self, settings):
         self.ask(8, *settings)
         self.answered("o", self.world.calling(self.world.open, settings, self.lent))
+        if self.asking.random() < 0.25:
+            self.fan_out(settings)
+
+    def fan_out(self, settings):
+        query = drawn_query(self.asking, settings, self.lent)
+        self.ask(14, *settings, *query)
+        answer = self.world.calling(fan_out, settings, self.lent, query)
+        self.answered("c", answer)
+        self.passed.update(of_fan_out(settings, self.lent, query, answer[0]))
 
     def call(self):
         found = self.world.session[7]
@@ -188,7 +209,11 @@ class Case:
             old = slice[i]
             self.word_set(which, i, draw.choice(ODD + (old + 1, max(1, old) - 1)) % 2 ** 32)
             return lambda: self.word_set(which, i, old)
-        k = draw.randint(0, 1)
+        return self.damage_machine()
+
+    def damage_machine(self):
+        """Changes one word of a machine; what it changes back."""
+        draw, k = self.draw, self.draw.randint(0, 1)
         old = self.lent.words[k]
         words = list(old)
         # often an inner label, so that a list falls
@@ -243,20 +268,47 @@ class Case:
         self.show()
         return self
 
+    def fan_outs(self):
+        """Fan-outs alone: with the settings, with another word among them, with a damaged machine."""
+        for _ in range(IN_EACH):
+            what, settings = self.draw.random(), list(self.settings)
+            if what < 0.2:
+                settings[self.draw.randrange(6)] = self.draw.choice(ODD)
+            back = self.damage_machine() if what > 0.9 else lambda: None
+            self.fan_out(settings)
+            back()
+        return self
+
     def shown(self):
         return {(r[0], r[1]) for r in self.seen if len(r) > 1} | self.passed
 
 
 def cases():
     """The first CASES lists, and of those drawn after them each that shows something which is wanted in more lists."""
-    draw, found = random.Random(SEED), []
+    draw, asking, found = random.Random(SEED), random.Random(SEED), []
     lacking = Counter({(letter, n): 1 for letter, numbers in WANTED.items() for n in numbers} | dict.fromkeys(ANY_F, 1) | dict.fromkeys(SIGMAS, OFTEN))
     while lacking or len(found) < CASES:
-        c = Case(draw).play()
+        c = Case(draw, asking).play()
         new = lacking & Counter(c.shown())
         if new or len(found) < CASES:
             found.append(c)
             lacking -= new
+    return found + fan_out_cases(found)
+
+
+def fan_out_cases(before):
+    """Lists of fan-outs alone, so that with the lists before them each sort stands in OFTEN: always the one that shows most of what is lacking for its length.
+    Fails where those drawn do not show it."""
+    draw, found = random.Random(SEED), []
+    drawn = [Case(draw, draw, fan_out_inputs).fan_outs() for _ in range(FAN_OUT_LISTS)]
+    lacking = Counter(dict.fromkeys(FAN_OUTS, OFTEN)) - Counter(row for c in before for row in c.shown())
+    while lacking:
+        c = max(drawn, key=lambda c: len(lacking & Counter(c.shown())) / sum(map(len, c.asked)))
+        new = lacking & Counter(c.shown())
+        assert new, f"not shown often enough: {lacking}"
+        found.append(c)
+        drawn.remove(c)
+        lacking -= new
     return found
 
 
@@ -273,11 +325,11 @@ def main():
     if sys.argv[1:2] == ["--rust"]:
         return compare(rust.oracle_at(sys.argv[2]))
     found = cases()
-    for row, n in sorted(Counter(row for c in found for row in c.shown().intersection([BOTH, *SIGMAS])).items()):
+    for row, n in sorted(Counter(row for c in found for row in c.shown().intersection([BOTH, *SIGMAS, *FAN_OUTS])).items()):
         print(f"{n:4} {row}")
     # the sizes of the arrays of the program
     asked = [" ".join(map(str, r)) for c in found for r in c.asked]
-    assert sum(len(r.split()) for r in asked) <= 32768 and sum(len(r) + 1 for r in asked) <= 65536
+    assert sum(len(r.split()) for r in asked) <= 32768 and sum(len(r) + 1 for r in asked) <= 98304
     folder = os.path.join(rust.ROOT, "crates/call_lists")
     for name, rows in (("stdin", (r for c in found for r in c.asked)), ("stdout", (r for c in found for r in c.seen))):
         with open(os.path.join(folder, name), "w") as f:

@@ -1,11 +1,13 @@
 #!/usr/bin/env python3
-"""Gives damaged input to the program `composed`, in pieces that end anywhere, and compares what it prints.
+"""Gives damaged input to the program `composed`, or to `fan_out`, in pieces that end anywhere, and compares what it prints.
 
     python3 tests/damaged.py RUST [--inputs N] [--seed S] [--composed PATH]
+    python3 tests/damaged.py --fan-out [PATH] [--inputs N] [--seed S]
 
 RUST and PATH as in tests/compare.py. What an input means is worked out here from document 01, "The listing": three lines of decimal words, or a line that is
 malformed. Where 1 to 3 refuse it that is the answer; else the one of tests/reference.py to the words. The Rust's harness also gets the bytes, reads them by
-itself, and must answer as it does to the words.
+itself, and must answer as it does to the words. `fan_out` reads the same three lines and a fourth (request 2.6); its answer is that of tests/model.py, and what
+its fourth lines were like after an accepted opening is counted too.
 Prints how often each damage was done and each answer came, and the first difference in full; the exit status is 1 where there is one. Defaults: 10000 inputs,
 a seed from the clock.
 """
@@ -22,8 +24,10 @@ from collections import Counter
 
 import rust
 from compare import program
+from fan_outs import answered, drawn_query
 from gen import ALL, FILTERS, listed, mixed
 from machine import LIMIT, MAX, Words
+from model import Lent
 from reference import reference
 
 BATCH = 500
@@ -59,7 +63,39 @@ def meaning(data):
     return [settings] + machines
 
 
-# -- damage to words: `lines` are the settings and the two machines
+def fourth(data):
+    """The fourth line; None where there is none."""
+    rows = data.split(b"\n")
+    return rows[3] if len(rows) > 4 or len(rows) == 4 and rows[3] else None
+
+
+def fan_out_meaning(data):
+    """What `fan_out` prints, and what that shows. The three lines as above; a missing fourth line is empty, and later ones are not read."""
+    m = meaning(data)
+    if isinstance(m, int):
+        return f"refused {m}\n", {f"fan-out refused {m}"}
+    return answered(m[0], Lent(*m[1:], None, None), words_of(fourth(data) or b""))
+
+
+def of_fourth(data):
+    """What the fourth line is like, by its bytes."""
+    line = fourth(data)
+    if line is None:
+        yield "missing"
+        return
+    words = re.findall(rb"[^ \t\r]+", line)
+    yield f"of {len(words) if len(words) < 5 else '5 and more'} words"
+    for name, sort in (("a tab", rb"\t"), ("a carriage return", rb"\r"), ("more than one blank", rb"[ \t\r]{2}"), ("a blank at an end", rb"^[ \t\r]|[ \t\r]$"),
+                       ("leading zeros", rb"(?<![0-9])0[0-9]"), ("another byte", rb"[^0-9 \t\r]")):
+        if re.search(sort, line):
+            yield name
+    if any(re.fullmatch(rb"[0-9]+", w) and int(w) > MAX for w in words):
+        yield "a word above MAX"
+    rows = data.split(b"\n")
+    yield "ends with the input" if len(rows) == 4 else "a fifth line" if len(rows) > 5 or rows[4] else "alone at the end"
+
+
+# -- damage to words: `lines` are the settings and the two machines, and for `fan_out` the query
 
 def a_machine(rng, lines):
     return lines[rng.choice((1, 2))]
@@ -253,17 +289,70 @@ def nothing(rng, data):
 BYTE_DAMAGE = [byte_changed, byte_more, byte_less, cut, doubled, blanks, zeros, at_the_limit, wrapped, signed, line_less, line_more, no_last_feed, nothing]
 
 
-def drawn(rng):
-    """A damaged input, and what was done."""
+def query_less(rng, line):
+    words = line.split()
+    return b" ".join(words[:rng.randrange(len(words) or 1)])
+
+
+def query_more(rng, line):
+    more = [rng.choice([b"0", b"1", b"x", str(MAX).encode()])] * rng.choice([1, 1, 1, 2, 5000])
+    return b" ".join(line.split() + more if rng.random() < 0.7 else more + line.split())
+
+
+def query_word(rng, line):
+    """A word becomes an odd one: another machine, state or label."""
+    return a_word(rng, line, lambda _: str(rng.choice(ODD_WORDS)).encode())
+
+
+def fifth_line(rng, line):
+    return line + b"\n" + rng.choice([line, b"x", b"1 0 0", b"\0\xff" * 40, b" " * 70000])
+
+
+def no_query(rng, line):
+    return rng.choice([None, None, b"", b" ", b"\t\r "])
+
+
+QUERY_DAMAGE = [query_less, query_more, query_word, fifth_line, no_query, *BYTE_DAMAGE]
+
+
+def at_the_fourth(rng, data, how):
+    """The damage done to the fourth line alone."""
+    rows = data.split(b"\n")
+    new = how(rng, rows[3]) if len(rows) > 3 else b""
+    return b"\n".join(rows[:3] + ([b""] if new is None and rng.random() < 0.5 else [] if new is None else [new] + rows[4:]))
+
+
+def undamaged(rng):
+    """Settings and two machines."""
     while True:
         case = mixed(rng, ALL)
         if sum(map(len, case[4:])) < 400:
-            break
-    lines, done = [list(case[1])] + [list(m) for m in case[4:]], []
-    harm = rng.choice([(1, 0), (0, 1), (0, 1), (1, 1), (0, 2), (2, 0)])
+            return [list(case[1])] + [list(m) for m in case[4:]]
+
+
+def drawn(rng):
+    """A damaged input, and what was done."""
+    lines = undamaged(rng)
+    return damaged(rng, lines, rng.choice([(1, 0), (0, 1), (0, 1), (1, 1), (0, 2), (2, 0)]))
+
+
+def drawn_fan_out(rng):
+    """The same with a fourth line, which is mostly damaged by itself."""
+    lines = undamaged(rng)
+    lines.append(drawn_query(rng, lines[0], Lent(*lines[1:], None, None)))
+    data, done = damaged(rng, lines, rng.choice([(0, 0), (0, 0), (0, 0), (0, 0), (1, 0), (0, 1), (1, 1)]))
+    if rng.random() < 0.7:
+        how = rng.choice(QUERY_DAMAGE)
+        return at_the_fourth(rng, data, how), done + [f"{how.__name__} at the fourth line"]
+    return data, done or ["none"]
+
+
+def damaged(rng, lines, harm):
+    """The lines as bytes, after so much damage to words and to bytes, and what was done."""
+    done = []
     for _ in range(harm[0]):
         how = rng.choice(WORD_DAMAGE)
-        if all(len(m) > 6 for m in lines[1:]):
+        if all(len(m) > 6 for m in lines[1:3]):
             more = how(rng, lines)
             done.append(how.__name__ + (f" {more}" if more else ""))
     data = "".join(" ".join(map(str, m)) + "\n" for m in lines).encode()
@@ -311,34 +400,72 @@ def wanted(oracle, inputs):
             yield one.answer, one.rust
 
 
+class Tally:
+    """What was done and answered, and how often what came was not what was wanted."""
+
+    def __init__(self):
+        self.counts, self.differences = Counter(), 0
+
+    def damage(self, how, answer, good):
+        """Answers what was said: the refusal, or `good` for any other answer."""
+        said = answer.strip() if answer.startswith("refused") else good
+        self.counts.update({f"damage {name}" for name in how} | {f"answer {said}"})
+        if said not in ("refused 1", "refused 2", "refused 3"):
+            self.counts.update(f"damage {name}, still of well-formed words" for name in set(how))
+        return said
+
+    def hold(self, how, data, *answers):
+        """Each of the answers is who gave it, what was wanted, and what came."""
+        if all(answer == got for _, answer, got in answers):
+            return
+        self.differences += 1
+        if self.differences == 1:
+            print(f"first difference ({', '.join(how)}):\n{data!r}", flush=True)
+            for who, answer, got in answers:
+                print(f"wanted of {who}:\n{answer}{who}:\n{got}", end="", flush=True)
+
+
+# `cuts` draws the pieces: how many are written before a program stops reading is not the seed's, and the inputs shall be
+def composed_inputs(rng, cuts, tally, inputs, oracle, path):
+    for done in range(0, inputs, BATCH):
+        batch = [drawn(rng) for _ in range(min(BATCH, inputs - done))]
+        for (data, how), (answer, theirs) in zip(batch, wanted(oracle, [data for data, _ in batch])):
+            tally.damage(how, answer, "a listing")
+            tally.counts["answer ours, and not the Rust's"] += answer != theirs
+            by_harness = subprocess.run([oracle, "composed", *rust.READING], input=data, stdout=subprocess.PIPE, check=True).stdout.decode()
+            tally.hold(how, data, ("the program", answer, printed(cuts, path, data)), ("the harness", theirs, by_harness))
+
+
+def fan_out_inputs(rng, cuts, tally, inputs, path):
+    for _ in range(inputs):
+        data, how = drawn_fan_out(rng)
+        answer, seen = fan_out_meaning(data)
+        said = tally.damage(how, answer, "a number")
+        tally.counts.update(seen)
+        if said in ("refused 9", "refused 11", "a number"):
+            tally.counts.update(f"fourth line {row}, {said}" for row in of_fourth(data))
+        tally.hold(how, data, ("the program", answer, printed(cuts, path, data)))
+
+
 def main():
     words = argparse.ArgumentParser(usage=__doc__.split("\n\n")[1].strip())
-    words.add_argument("rust")
+    words.add_argument("rust", nargs="?")
     words.add_argument("--inputs", type=int, default=10000)
     words.add_argument("--seed", type=int, default=int(time.time()))
     words.add_argument("--composed")
+    words.add_argument("--fan-out", nargs="?", const="")
     args = words.parse_args()
-    oracle, composed = rust.oracle_at(args.rust), program(args.composed, "composed")
-    rng, counts, differences, began = random.Random(args.seed), Counter(), 0, time.time()
-    for done in range(0, args.inputs, BATCH):
-        batch = [drawn(rng) for _ in range(min(BATCH, args.inputs - done))]
-        for (data, how), (answer, theirs) in zip(batch, wanted(oracle, [data for data, _ in batch])):
-            said = answer.strip() if answer.startswith("refused") else "a listing"
-            counts.update({f"damage {name}" for name in how} | {f"answer {said}"})
-            if said not in ("refused 1", "refused 2", "refused 3"):
-                counts.update(f"damage {name}, still of well-formed words" for name in set(how))
-            by_harness = subprocess.run([oracle, "composed", *rust.READING], input=data, stdout=subprocess.PIPE, check=True).stdout.decode()
-            got = printed(rng, composed, data)
-            counts["answer ours, and not the Rust's"] += answer != theirs
-            if got != answer or by_harness != theirs:
-                differences += 1
-                if differences == 1:
-                    print(f"first difference ({', '.join(how)}):\n{data!r}\nwanted:\n{answer}the program:\n{got}"
-                          f"wanted of the harness:\n{theirs}the harness:\n{by_harness}", flush=True)
-    for name, count in sorted(counts.items()):
+    if (args.rust is None) == (args.fan_out is None):
+        words.error("either RUST or --fan-out")
+    rng, cuts, tally, began = random.Random(args.seed), random.Random(args.seed), Tally(), time.time()
+    if args.rust is None:
+        fan_out_inputs(rng, cuts, tally, args.inputs, program(args.fan_out, "fan_out"))
+    else:
+        composed_inputs(rng, cuts, tally, args.inputs, rust.oracle_at(args.rust), program(args.composed, "composed"))
+    for name, count in sorted(tally.counts.items()):
         print(f"{count:7} {name}")
-    print(f"{args.inputs} inputs, seed {args.seed}: {differences} differences; {time.time() - began:.0f} seconds")
-    sys.exit(1 if differences else 0)
+    print(f"{args.inputs} inputs, seed {args.seed}: {tally.differences} differences; {time.time() - began:.0f} seconds")
+    sys.exit(1 if tally.differences else 0)
 
 
 if __name__ == "__main__":

@@ -1,4 +1,4 @@
-"""Document 01's calls with request 2.1's filters and 2.4's sigma, worked out from their text: the checks, the moves, the memory."""
+"""Document 01's calls with request 2.1's filters, 2.4's sigma and 2.6's fan-out, worked out from their text: the checks, the moves, the memory."""
 from machine import LIMIT, MAX, Words
 from gen import FILTERS
 
@@ -131,6 +131,12 @@ class Composition:
         refuse(self.sigma[k] != MAX and x == self.sigma[k], 11)
         return [self.record(k, t) for t in self.labelled(k, s, x)] + self.sigma_matches(k, s, x)
 
+    def fan_out(self, k, s, x):
+        """Request 2.6: how many matches a look-up of any label gives: of 0 the loop and the epsilons, of MAX the epsilons alone."""
+        if x in (0, MAX):
+            return len(self.labelled(k, s, 0)) + (1 if x == 0 else 0)
+        return len(self.matches(k, s, x))
+
     def cell(self, move, states, f):
         """What the filter makes of a move at these states: the next f, or None."""
         none = [self.machines[k].none(1 - k, states[k]) for k in (0, 1)]
@@ -175,6 +181,16 @@ class Composition:
     def start(self):
         words = [m.word(2) for m in self.machines]
         return (words[0] - 1, words[1] - 1, 0) if all(words) else None
+
+
+def fan_out(settings, lent, query):
+    """Request 2.6 for a query of machine (1 or 2), state and label: checks 1 to 7, then 9 for a query not of three words, another machine or a state not below
+    S, then the look-up with its 11."""
+    c = Composition(settings, lent, side_for(settings, lent))
+    refuse(query is None or len(query) != 3, 9)
+    machine, s, x = query
+    refuse(machine not in (1, 2) or s >= c.machines[machine - 1].S, 9)
+    return [c.fan_out(machine - 1, s, x)]
 
 
 def room(slice, size):

@@ -1,6 +1,7 @@
 // Lists of calls. A line's code, and its words:
 // 1 the lengths of heads, states and transitions, and the word that fills them: a list begins; 2, 3 the words of machine 1, 2; 4, 5 whether machine 1, 2 has an allowed list, and the list;
-// 6 a session, its nine words; 7 a slice from 0 to 2, an index, a word: written to memory; 8 open, the six settings; 9 expand; 10 final weight; 11 run; 12 records; 13 memory is printed.
+// 6 a session, its nine words; 7 a slice from 0 to 2, an index, a word: written to memory; 8 open, the six settings; 9 expand; 10 final weight; 11 run; 12 records; 13 memory is printed;
+// 14 the fan-out of a look-up, the six settings, a machine, a state and a label.
 ghost use mathlib.Core.Path.{_≡_};
 ghost use Rattle.call_lists.specs.Lines.{nextLine, listEnd};
 use crate::lines::Span;
@@ -10,6 +11,7 @@ use crate::lines::args;
 use crate::lines::first;
 use crate::lines::words_of;
 use crate::show;
+use fan_out_call::fan_out;
 use fst::Label;
 use fst::StateId;
 use lazy_fst::AllowedLists;
@@ -179,7 +181,21 @@ fn records(
     session
 }
 
-// Codes 8 to 12: a call, and what it answers. The session that it hands back; records hand none back, and the given one stays the latest.
+// Takes no session and no memory.
+fn look_up(words: &[u32], at: u32, l: Lending) {
+    io::write_all(1, b"c");
+    let m1 = words_of(words, l.m1);
+    let m2 = words_of(words, l.m2);
+    let a1 = words_of(words, l.allowed1);
+    let a2 = words_of(words, l.allowed2);
+    let settings = settings_at(words, at);
+    let machine = arg(words, at, 7);
+    let s = StateId(arg(words, at, 8));
+    let label = Label(arg(words, at, 9));
+    show::count(fan_out(settings, m1, m2, a1, a2, listed(l), machine, s, label));
+}
+
+// Codes 8 to 12 and 14: a call, and what it answers. The session that it hands back; records and fan-outs hand none back, and the given one stays the latest.
 fn call(
     words: &[u32],
     at: u32,
@@ -196,6 +212,10 @@ fn call(
         9 => expand(words, l, session, heads, states, trs, n),
         10 => final_weight(words, l, session, heads, states, trs, n),
         11 => run(words, l, session, heads, states, trs),
+        14 => {
+            look_up(words, at, l);
+            session
+        }
         _ => records(words, l, session, heads, states, trs, n),
     }
 }
@@ -212,7 +232,7 @@ fn damage(words: &[u32], at: u32, heads: &mut [u32], states: &mut [u32], trs: &m
     }
 }
 
-// Codes 6 to 13. Answers the latest session.
+// Codes 6 to 14. Answers the latest session.
 fn step(
     words: &[u32],
     at: u32,

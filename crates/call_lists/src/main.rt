@@ -7,7 +7,7 @@ use drive::one_list;
 use lines::read_words;
 
 fn main() {
-    let mut text = io::large_buffer();
+    let mut text = [0u8; 98304];
     let n = io::read_full(0, &mut text);
     let mut words = [0u32; 32768];
     read_words(&text[..n], &mut words);

@@ -1,6 +1,7 @@
 // What a call answered, in words; the session that it handed back; and a number mixed from every word of memory.
 ghost use mathlib.Core.Path.{_≡_};
 ghost use Rattle.call_lists.specs.Sessions.{handedBy, handedByPart, handedByWeight};
+use fan_out_call::FanOut;
 use lazy_fst::Answer;
 use lazy_fst::PartAnswer;
 use lazy_fst::Session;
@@ -81,6 +82,19 @@ pub fn answer(a: Answer) -> Session
         Answer::Refused(n, s) => {
             put(n);
             s
+        }
+    }
+}
+
+// The number, then the count of matches.
+pub fn count(a: FanOut) {
+    match a {
+        FanOut::Count(n) => {
+            put(0);
+            put(n);
+        }
+        FanOut::Refused(k) => {
+            put(k);
         }
     }
 }
