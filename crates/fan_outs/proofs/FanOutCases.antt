@@ -15,7 +15,7 @@ use Rattle.words.specs.Steps.{startAt}
 use Rattle.calls.specs.Store.{addWith, chainWith, stateRoomWith, roomWith, slot}
 use Rattle.calls.specs.Checks.{sideForWith}
 use Rattle.calls.specs.Calls.{begunWith, cleared, openWith}
-use Rattle.calls.proofs.StarCases.{plain, lend}
+use Rattle.calls.proofs.StarCases.{plain, lend, example1}
 use Rattle.fan_outs.specs.FanOut.{fanOut, fanOutAt, fanOutLine}
 
 -- machine 1: one state with 1:3, 1:2 and 1:3, whose outputs are sorted by no mark and in no fact
@@ -77,11 +77,19 @@ cases =
     ∷ asks 2 1 4 (refused 9)
     ∷ asks 1 1 4 (refused 9)
     ∷ asks 2 1 9 (refused 9)
+    ∷ asks 2 2 4 (refused 9)
+    -- each machine has its own states: three of machine 1, one of machine 2
+    ∷ case (plain 0 0) example1 rising (1 ∷ 1 ∷ 5 ∷ []) (good 1)
+    ∷ case (plain 0 0) example1 rising (1 ∷ 3 ∷ 5 ∷ []) (refused 9)
+    ∷ case (plain 0 0) example1 rising (2 ∷ 1 ∷ 4 ∷ []) (refused 9)
     -- not of three words
     ∷ case nine falling rising [] (refused 9)
     ∷ case nine falling rising (2 ∷ 0 ∷ []) (refused 9)
     ∷ case nine falling rising (2 ∷ 0 ∷ 4 ∷ 4 ∷ []) (refused 9)
-    -- a refused opening comes first
+    -- a refused opening comes first; settings not of six words
+    ∷ case [] falling rising [] (refused 1)
+    ∷ case (0 ∷ 0 ∷ MAX ∷ 0 ∷ 9 ∷ []) falling rising (2 ∷ 0 ∷ 4 ∷ []) (refused 1)
+    ∷ case (0 ∷ 0 ∷ MAX ∷ 0 ∷ 9 ∷ 0 ∷ 0 ∷ []) falling rising (2 ∷ 0 ∷ 4 ∷ []) (refused 1)
     ∷ case (0 ∷ 6 ∷ MAX ∷ 0 ∷ 9 ∷ 0 ∷ []) falling rising [] (refused 1)
     ∷ case nine [] rising [] (refused 2)
     ∷ case nine falling [] [] (refused 3)
@@ -104,7 +112,7 @@ each (d ∷ ds) h c i = ⊎-elim (λ e. subst Holds (sym e) (h .0)) (λ j. each 
 
 all-hold : AllHold cases
 unfolding AllHold Holds cases
-all-hold = (refl, (refl, (refl, (refl, (refl, (refl, (refl, (refl, (refl, (refl, (refl, (refl, (refl, (refl, (refl, (refl, (refl, (refl, (refl, (refl, (refl, (refl, (refl, (refl, (refl, (refl, (refl, (refl, (refl, (refl, tt))))))))))))))))))))))))))))))
+all-hold = (refl, (refl, (refl, (refl, (refl, (refl, (refl, (refl, (refl, (refl, (refl, (refl, (refl, (refl, (refl, (refl, (refl, (refl, (refl, (refl, (refl, (refl, (refl, (refl, (refl, (refl, (refl, (refl, (refl, (refl, (refl, (refl, (refl, (refl, (refl, (refl, (refl, tt)))))))))))))))))))))))))))))))))))))
 
 pub each-case : (c : Case) → In c cases → Holds c
 each-case c i = each cases all-hold c i
