@@ -19,15 +19,15 @@ use Rattle.calls.proofs.StarCases.{plain, lend, example1}
 use Rattle.fan_outs.specs.FanOut.{fanOut, fanOutAt, fanOutLine}
 
 -- machine 1: one state with 1:3, 1:2 and 1:3, whose outputs are sorted by no mark and in no fact
-abbrev falling : List ℕ
+abbrev pub falling : List ℕ
 falling = 1 ∷ 3 ∷ 1 ∷ 0 ∷ 0 ∷ 0 ∷ 1 ∷ 0 ∷ 0 ∷ 1 ∷ 3 ∷ 0 ∷ 0 ∷ 2 ∷ 1 ∷ 2 ∷ 0 ∷ 0 ∷ 3 ∷ 1 ∷ 3 ∷ 0 ∷ 0 ∷ 0 ∷ []
 
 -- machine 2: one state with 0:6, 4:6 and 9:9
-abbrev rising : List ℕ
+abbrev pub rising : List ℕ
 rising = 1 ∷ 3 ∷ 1 ∷ 0 ∷ 0 ∷ 0 ∷ 1 ∷ 0 ∷ 0 ∷ 0 ∷ 6 ∷ 1 ∷ 0 ∷ 2 ∷ 4 ∷ 6 ∷ 2 ∷ 0 ∷ 3 ∷ 9 ∷ 9 ∷ 3 ∷ 0 ∷ 0 ∷ []
 
 -- sigma of machine 2 is 9
-abbrev nine : List ℕ
+abbrev pub nine : List ℕ
 nine = 0 ∷ 0 ∷ MAX ∷ 0 ∷ 9 ∷ 0 ∷ []
 
 -- the lines of the program, and its answer

@@ -3,3 +3,4 @@ pub mod LineLaws
 pub mod SameListing
 pub mod TextCases
 pub mod SameFanOut
+pub mod FanOutTextCases

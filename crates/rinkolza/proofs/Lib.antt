@@ -5,3 +5,4 @@ pub mod CallerLaws
 pub mod HandedLaws
 pub mod RefusedStays
 pub mod WordCases
+pub mod FanOutCases
