@@ -6,7 +6,7 @@ use common::{Draw, FILTERS};
 use rinkolza::{compose, text, words, By, Filter, Format, Inputs, Machine, Options, Sigma, Which};
 use std::collections::BTreeSet;
 use std::io::Write;
-use std::path::PathBuf;
+use std::path::{Path, PathBuf};
 use std::process::{Command, Output, Stdio};
 
 fn example(name: &str) -> String {
@@ -529,38 +529,55 @@ fn the_table_is_that_of_all_look_ups() {
     assert!(met.contains("other") && met.contains("8"), "{met:?}");
 }
 
-/// The commands of README's part on sigma, with what it says that they print.
-#[test]
-fn the_readme_on_sigma() {
+/// The indented blocks of a part of README.
+fn readme_blocks(name: &str) -> Vec<String> {
     let readme = include_str!("../../README.md");
     let part = readme
         .split("\n## ")
-        .find(|part| part.starts_with("Sigma\n"));
+        .find(|part| part.starts_with(&format!("{name}\n")));
     let indented = part
         .unwrap()
         .split("\n\n")
         .filter(|block| block.starts_with("    "));
-    let blocks: Vec<String> = indented
+    indented
         .map(|block| block.replace("    ", "") + "\n")
-        .collect();
+        .collect()
+}
+
+/// The commands print what README says, with blanks for tabs.
+fn as_in_readme(folder: &Path, commands: &str, printed: &str) {
+    let output = Command::new("sh")
+        .args(["-ec", &commands.replace("rinkolza ", "\"$RINKOLZA\" ")])
+        .env("RINKOLZA", env!("CARGO_BIN_EXE_rinkolza"))
+        .current_dir(folder)
+        .output()
+        .expect("a shell");
+    let (status, text, error) = said(&output);
+    assert_eq!(
+        (status, text.replace('\t', " ").as_str(), error),
+        (0, printed, "")
+    );
+}
+
+#[test]
+fn the_readme_on_sigma() {
+    let blocks = readme_blocks("Sigma");
     assert_eq!(blocks.len(), 4);
     let folder = std::env::temp_dir().join(format!("rinkolza-readme-{}", std::process::id()));
     std::fs::create_dir_all(&folder).unwrap();
     for block in blocks.chunks(2) {
-        let commands = block[0].replace("rinkolza ", "\"$RINKOLZA\" ");
-        let output = Command::new("sh")
-            .args(["-ec", &commands])
-            .env("RINKOLZA", env!("CARGO_BIN_EXE_rinkolza"))
-            .current_dir(&folder)
-            .output()
-            .expect("a shell");
-        let (status, text, error) = said(&output);
-        assert_eq!(
-            (status, text.replace('\t', " "), error),
-            (0, block[1].clone(), "")
-        );
+        as_in_readme(&folder, &block[0], &block[1]);
     }
     std::fs::remove_dir_all(&folder).unwrap();
+}
+
+#[test]
+fn the_readme_on_fan_outs() {
+    // the first block is of the proved program
+    let blocks = readme_blocks("Fan-out");
+    assert_eq!(blocks.len(), 3);
+    let folder = Path::new(env!("CARGO_MANIFEST_DIR"));
+    as_in_readme(folder, &blocks[1], &blocks[2]);
 }
 
 #[test]
