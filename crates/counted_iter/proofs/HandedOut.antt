@@ -3,12 +3,11 @@
 use mathlib.Core.Path.{_≡_, refl, sym, ap, subst, _∙_}
 use mathlib.Core.Bool.{Bool, cond}
 use mathlib.Core.List.{List, [], _∷_, map}
-use mathlib.Core.Option.{none, some, Option·none-ne-some, Option·some-injective}
-use Prim.Native.Nat.{ℕ, suc, _≤_, _<_}
+use mathlib.Core.Option.{Option·none-ne-some, Option·some-injective}
+use Prim.Native.Nat.{ℕ}
 use contract.Lifetimes.{Lfts}
 use denote.Ref.{RefT, now}
 use lib.ListN.{length}
-use Rattle.lists.specs.Asking.{AskedOn}
 use Rattle.lists.proofs.Apart.{Apart}
 use Rattle.lists.proofs.Places.{at-place}
 use Rattle.words.specs.Labels.{Checked, good, refused, andThen}
@@ -25,8 +24,8 @@ use Rattle.fst.specs.declared.MatchType.{MatchType}
 use Rattle.fst.specs.declared.StateId.{StateId}
 use Rattle.fan_outs.specs.FanOut.{fanOut}
 use Rattle.matchers.specs.Meaning.{Item, matchMeans, itemOf, lookupItems, allowedOf, standsFor}
-use Rattle.matchers.specs.Cursors.{itemsLeft, Asked, asked, givenBy, cursorAfter, firstCursor}
-use Rattle.matchers.specs.Asking.{LookUp, sigmaLookUp, Holds, onward, Gives}
+use Rattle.matchers.specs.Cursors.{Asked, asked, cursorAfter, firstCursor}
+use Rattle.matchers.specs.Asking.{LookUp, sigmaLookUp, Holds, Gives}
 use Rattle.matchers.specs.declared.IterItemMatcher.{IterItemMatcher}
 use Rattle.matchers.specs.declared.Cursor.{Cursor}
 use Rattle.matchers.specs.declared.Step.{Step}

@@ -1,14 +1,14 @@
 -- A look-up gives at most the loop, every transition as one with the label, and every transition as a sigma transition: so a count is a word for every machine that passes the checks.
-use mathlib.Core.Path.{_≡_, refl, ap, _∙_}
+use mathlib.Core.Path.{_≡_, ap}
 use mathlib.Core.Bool.{Bool, true, false, cond, not, _&&_}
-use mathlib.Core.List.{List, [], _∷_, _++_, map}
+use mathlib.Core.List.{List, [], _++_, map}
 use mathlib.Core.Option.{Option}
 use Prim.Native.Nat.{ℕ, _+_, _≤_}
 use native.Mathlib.Omega.{arith}
 use lib.Dec.{eqb}
 use lib.ListN.{length, length-append, length-map}
 use Rattle.lists.proofs.Members.{keep-length}
-use Rattle.words.specs.Labels.{MAX, epsLabel, noLabel, Checked, good}
+use Rattle.words.specs.Labels.{MAX, epsLabel, noLabel, good}
 use Rattle.words.specs.Machines.{limit, trCount, firstOf, listOf, machineOf}
 use Rattle.words.specs.Matches.{MatchType, labelOn, viaSigma, labelled, sortedMatches}
 use Rattle.words.specs.Sigmas.{Operand, isAllowed, isSet, isSigma, sigmaTrs, sigmaMatches, lookup}

@@ -1,5 +1,5 @@
 -- 02, 2.6, as a C function has it: it "checks as the program does", with the settings and the answer as words in lent slices.
-use mathlib.Core.Bool.{Bool, _&&_, cond}
+use mathlib.Core.Bool.{_&&_, cond}
 use mathlib.Core.List.{List, [], _∷_}
 use Prim.Native.Nat.{ℕ}
 use lib.Dec.{eqb}

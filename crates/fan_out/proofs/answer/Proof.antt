@@ -1,6 +1,5 @@
 -- The words that the lines are left with are looked up.
 use mathlib.Core.Path.{ap, _∙_}
-use mathlib.Core.Option.{none}
 use Rattle.listing_text.specs.FanOutText.{fanOutBytes, endedFanOut}
 use Rattle.listing_write.proofs.WrittenLaws.{same-text}
 use borrow.Author.Needs.{needs}

@@ -1,5 +1,5 @@
 -- By the machine's number; what each states is a word, since neither machine passes the limit.
-use mathlib.Core.Path.{_≡_, sym, _∙_}
+use mathlib.Core.Path.{sym, _∙_}
 use denote.Ref.{now}
 use borrow.Author.Tests.{eq-eqb, ne-eqb}
 use Rattle.words.specs.Matches.{inputs, outputs}

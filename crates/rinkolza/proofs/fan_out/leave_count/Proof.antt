@@ -1,7 +1,6 @@
 -- One word is the whole slice.
-use mathlib.Core.Path.{ap, _∙_}
-use mathlib.Core.List.{List, [], _∷_}
-use Prim.Native.Nat.{ℕ}
+use mathlib.Core.Path.{ap}
+use mathlib.Core.List.{[], _∷_}
 use denote.Ref.{now}
 use Rattle.final_weights.proofs.WordLaws.{sets-all}
 use Rattle.rinkolza.specs.FanOutWords.{countLeft}
