@@ -8,6 +8,7 @@ use Rattle.words.specs.Labels.{collect}
 use Rattle.words.specs.Weights.{times, isZero}
 use Rattle.words.specs.Matches.{labelled, sortedMatches}
 use Rattle.words.specs.Machines.{stateCount, trCount, startWord, sideMark, acceptorMark, stateWord, trWord, firstOk, nextOk, firstOf, nextOf, listBy, listFrom, listOf, noFall, sorted, stateOk, trOk, acceptor, marksOk, sizeUpTo, wellFormedUpTo}
+use Rattle.words.specs.Ignored.{heard, ignoredOk}
 use Rattle.words.specs.Sides.{sideOf, directionAt}
 use Rattle.words.specs.Filters.{noneAt, allAt}
 use Rattle.words.specs.Sigmas.{has, sigmaTrs, sigmaMatches, lookup, given}
@@ -28,7 +29,7 @@ pub data Case : Type 0 where
 
 -- The case holds. Its own `unfolding` line opens all that the calls are made of: a closed case names `Holds` alone.
 unfoldable pub Holds : Case → Type 0
-unfolding callWith repliesWith afterWith listing composedLines trLines recordsWith runWith runFromWith finalWeightWith expandWith expansionWith storeStepsWith storeStepWith reachWith openWith begunWith cleared enteredAtWith enteredWith sessionOkWith sideForWith formOkWith trFormOk stateFormOkWith expandedOkWith tripleOkWith headsOk fitsWith partWith markWith append addWith findWith sameTriple chainWith headOf slot trNextAt targetAt fieldOf nextWith firstWith expandedWith tripleAt trRoomWith stateRoomWith roomWith put first linked settingsOk wellFormedUpTo sizeUpTo stateOk trOk marksOk acceptor collect startAt finalAt isZero times stepsAt stepOf given keptAt keptAlong flatMap walk lookup has sigmaTrs sigmaMatches labelled keepIf sortedMatches noneAt allAt every directionAt sideOf sorted noFall interval sideMark acceptorMark stateCount trCount startWord stateWord trWord firstOk nextOk firstOf nextOf listBy listFrom listOf
+unfolding callWith repliesWith afterWith listing composedLines trLines recordsWith runWith runFromWith finalWeightWith expandWith expansionWith storeStepsWith storeStepWith reachWith openWith begunWith cleared enteredAtWith enteredWith sessionOkWith sideForWith formOkWith trFormOk stateFormOkWith expandedOkWith tripleOkWith headsOk fitsWith partWith markWith append addWith findWith sameTriple chainWith headOf slot trNextAt targetAt fieldOf nextWith firstWith expandedWith tripleAt trRoomWith stateRoomWith roomWith put first linked settingsOk wellFormedUpTo sizeUpTo stateOk trOk marksOk acceptor collect startAt finalAt isZero times stepsAt stepOf given keptAt keptAlong flatMap walk lookup has sigmaTrs sigmaMatches labelled keepIf sortedMatches noneAt allAt every directionAt sideOf sorted noFall interval sideMark acceptorMark stateCount trCount startWord stateWord trWord firstOk nextOk firstOf nextOf listBy listFrom listOf heard ignoredOk
 Holds (printing w m1 m2 wants) = listing w m1 m2 ≡ wants
 Holds (calling l w cs rs left) = (replies l w cs ≡ rs) × (after l w cs ≡ left)
 

@@ -11,6 +11,7 @@ use borrow.Author.Tests.{eqb-true, eqb-false, eq-eqb, leb-false, not-false}
 use Rattle.lists.proofs.Members.{and-left, and-right}
 use Rattle.words.specs.Labels.{Checked, good, refused, andThen}
 use Rattle.words.specs.Machines.{stateCount, wellFormed}
+use Rattle.words.specs.Ignored.{ignoredOk}
 use Rattle.words.specs.Sides.{Side, sideOf}
 use Rattle.words.specs.Steps.{Composition, Step, stepsAt}
 use Rattle.words.specs.Settings.{Settings, settingsOk, Lent, operand1, operand2, compositionOf}
@@ -24,11 +25,12 @@ use Rattle.calls.proofs.StoreForms.{Form, form-of, of-form}
 use Rattle.calls.proofs.FormKept.{mark-form}
 use Rattle.calls.proofs.StepsKept.{steps-kept, longer}
 
--- what the checks 1 to 7 leave: the machines are well formed
+-- what the checks 1 to 7 and 18 leave: the machines are well formed, the ignored labels are neither 0 nor MAX
 pub record Sided (s : Settings) (l : Lent) (side : Side) : Type 0 where
   pub settings : settingsOk s ≡ true
   pub formed1 : wellFormed (l .m1) ≡ true
   pub formed2 : wellFormed (l .m2) ≡ true
+  pub listed : ignoredOk (l .ignored) ≡ true
   pub rule : sideOf (operand1 s l) (operand2 s l) ≡ good side
 
 pub sided : (s : Settings) (l : Lent) (side : Side) → sideFor s l ≡ good side → Sided s l side
@@ -37,7 +39,14 @@ sided s l side e =
     let a = past-check (not (settingsOk s)) 1 _ side e in
     let b = past-check (not (wellFormed (l .m1))) 2 _ side (a .1) in
     let c = past-check (not (wellFormed (l .m2))) 3 _ side (b .1) in
-    record { settings = not-false (settingsOk s) (a .0); formed1 = not-false (wellFormed (l .m1)) (b .0); formed2 = not-false (wellFormed (l .m2)) (c .0); rule = c .1 }
+    let d = past-check (not (ignoredOk (l .ignored))) 18 _ side (c .1) in
+    record {
+      settings = not-false (settingsOk s) (a .0);
+      formed1 = not-false (wellFormed (l .m1)) (b .0);
+      formed2 = not-false (wellFormed (l .m2)) (c .0);
+      listed = not-false (ignoredOk (l .ignored)) (d .0);
+      rule = d .1;
+    }
 
 -- what the checks 1 to 8 leave: the side of the rule, and form
 pub record Entered (l : Lent) (s : Session) (m : Memory) (c : Composition) : Type 0 where

@@ -1,6 +1,7 @@
 pub mod Cases
 pub mod StarCases
 pub mod CallCases
+pub mod IgnoredCases
 pub mod OwnedCases
 pub mod Refusals
 pub mod ListingLaws
@@ -12,6 +13,7 @@ pub mod StepsKept
 pub mod ExpandKept
 pub mod OpenKept
 pub mod RunLaws
+pub mod Ignoring
 pub mod StepsStay
 pub mod StepsLack
 pub mod FindLaws

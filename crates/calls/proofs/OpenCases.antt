@@ -1,6 +1,6 @@
--- One split of an opening: refused by 1 to 7, which look at no memory; accepted without a start; 13; accepted with the start as state 0, which is then found by its triple. And the
+-- One split of an opening: refused by 1 to 7 or 18, which look at no memory; accepted without a start; 13; accepted with the start as state 0, which is then found by its triple. And the
 -- numbers by which an opening can be refused.
-use mathlib.Core.Path.{_≡_, refl, sym, _∙_, ap}
+use mathlib.Core.Path.{_≡_, refl, sym, _∙_, ap, subst}
 use mathlib.Core.Bool.{Bool, true, false, not, _&&_, _||_}
 use mathlib.Core.List.{[], _∷_, _++_}
 use mathlib.Core.Logic.{_≢_, _⊎_, inl, inr, ⊎-elim}
@@ -13,6 +13,7 @@ use borrow.Author.Tests.{eqb-false, ne-eqb}
 use Rattle.lists.specs.Lists.{first, linked}
 use Rattle.words.specs.Labels.{epsLabel, Checked, good, refused, refuseIf}
 use Rattle.words.specs.Machines.{wellFormed}
+use Rattle.words.specs.Ignored.{ignoredOk}
 use Rattle.words.specs.Sides.{Side, sideBy, inOrder, sideOf, nonEmpty}
 use Rattle.words.specs.Sigmas.{Operand, isSet}
 use Rattle.words.specs.Steps.{Triple, startAt}
@@ -73,17 +74,21 @@ module _ (s : Settings) (l : Lent) (got : Session) (m : Memory) where
   unfolding openWith begunWith
   open-begun side t e h b = rw (e, h, ne-eqb (stateRoom m) 0 (λ z. omega (arith, z, b .room)), of-some-head (m .heads) (b .headed))
 
--- "Opening checks 1 to 7, then 13"
-pub side-refusals : (s : Settings) (l : Lent) (k : ℕ) → sideFor s l ≡ refused k → k ≤ 7
+-- the numbers of the checks before a side is known: "1 to 7", and 18 "included wherever 1 to 7, 8 or 9 are named" (02, 2.7)
+abbrev pub AtEntry : ℕ → Type 0
+AtEntry k = (k ≤ 7) ⊎ (k ≡ 18)
+
+pub side-refusals : (s : Settings) (l : Lent) (k : ℕ) → sideFor s l ≡ refused k → AtEntry k
 unfolding sideForWith sideOf
 side-refusals s l k e =
-    check (not (settingsOk s)) 1 _ (omega arith)
-    (check (not (wellFormed (l .m1))) 2 _ (omega arith)
-    (check (not (wellFormed (l .m2))) 3 _ (omega arith)
-    (check (eqb (A .sigma .label) epsLabel || eqb (B .sigma .label) epsLabel) 4 _ (omega arith)
-    (check (isSet (A .sigma) && not (inOrder A)) 5 _ (omega arith)
-    (check (isSet (B .sigma) && not (inOrder B)) 6 _ (omega arith)
-    (seven (eqb (A .mark) 1) (eqb (B .mark) 1) (inOrder A) (inOrder B))))))) e
+    check (not (settingsOk s)) 1 _ (inl (omega arith))
+    (check (not (wellFormed (l .m1))) 2 _ (inl (omega arith))
+    (check (not (wellFormed (l .m2))) 3 _ (inl (omega arith))
+    (check (not (ignoredOk (l .ignored))) 18 _ (inr refl)
+    (check (eqb (A .sigma .label) epsLabel || eqb (B .sigma .label) epsLabel) 4 _ (inl (omega arith))
+    (check (isSet (A .sigma) && not (inOrder A)) 5 _ (inl (omega arith))
+    (check (isSet (B .sigma) && not (inOrder B)) 6 _ (inl (omega arith))
+    (seven (eqb (A .mark) 1) (eqb (B .mark) 1) (inOrder A) (inOrder B)))))))) e
   where
     A : Operand
     A = operand1 s l
@@ -91,20 +96,21 @@ side-refusals s l k e =
     B : Operand
     B = operand2 s l
 
-    check : (b : Bool) (n : ℕ) (rest : Checked Side) → n ≤ 7 → (rest ≡ refused k → k ≤ 7) → refuseIf b n rest ≡ refused k → k ≤ 7
-    check b n rest h go x = ⊎-elim (λ z. omega (arith, z, h)) go (stop-if b n rest k x)
+    check : (b : Bool) (n : ℕ) (rest : Checked Side) → AtEntry n → (rest ≡ refused k → AtEntry k) → refuseIf b n rest ≡ refused k → AtEntry k
+    check b n rest h go x = ⊎-elim (λ z. subst AtEntry (sym z) h) go (stop-if b n rest k x)
 
-    seven : (a b c d : Bool) → sideBy a b c d ≡ refused k → k ≤ 7
+    seven : (a b c d : Bool) → sideBy a b c d ≡ refused k → AtEntry k
     seven true true c d x = absurd (good≢refused x)
     seven true false c d x = absurd (good≢refused x)
     seven false true c d x = absurd (good≢refused x)
     seven false false true d x = absurd (good≢refused x)
     seven false false false true x = absurd (good≢refused x)
-    seven false false false false x = let z : 7 ≡ k = refused-is x in omega (arith, z)
+    seven false false false false x = let z : 7 ≡ k = refused-is x in inl (omega (arith, z))
 
-pub open-refusals : (s : Settings) (l : Lent) (got : Session) (m : Memory) (k : ℕ) → openOf s l got m .answer ≡ refused k → (k ≤ 7) ⊎ (k ≡ 13)
+-- "Opening checks 1 to 7, then 13"
+pub open-refusals : (s : Settings) (l : Lent) (got : Session) (m : Memory) (k : ℕ) → openOf s l got m .answer ≡ refused k → AtEntry k ⊎ (k ≡ 13)
 open-refusals s l got m k =
-    by-open s l got m (λ (o : Outcome (Unit {0})). o .answer ≡ refused k → (k ≤ 7) ⊎ (k ≡ 13))
+    by-open s l got m (λ (o : Outcome (Unit {0})). o .answer ≡ refused k → AtEntry k ⊎ (k ≡ 13))
     (λ n e x. let z : n ≡ k = refused-is x in inl (side-refusals s l k (e ∙ ap refused z))) (λ side e h x. absurd (good≢refused x))
     (λ side t e h x. inr (refused-is (sym x))) (λ side t e h b x. absurd (good≢refused x))
 

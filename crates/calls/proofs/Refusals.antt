@@ -16,29 +16,33 @@ use Rattle.calls.specs.Calls.{openOf, expandOf, finalWeightOf, runOf, re
 use Rattle.calls.specs.Sequences.{World}
 use Rattle.calls.specs.Listing.{settingsOf}
 use Rattle.calls.proofs.Cases.{Holds}
-use Rattle.calls.proofs.StarCases.{plain, lend, session, world, example1, example2}
+use Rattle.calls.proofs.StarCases.{plain, lend, lendWith, session, world, example1, example2, marked1, marked2}
 
 -- the number of a refusal, 0 where there is none
 abbrev pub refusalOf : {A : Type 0} → Checked A → ℕ
 refusalOf (good a) = 0
 refusalOf (refused n) = n
 
--- an opening: settings, machines, memory; and its refusal
+-- an opening: settings, ignored labels, machines, memory; and its refusal
 pub record Opening : Type 0 where
   pub settings : List ℕ
+  pub ignored : List ℕ
   pub machine1 : List ℕ
   pub machine2 : List ℕ
   pub heads : List ℕ
   pub states : List ℕ
   pub wants : ℕ
 
+abbrev listed : List ℕ → List ℕ → List ℕ → List ℕ → List ℕ → List ℕ → ℕ → Opening
+listed xs w m1 m2 heads states n = record { settings = w; ignored = xs; machine1 = m1; machine2 = m2; heads = heads; states = states; wants = n }
+
 abbrev at : List ℕ → List ℕ → List ℕ → List ℕ → List ℕ → ℕ → Opening
-at w m1 m2 heads states n = record { settings = w; machine1 = m1; machine2 = m2; heads = heads; states = states; wants = n }
+at = listed []
 
 -- what an opening is refused by
 abbrev opensWith : Opening → ℕ
 opensWith o =
-    refusalOf (openOf (settingsOf (o .settings)) (lend (o .machine1) (o .machine2)) (session [] 0 0 0) (record { heads = o .heads; states = o .states; trs = [] }) .answer)
+    refusalOf (openOf (settingsOf (o .settings)) (lendWith (o .ignored) (o .machine1) (o .machine2)) (session [] 0 0 0) (record { heads = o .heads; states = o .states; trs = [] }) .answer)
 
 -- kind, filter, sigma 1, mode 1, sigma 2, mode 2
 abbrev setting : ℕ → ℕ → ℕ → ℕ → ℕ → ℕ → List ℕ
@@ -47,6 +51,14 @@ setting k f s1 m1 s2 m2 = k ∷ f ∷ s1 ∷ m1 ∷ s2 ∷ m2 ∷ []
 -- one state whose list has the labels 3:3 and then 2:2: sorted on no side
 abbrev falling : List ℕ
 falling = 1 ∷ 2 ∷ 1 ∷ 0 ∷ 0 ∷ 0 ∷ 1 ∷ 0 ∷ 0 ∷ 3 ∷ 3 ∷ 0 ∷ 0 ∷ 2 ∷ 2 ∷ 2 ∷ 0 ∷ 0 ∷ 0 ∷ []
+
+-- 5:5 and then 2:2, with an output mark that says sorted: false as lent, and true of 0 2
+abbrev falseMark : List ℕ
+falseMark = 1 ∷ 2 ∷ 1 ∷ 0 ∷ 1 ∷ 0 ∷ 1 ∷ 0 ∷ 0 ∷ 5 ∷ 5 ∷ 0 ∷ 0 ∷ 2 ∷ 2 ∷ 2 ∷ 0 ∷ 0 ∷ 0 ∷ []
+
+-- 2:2 and then 5:5, with a mark that is true as lent, and would be false of 2 0
+abbrev trueMark : List ℕ
+trueMark = 1 ∷ 2 ∷ 1 ∷ 0 ∷ 1 ∷ 0 ∷ 1 ∷ 0 ∷ 0 ∷ 2 ∷ 2 ∷ 0 ∷ 0 ∷ 2 ∷ 5 ∷ 5 ∷ 0 ∷ 0 ∷ 0 ∷ []
 
 -- each fault comes with all the later ones that it can come with
 unfoldable pub openings : List Opening
@@ -60,6 +72,21 @@ openings =
     -- 2, 3
     ∷ at (setting 1 5 0 2 0 2) [] [] [] [] 2
     ∷ at (setting 1 2 0 2 0 2) falling [] [] [] 3
+    -- 02, 2.7: 18 "after 3" and before 4, where the list "holds 0 or MAX", at any place; without them 4
+    ∷ listed (0 ∷ []) (setting 2 0 0 0 0 0) [] [] [] [] 1
+    ∷ listed (0 ∷ []) (setting 1 2 0 2 0 2) [] [] [] [] 2
+    ∷ listed (0 ∷ []) (setting 1 2 0 2 0 2) falling [] [] [] 3
+    ∷ listed (0 ∷ []) (setting 1 2 0 2 5 2) falling falling [] [] 18
+    ∷ listed (5 ∷ MAX ∷ 7 ∷ []) (setting 1 2 5 2 0 2) falling falling [] [] 18
+    ∷ listed (5 ∷ 7 ∷ []) (setting 1 2 5 2 0 2) falling falling [] [] 4
+    ∷ listed (MAX ∷ 5 ∷ []) (setting 0 0 MAX 0 MAX 0) example1 example2 (0 ∷ []) (replicate 6 0) 18
+    ∷ listed (5 ∷ []) (setting 0 0 MAX 0 MAX 0) example1 example2 (0 ∷ []) (replicate 6 0) 0
+    -- "Malformed is judged on the machines as lent": a false mark that replacement would make true, and a true one that it would make false
+    ∷ listed (5 ∷ []) (setting 0 0 MAX 0 MAX 0) falseMark example2 (0 ∷ []) (replicate 6 0) 2
+    ∷ listed (5 ∷ []) (setting 0 0 MAX 0 MAX 0) trueMark example2 (0 ∷ []) (replicate 6 0) 0
+    -- and then it is unsorted in fact: 5 with a sigma, 7 with an unsorted machine 2
+    ∷ listed (5 ∷ []) (setting 0 0 9 0 MAX 0) trueMark example2 (0 ∷ []) (replicate 6 0) 5
+    ∷ listed (5 ∷ []) (setting 0 0 MAX 0 MAX 0) trueMark falling (0 ∷ []) (replicate 6 0) 7
     -- 4: either sigma label, before 5 to 7
     ∷ at (setting 1 2 0 2 5 2) falling falling [] [] 4
     ∷ at (setting 1 2 5 2 0 2) falling falling [] [] 4
@@ -216,18 +243,22 @@ placed = ((refl, refl, refl), refl)
 
 -- a later call with several faults: what it is lent, its world, the state; and what expand, final weight and run are refused by
 pub record Later : Type 0 where
+  pub ignored : List ℕ
   pub machine1 : List ℕ
   pub machine2 : List ℕ
   pub world : World
   pub state : ℕ
   pub wants : List ℕ
 
+abbrev laterListed : List ℕ → List ℕ → List ℕ → World → ℕ → List ℕ → Later
+laterListed xs m1 m2 w n wants = record { ignored = xs; machine1 = m1; machine2 = m2; world = w; state = n; wants = wants }
+
 abbrev later : List ℕ → List ℕ → World → ℕ → List ℕ → Later
-later m1 m2 w n wants = record { machine1 = m1; machine2 = m2; world = w; state = n; wants = wants }
+later = laterListed []
 
 abbrev laterAnswers : Later → List ℕ
 laterAnswers c =
-    let l = lend (c .machine1) (c .machine2) in
+    let l = lendWith (c .ignored) (c .machine1) (c .machine2) in
     let w = c .world in
     refusalOf (expandOf l (w .session) (w .memory) (c .state) .answer)
     ∷ refusalOf (finalWeightOf l (w .session) (w .memory) (c .state) .answer)
@@ -246,9 +277,13 @@ heavy = 1 ∷ 0 ∷ 1 ∷ 0 ∷ 0 ∷ 0 ∷ 0 ∷ 1 ∷ 2147483648 ∷ []
 abbrev heaviest : World
 heaviest = world (session (plain 0 0) 1 1 0) (1 ∷ []) (replicate 6 0) []
 
+-- state 0 of two machines with marks 1, side both, not expanded, with room for its four transitions
+abbrev oneState : World
+oneState = world (session (plain 0 0) 2 1 0) (1 ∷ []) (replicate 6 0) (replicate 20 0)
+
 unfoldable pub laterCalls : List Later
 laterCalls =
-    -- 1 to 7 by the session's own settings, before 8 and 9
+    -- 1 to 7 and 18 by the session's own settings, before 8 and 9
     later [] [] (wrong (setting 2 0 0 0 0 0)) MAX (1 ∷ 1 ∷ 1 ∷ [])
     ∷ later [] [] (wrong (setting 0 0 0 0 0 0)) MAX (2 ∷ 2 ∷ 2 ∷ [])
     ∷ later falling [] (wrong (setting 0 0 0 0 0 0)) MAX (3 ∷ 3 ∷ 3 ∷ [])
@@ -256,6 +291,13 @@ laterCalls =
     ∷ later falling falling (wrong (setting 0 0 5 0 5 0)) MAX (5 ∷ 5 ∷ 5 ∷ [])
     ∷ later falling falling (wrong (setting 0 0 MAX 0 5 0)) MAX (6 ∷ 6 ∷ 6 ∷ [])
     ∷ later falling falling (wrong (setting 0 0 MAX 0 MAX 0)) MAX (7 ∷ 7 ∷ 7 ∷ [])
+    -- 18 after 3 and before 4; a call that is sound but for the list, and hands back nothing of an expanded state
+    ∷ laterListed (0 ∷ []) falling [] (wrong (setting 0 0 0 0 0 0)) MAX (3 ∷ 3 ∷ 3 ∷ [])
+    ∷ laterListed (MAX ∷ []) falling falling (wrong (setting 0 0 0 0 0 0)) MAX (18 ∷ 18 ∷ 18 ∷ [])
+    ∷ laterListed (7 ∷ 0 ∷ []) example1 example2 (sides 1) 1 (18 ∷ 18 ∷ 18 ∷ [])
+    -- 8: under another list than the opening's the side of the rule is another one
+    ∷ later marked1 marked2 oneState 0 (0 ∷ 0 ∷ 0 ∷ [])
+    ∷ laterListed (77 ∷ []) marked1 marked2 oneState 0 (8 ∷ 8 ∷ 8 ∷ [])
     -- 8 before 9
     ∷ later example1 example2 (wrong (setting 0 0 MAX 0 MAX 0)) MAX (8 ∷ 8 ∷ 8 ∷ [])
     -- 9: not of a run

@@ -16,8 +16,11 @@ use Rattle.calls.proofs.Cases.{Case, printing, calling, Holds, AllHold,
 abbrev pub plain : ℕ → ℕ → List ℕ
 plain kind filter = kind ∷ filter ∷ MAX ∷ 0 ∷ MAX ∷ 0 ∷ []
 
+abbrev pub lendWith : List ℕ → List ℕ → List ℕ → Lent
+lendWith xs m1 m2 = record { m1 = m1; m2 = m2; allowed1 = none; allowed2 = none; ignored = xs }
+
 abbrev pub lend : List ℕ → List ℕ → Lent
-lend m1 m2 = record { m1 = m1; m2 = m2; allowed1 = none; allowed2 = none }
+lend = lendWith []
 
 abbrev pub triple : ℕ → ℕ → ℕ → Triple
 triple s1 s2 f = record { s1 = s1; s2 = s2; f = f }

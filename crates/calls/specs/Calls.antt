@@ -87,7 +87,7 @@ module _ (L : Layout) where
   begunWith m none = good (cleared m)
   begunWith m (some t) = refuseIf (eqb (stateRoomWith L m) 0 || not (nonEmpty (m .heads))) 13 (good (addWith L (cleared m) t))
 
-  -- "Opening checks 1 to 7, then 13"; the session it got is "unread", and handed back if refused
+  -- "Opening checks 1 to 7, then 13", with 18 among them (02, 2.7); the session it got is "unread", and handed back if refused
   unfoldable pub openWith : Settings → Lent → Session → Memory → Outcome (Unit {0})
   openWith s l got m = settle got m (andThen (sideForWith L s l) (λ side. andThen (begunWith m (startAt (compositionOf s l side))) (λ d. good (opened s side d))))
 
@@ -131,7 +131,7 @@ module _ (L : Layout) where
   runFromWith l zero n s m = runEnded s m
   runFromWith l (suc k) n s m = let o = expandWith l s m n in runBy (leb (s .used .states) n) s m o (runFromWith l k (suc n))
 
-  -- "Later calls check 1 to 9 (run has no 9)". No more states are found than there is room for.
+  -- "Later calls check 1 to 9 (run has no 9)", with 18 among them. No more states are found than there is room for.
   abbrev pub runAfterWith : Checked Composition → Lent → Session → Memory → Outcome (Unit {0})
   runAfterWith (refused n) l s m = settle s m (refused n)
   runAfterWith (good c) l s m = runFromWith l (stateRoomWith L m) 0 s m

@@ -6,6 +6,7 @@ use lib.Dec.{eqb, leb}
 use Rattle.words.specs.Labels.{Checked, good, refuseIf, andThen}
 use Rattle.words.specs.Matches.{inputs, outputs}
 use Rattle.words.specs.Machines.{stateCount, wellFormedUpTo}
+use Rattle.words.specs.Ignored.{ignoredOk}
 use Rattle.words.specs.Sides.{Side, only, both, sideOf}
 use Rattle.words.specs.Steps.{Composition}
 use Rattle.words.specs.Settings.{Settings, settingsOk, Lent, operand1, operand2, compositionOf}
@@ -29,20 +30,21 @@ abbrev pub storeOf : Session → Memory → Store
 storeOf s m = record { memory = m; used = s .used }
 
 module _ (L : Layout) where
-  -- checks 1 to 7; where none stands, the side of the rule
+  -- checks 1 to 7, and 18 "after 3" (02, 2.7); where none stands, the side of the rule. "Malformed is judged on the machines as lent."
   unfoldable pub sideForWith : Settings → Lent → Checked Side
   sideForWith s l =
       refuseIf (not (settingsOk s)) 1
       (refuseIf (not (wellFormedUpTo (L .limit) (l .m1))) 2
       (refuseIf (not (wellFormedUpTo (L .limit) (l .m2))) 3
-      (sideOf (operand1 s l) (operand2 s l))))
+      (refuseIf (not (ignoredOk (l .ignored))) 18
+      (sideOf (operand1 s l) (operand2 s l)))))
 
   -- not "session side differs from the rule, used above room, or form broken"
   unfoldable pub sessionOkWith : Lent → Session → Memory → Side → Bool
   sessionOkWith l s m side =
       eqb (s .side) (sideNumber side) && (fitsWith L (storeOf s m) && formOkWith L (stateCount (l .m1)) (stateCount (l .m2)) (storeOf s m))
 
-  -- checks 1 to 8 of a later call, by the session's own settings; where none stands, the composition that it goes on with
+  -- checks 1 to 8 of a later call, with 18, which is "included wherever 1 to 7, 8 or 9 are named", by the session's own settings; where none stands, the composition that it goes on with
   unfoldable pub enteredWith : Lent → Session → Memory → Checked Composition
   enteredWith l s m = andThen (sideForWith (s .settings) l) (λ side. refuseIf (not (sessionOkWith l s m side)) 8 (good (compositionOf (s .settings) l side)))
 

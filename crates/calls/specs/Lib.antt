@@ -5,3 +5,5 @@ pub mod Calls
 pub mod Sequences
 pub mod Owned
 pub mod Listing
+-- 02, 2.7: what a list of ignored labels changes.
+pub mod Ignoring

@@ -36,9 +36,9 @@ machineMost = 4096
 abbrev pub machineLine : List ℕ → List ℕ
 machineLine m = cond (leb (length m) machineMost) m []
 
--- "both machines as decimal words, one line each, without allowed lists"
+-- "both machines as decimal words, one line each, without allowed lists"; 02, 2.7: "`composed` and the program of 2.6 take an empty one"
 abbrev pub lentLines : List ℕ → List ℕ → Lent
-lentLines m1 m2 = record { m1 = machineLine m1; m2 = machineLine m2; allowed1 = none; allowed2 = none }
+lentLines m1 m2 = record { m1 = machineLine m1; m2 = machineLine m2; allowed1 = none; allowed2 = none; ignored = [] }
 
 -- "room is 1024 records of each sort and 64 heads"
 abbrev pub emptyMemory : Memory

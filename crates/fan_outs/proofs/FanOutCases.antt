@@ -9,14 +9,16 @@ use Rattle.words.specs.Labels.{MAX, Checked, good, refused}
 use Rattle.words.specs.Machines.{stateCount, trCount, startWord, sideMark, acceptorMark, stateWord, trWord, firstOk, nextOk, firstOf, nextOf, listBy, listFrom, listOf, noFall, sorted, stateOk, trOk, acceptor, marksOk, sizeUpTo, wellFormedUpTo}
 use Rattle.words.specs.Matches.{labelled, sortedMatches}
 use Rattle.words.specs.Sigmas.{has, sigmaTrs, sigmaMatches, lookup}
+use Rattle.words.specs.Ignored.{heard, ignoredOk}
 use Rattle.words.specs.Sides.{sideOf}
 use Rattle.words.specs.Settings.{settingsOk}
 use Rattle.words.specs.Steps.{startAt}
 use Rattle.calls.specs.Store.{addWith, chainWith, stateRoomWith, roomWith, slot}
 use Rattle.calls.specs.Checks.{sideForWith}
 use Rattle.calls.specs.Calls.{begunWith, cleared, openWith}
-use Rattle.calls.proofs.StarCases.{plain, lend, example1}
-use Rattle.fan_outs.specs.FanOut.{fanOut, fanOutAt, fanOutLine}
+use Rattle.calls.specs.Listing.{settingsOf}
+use Rattle.calls.proofs.StarCases.{plain, lend, lendWith, example1}
+use Rattle.fan_outs.specs.FanOut.{fanOut, fanOutAt, fanOutOf, fanOutLine}
 
 -- machine 1: one state with 1:3, 1:2 and 1:3, whose outputs are sorted by no mark and in no fact
 abbrev pub falling : List ℕ
@@ -46,7 +48,7 @@ asks n q x wants = case nine falling rising (n ∷ q ∷ x ∷ []) wants
 
 -- The case holds. Its own `unfolding` line opens all that the answer is made of: the table names `Holds` alone.
 unfoldable pub Holds : Case → Type 0
-unfolding fanOutLine fanOutAt fanOut openWith begunWith cleared sideForWith addWith chainWith stateRoomWith roomWith put slot settingsOk wellFormedUpTo sizeUpTo stateOk trOk marksOk acceptor startAt lookup has sigmaTrs sigmaMatches labelled keepIf sortedMatches every sideOf sorted noFall interval sideMark acceptorMark stateCount trCount startWord stateWord trWord firstOk nextOk firstOf nextOf listBy listFrom listOf
+unfolding fanOutLine fanOutAt fanOut openWith begunWith cleared sideForWith addWith chainWith stateRoomWith roomWith put slot settingsOk wellFormedUpTo sizeUpTo stateOk trOk marksOk acceptor startAt lookup has sigmaTrs sigmaMatches labelled keepIf sortedMatches every sideOf sorted noFall interval sideMark acceptorMark stateCount trCount startWord stateWord trWord firstOk nextOk firstOf nextOf listBy listFrom listOf heard ignoredOk
 Holds c = fanOutLine (c .settings) (lend (c .first) (c .second)) (c .query) ≡ c .wants
 
 unfoldable pub cases : List Case
@@ -116,3 +118,19 @@ all-hold = (refl, (refl, (refl, (refl, (refl, (refl, (refl, (refl, (refl, (refl,
 
 pub each-case : (c : Case) → In c cases → Holds c
 each-case c i = each cases all-hold c i
+
+-- the call with ignored labels, sigma of machine 2 being 9
+abbrev counted : List ℕ → ℕ → ℕ → ℕ → Checked ℕ
+counted xs n q x = fanOutOf (settingsOf nine) (lendWith xs falling rising) n q x
+
+-- 02, 2.7: an ignored label has no own matches, and its records are counted with 0; a list that holds 0 or MAX is 18, before 9
+pub ignored-counted :
+    (counted (4 ∷ []) 2 0 4 ≡ good 1)
+    × (counted (4 ∷ []) 2 0 0 ≡ good 3)
+    × (counted (3 ∷ []) 1 0 3 ≡ good 0)
+    × (counted (3 ∷ []) 1 0 0 ≡ good 3)
+    × (counted (77 ∷ []) 2 0 4 ≡ good 2)
+    × (counted (4 ∷ 0 ∷ []) 3 0 4 ≡ refused 18)
+    × (counted (MAX ∷ []) 2 0 9 ≡ refused 18)
+unfolding Holds fanOutOf
+ignored-counted = (refl, refl, refl, refl, refl, refl, refl)

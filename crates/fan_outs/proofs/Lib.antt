@@ -1,3 +1,4 @@
 pub mod OpenedRoom
 pub mod Bounds
+pub mod Ignoring
 pub mod FanOutCases

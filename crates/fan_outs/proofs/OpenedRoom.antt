@@ -1,4 +1,4 @@
--- The room of `composed` is enough for every opening, which is then refused by the checks 1 to 7 or not at all: so a caller that is lent no memory gets what the program prints.
+-- The room of `composed` is enough for every opening, which is then refused by the checks 1 to 7 and 18 or not at all: so a caller that is lent no memory gets what the program prints.
 use mathlib.Core.Path.{_≡_, refl, _∙_}
 use mathlib.Core.List.{List}
 use mathlib.Core.Option.{Option, none, some}
@@ -17,7 +17,7 @@ use Rattle.calls.proofs.OpenCases.{open-empty, open-begun}
 use Rattle.calls.proofs.ListingLaws.{rooms}
 use Rattle.fan_outs.specs.FanOut.{fanOutAt, fanOutOf, querySize, queried, fanOutLine}
 
--- whatever comes after an accepted opening comes after accepted checks 1 to 7
+-- whatever comes after an accepted opening comes after accepted checks 1 to 7 and 18
 pub room-enough : {A : Type 0} (s : Settings) (l : Lent) (got : Session) (after : Checked A) → andThen (openOf s l got emptyMemory .answer) (λ u. after) ≡ andThen (sideFor s l) (λ side. after)
 unfolding openWith
 room-enough s l got after = go (sideFor s l) refl

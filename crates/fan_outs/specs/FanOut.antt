@@ -20,7 +20,7 @@ fanOut o q x = andThen (lookup o q x) (λ ms. good (length ms))
 abbrev pub statesOf : Lent → ℕ → ℕ
 statesOf l n = cond (eqb n 1) (stateCount (l .m1)) (cond (eqb n 2) (stateCount (l .m2)) 0)
 
--- machine 1 or 2 as it is looked up, whatever the side: "Machine 1 is matched on outputs, 2 on inputs", each with its own sigma
+-- machine 1 or 2 as it is looked up, whatever the side: "Machine 1 is matched on outputs, 2 on inputs", each with its own sigma; the ignored labels count as 0 (02, 2.7)
 abbrev pub operandNumbered : Settings → Lent → ℕ → Operand
 operandNumbered s l n = cond (eqb n 1) (operand1 s l) (operand2 s l)
 
@@ -28,7 +28,7 @@ operandNumbered s l n = cond (eqb n 1) (operand1 s l) (operand2 s l)
 unfoldable pub fanOutAt : Settings → Lent → (n q x : ℕ) → Checked ℕ
 fanOutAt s l n q x = refuseIf (leb (statesOf l n) q) 9 (fanOut (operandNumbered s l n) q x)
 
--- for a caller that is lent no memory: the checks 1 to 7 first
+-- for a caller that is lent no memory: the checks 1 to 7, with 18 (02, 2.7), first
 unfoldable pub fanOutOf : Settings → Lent → (n q x : ℕ) → Checked ℕ
 fanOutOf s l n q x = andThen (sideFor s l) (λ side. fanOutAt s l n q x)
 

@@ -1,1 +1,2 @@
 pub mod FanOut
+pub mod Ignoring

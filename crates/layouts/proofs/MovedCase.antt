@@ -12,6 +12,7 @@ use Rattle.words.specs.Labels.{good, refused}
 use Rattle.words.specs.Weights.{times, isZero}
 use Rattle.words.specs.Matches.{labelled, sortedMatches, outputs}
 use Rattle.words.specs.Machines.{stateCount, trCount, startWord, sideMark, acceptorMark, stateWord, trWord, firstOk, nextOk, firstOf, nextOf, listBy, listFrom, listOf, noFall, sorted, stateOk, trOk, acceptor, marksOk, sizeUpTo, wellFormedUpTo}
+use Rattle.words.specs.Ignored.{heard, ignoredOk}
 use Rattle.words.specs.Sides.{only, sideOf, directionAt}
 use Rattle.words.specs.Filters.{noneAt, allAt}
 use Rattle.words.specs.Sigmas.{has, sigmaTrs, sigmaMatches, lookup, given}
@@ -35,7 +36,7 @@ abbrev c : Composition
 c = compositionOf (settingsOf (plain 0 0)) both (only outputs)
 
 rule : sideFor (settingsOf (plain 0 0)) both ≡ good (only outputs)
-unfolding sideForWith settingsOk wellFormedUpTo sizeUpTo stateOk trOk marksOk acceptor every interval sideOf sorted noFall sideMark acceptorMark stateCount trCount startWord stateWord trWord firstOk nextOk firstOf nextOf listBy listFrom listOf
+unfolding sideForWith settingsOk wellFormedUpTo sizeUpTo stateOk trOk marksOk acceptor every interval sideOf sorted noFall sideMark acceptorMark stateCount trCount startWord stateWord trWord firstOk nextOk firstOf nextOf listBy listFrom listOf heard has ignoredOk
 rule = refl
 
 module _ (trs : List ℕ) (size : length trs ≡ 327680) (zeros : (i : ℕ) → getD trs i 0 ≡ 0) where
@@ -101,7 +102,7 @@ module _ (trs : List ℕ) (size : length trs ≡ 327680) (zeros : (i : ℕ) → 
   pub eight-moves :
       (callWith five both (old 65536) (finalWeight 0) .reply ≡ answered (refusal 8) (holding 65536))
       × (callOf both (new 65536) (finalWeight 0) .reply ≡ answered (weight none) (holding 65536))
-  unfolding callWith finalWeightWith enteredAtWith finalAt times isZero stateWord tripleAt fieldOf
+  unfolding callWith finalWeightWith enteredAtWith finalAt times isZero stateWord stateCount tripleAt fieldOf
   eight-moves = (rw old-eight, rw (enters 65536 (omega arith)))
 
   old-room : trRoomWith five (old 65535 .memory) ≡ 65535
@@ -116,7 +117,7 @@ module _ (trs : List ℕ) (size : length trs ≡ 327680) (zeros : (i : ℕ) → 
   pub thirteen-moves :
       (callWith five both (old 65535) (expand 0) .reply ≡ answered (refusal 13) (holding 65535))
       × (callOf both (new 65535) (expand 0) .reply ≡ answered (listPart 65536 1) (session (plain 0 0) 1 2 65536))
-  unfolding callWith expandWith enteredAtWith expansionWith storeStepsWith storeStepWith expandedWith fieldOf reachWith findWith first linked chainWith sameTriple addWith append markWith slot headOf put nextWith tripleAt stateRoomWith roomWith stepsAt stepOf given keptAt keptAlong flatMap walk lookup has sigmaTrs sigmaMatches labelled keepIf sortedMatches noneAt allAt every directionAt times isZero stateCount trCount stateWord trWord firstOk nextOk firstOf nextOf listBy listFrom listOf
+  unfolding callWith expandWith enteredAtWith expansionWith storeStepsWith storeStepWith expandedWith fieldOf reachWith findWith first linked chainWith sameTriple addWith append markWith slot headOf put nextWith tripleAt stateRoomWith roomWith stepsAt stepOf given keptAt keptAlong flatMap walk lookup has sigmaTrs sigmaMatches labelled keepIf sortedMatches noneAt allAt every directionAt times isZero stateCount trCount stateWord trWord firstOk nextOk firstOf nextOf listBy listFrom listOf heard
   thirteen-moves =
       let e = enters 65535 (omega arith) in
       (rw (enters-old both small (holding 65535) (old 65535 .memory) (new 65535 .memory) (pair 65535) c e (omega arith, omega arith), old-room), rw (e, new-room))

@@ -24,4 +24,4 @@ fanOutPrinted input =
 
 -- what is printed of the words that the four lines are left with
 abbrev pub endedFanOut : (settings first second query : List ℕ) → List ℕ
-endedFanOut settings first second query = fanOutBytes (fanOutLine settings (record { m1 = first; m2 = second; allowed1 = none; allowed2 = none }) query)
+endedFanOut settings first second query = fanOutBytes (fanOutLine settings (record { m1 = first; m2 = second; allowed1 = none; allowed2 = none; ignored = [] }) query)

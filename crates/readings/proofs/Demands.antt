@@ -8,6 +8,8 @@ use Rattle.calls.specs.Sequences.{World, Call, callOf, after, afterWith}
 use Rattle.calls.proofs.OpenKept.{open-kept}
 use Rattle.readings.specs.Worlds.{worldOf, OpeningsRefused}
 use Rattle.readings.specs.Again.{replyAfter, GivesAgain}
+use Rattle.readings.specs.Listed.{pickOf}
+use Rattle.readings.specs.StorePaths.{Finished, Paths}
 use Rattle.readings.specs.Demands.{Claim}
 use Rattle.readings.proofs.Grows.{KeptWorld}
 use Rattle.readings.proofs.Openings.{open-keeps, open-unexpanded}
@@ -17,6 +19,7 @@ use Rattle.readings.proofs.GivenAgain.{gives-again}
 use Rattle.readings.proofs.NeverEight.{never-eight}
 use Rattle.readings.proofs.LargerMemory.{larger}
 use Rattle.readings.proofs.StorePaths.{store-paths}
+use Rattle.readings.proofs.LentPaths.{lent-paths}
 
 -- two answers to one call of a list
 given : (l : Lent) (c : Composition) (w : World) (cs : List Call) → KeptWorld l c w → OpeningsRefused l w cs → (before middle later : List Call) (x : Call)
@@ -32,7 +35,10 @@ demand-3 s l got m e =
     let o = open-kept s l got m tt e in
     let c = compositionOf s l (o .side) in
     let w = worldOf (openOf s l got m) in
-    let k = open-keeps s l got m e (o .side) (o .rule) in (
+    let k = open-keeps s l got m e (o .side) (o .rule) in
+    let paths : (cs : List Call) → OpeningsRefused l w cs → Finished s l c (after l w cs) → Paths l c (pickOf (s .filter)) (after l w cs) =
+    λ cs r. store-paths s l (o .side) (o .rule) (after l w cs) (calls-kept l c w cs k r cs [] (append-nil cs) .sound)
+    in (
       o .side,
       o .rule,
       λ cs r. record {
@@ -43,6 +49,7 @@ demand-3 s l got m e =
         again = calls-again l c w cs k r;
         given = given l c w cs k r;
         larger = λ got2 big more. larger s l got got2 m big more e (o .side) (o .rule) cs r;
-        paths = store-paths s l (o .side) (o .rule) (after l w cs) (calls-kept l c w cs k r cs [] (append-nil cs) .sound);
+        paths = paths cs r;
+        lent-paths = λ f. lent-paths s l (o .side) (pickOf (s .filter)) (after l w cs) (paths cs r f);
       },
     )

@@ -14,6 +14,8 @@ use Rattle.papers.specs.Filter.{MoveKind, Filter}
 use Rattle.papers.specs.Composition.{rest, along, Edges}
 use Rattle.papers.specs.Paths.{word, path1, path2, Matching, Ends, Accepting, AcceptingPath, AcceptingRun, movesWeight}
 use Rattle.words.specs.Machines.{stateCount, trCount, startWord, sideMark, acceptorMark, stateWord, trWord, firstOk, nextOk, firstOf, nextOf, listBy, listFrom, listOf, machineOf, noFall, sorted, stateOk, trOk, acceptor, marksOk, wellFormed, sizeUpTo, wellFormedUpTo}
+use Rattle.words.specs.Ignored.{heard}
+use Rattle.words.specs.Sigmas.{has}
 use Rattle.words.specs.Filters.{sequence, alternate, matching}
 use Rattle.words.specs.AsPapers.{exact}
 use Rattle.papers.specs.Pick.{sequencePick, alternatePick, matchingPick}
@@ -32,7 +34,7 @@ abbrev pub words2 : List ℕ
 words2 = 3 ∷ 3 ∷ 1 ∷ 0 ∷ 0 ∷ 0 ∷ 1 ∷ 0 ∷ 0 ∷ 2 ∷ 0 ∷ 0 ∷ 0 ∷ 1 ∷ 3 ∷ 0 ∷ 7 ∷ 4 ∷ 1 ∷ 3 ∷ 5 ∷ 8 ∷ 1 ∷ 2 ∷ 0 ∷ 5 ∷ 9 ∷ 6 ∷ 2 ∷ 0 ∷ []
 
 pub well-formed : (wellFormed words1 ≡ true) × (wellFormed words2 ≡ true)
-unfolding wellFormedUpTo sizeUpTo stateOk trOk marksOk acceptor sorted noFall every interval sideMark acceptorMark stateCount trCount startWord stateWord trWord firstOk nextOk firstOf nextOf listBy listFrom listOf
+unfolding wellFormedUpTo sizeUpTo stateOk trOk marksOk acceptor sorted noFall every interval sideMark acceptorMark stateCount trCount startWord stateWord trWord firstOk nextOk firstOf nextOf listBy listFrom listOf heard has
 well-formed = (refl, refl)
 
 abbrev M1 : Machine
@@ -54,11 +56,11 @@ pub record Shape (M : Machine) : Type 0 where
   pub ends1 : M .isFinal 1 ≡ false
 
 shape1 : Shape M1
-unfolding stateCount trCount startWord stateWord trWord firstOk nextOk firstOf nextOf listBy listFrom listOf
+unfolding stateCount trCount startWord stateWord trWord firstOk nextOk firstOf nextOf listBy listFrom listOf heard has
 shape1 = record { start = refl; list0 = refl; list1 = refl; list2 = refl; to1 = refl; to2 = refl; to3 = refl; ends0 = refl; ends1 = refl }
 
 shape2 : Shape M2
-unfolding stateCount trCount startWord stateWord trWord firstOk nextOk firstOf nextOf listBy listFrom listOf
+unfolding stateCount trCount startWord stateWord trWord firstOk nextOk firstOf nextOf listBy listFrom listOf heard has
 shape2 = record { start = refl; list0 = refl; list1 = refl; list2 = refl; to1 = refl; to2 = refl; to3 = refl; ends0 = refl; ends1 = refl }
 
 -- the two accepting paths of such a machine
@@ -108,12 +110,12 @@ isFinite (finite a) = true
 isFinite infinite = false
 
 ends1 : (k : Kind) → Ends (semiring k) (exact k) M1 2
-unfolding stateWord
+unfolding stateWord stateCount
 ends1 cost = (refl, λ e. true≢false (ap isFinite e))
 ends1 count = (refl, λ e. absurd (omega (arith, e)))
 
 ends2 : (k : Kind) → Ends (semiring k) (exact k) M2 2
-unfolding stateWord
+unfolding stateWord stateCount
 ends2 cost = (refl, λ e. true≢false (ap isFinite e))
 ends2 count = (refl, λ e. absurd (omega (arith, e)))
 
@@ -148,7 +150,7 @@ of-pairs P p a b c d i =
     (λ i. ⊎-elim (λ e. subst P (sym e) d) (λ i. absurd (List·Memᴰ·not-nil i)) (List·Memᴰ·cases-cons i)) (List·Memᴰ·cases-cons i)) (List·Memᴰ·cases-cons i)) (List·Memᴰ·cases-cons i)
 
 all-match : (p : List ℕ × List ℕ) → In p pairs → Matching _≡_ M1 M2 (p .0) (p .1)
-unfolding word keepIf trWord stateCount
+unfolding word keepIf trWord stateCount heard has
 all-match p i = of-pairs (λ p. Matching _≡_ M1 M2 (p .0) (p .1)) p (refl, tt) (refl, tt) (refl, tt) (refl, tt) i
 
 module _ (k : Kind) where
@@ -202,7 +204,7 @@ pub by-sequence : composedPaths sequencePick ≡
     ∷ (move rest (along 1) ∷ move (along 3) (along 2) ∷ [])
     ∷ (move (along 3) (along 3) ∷ [])
     ∷ []
-unfolding mergeUpTo trWord stateCount
+unfolding mergeUpTo trWord stateCount heard has
 by-sequence = refl
 
 pub by-alternate : composedPaths alternatePick ≡
@@ -211,7 +213,7 @@ pub by-alternate : composedPaths alternatePick ≡
     ∷ (move rest (along 1) ∷ move (along 3) (along 2) ∷ [])
     ∷ (move (along 3) (along 3) ∷ [])
     ∷ []
-unfolding mergeUpTo trWord stateCount
+unfolding mergeUpTo trWord stateCount heard has
 by-alternate = refl
 
 pub by-match : composedPaths matchingPick ≡
@@ -220,7 +222,7 @@ pub by-match : composedPaths matchingPick ≡
     ∷ (move rest (along 1) ∷ move (along 3) (along 2) ∷ [])
     ∷ (move (along 3) (along 3) ∷ [])
     ∷ []
-unfolding mergeUpTo trWord stateCount
+unfolding mergeUpTo trWord stateCount heard has
 by-match = refl
 
 -- The other order of the two ε, by which the first reading would be doubled, is no accepting path under sequence.
@@ -232,7 +234,7 @@ abbrev otherOrder : List Edges
 otherOrder = move rest (along 1) ∷ move (along 1) rest ∷ move (along 2) (along 2) ∷ []
 
 pub not-doubled : (k : Kind) → AcceptingRun (semiring k) (exact k) (plainComposed M1 M2 sequence) otherOrder → ⊥
-unfolding flatMap mergeUpTo trWord stateCount
+unfolding flatMap mergeUpTo trWord stateCount heard has
 not-doubled k h = true≢false (ap moves1 (sequence-readings k (exact k) M1 M2 .paths .from-to otherOrder h))
 
 -- Machine 1's paths cost 5 and 12, machine 2's 8 and 9; they count 4 and 20, 12 and 18.
@@ -243,12 +245,12 @@ abbrev sums : List Cost
 sums = finite 13 ∷ finite 14 ∷ finite 20 ∷ finite 21 ∷ []
 
 pub costs : (pathWeights cost sequence sequencePick ≡ sums) × (pathWeights cost alternate alternatePick ≡ sums) × (pathWeights cost matching matchingPick ≡ sums)
-unfolding mergeUpTo stateWord trWord stateCount
+unfolding mergeUpTo stateWord trWord stateCount heard has
 costs = (refl, refl, refl)
 
 abbrev products : List ℕ
 products = 48 ∷ 72 ∷ 240 ∷ 360 ∷ []
 
 pub counts : (pathWeights count sequence sequencePick ≡ products) × (pathWeights count alternate alternatePick ≡ products) × (pathWeights count matching matchingPick ≡ products)
-unfolding mergeUpTo stateWord trWord stateCount
+unfolding mergeUpTo stateWord trWord stateCount heard has
 counts = (refl, refl, refl)

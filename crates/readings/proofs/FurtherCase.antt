@@ -18,6 +18,8 @@ use Rattle.papers.specs.Sums.{total, LeastIs, weightOfPair}
 use Rattle.words.specs.Labels.{good}
 use Rattle.words.specs.Machines.{machineOf}
 use Rattle.words.specs.Matches.{outputs}
+use Rattle.words.specs.Ignored.{heard}
+use Rattle.words.specs.Sigmas.{has}
 use Rattle.words.specs.Sides.{Side, only}
 use Rattle.words.specs.Steps.{Composition}
 use Rattle.words.specs.Settings.{Settings, Lent, compositionOf}
@@ -244,6 +246,7 @@ free-path k q (u ∷ p) h t i =
     five e = let z : _≡_ {A = ℕ} 5 0 = e in omega (arith, z)
 
 pub free-there : (filter : ℕ) → OneEpsilonFree (compositionOf (set 1 filter) (lend words1 looping) (only outputs))
+unfolding heard has
 free-there filter = inr (λ p h. free-path count (h .0) p (h .2))
 
 -- trivial lists a pair with two paths, and so does no-match

@@ -100,7 +100,7 @@ total-of-pairs =
 
 -- the same with an allowed list that has 6 alone: 8 is read by its own transition only
 abbrev excluding : Lent
-excluding = record { m1 = letters .m1; m2 = letters .m2; allowed1 = none; allowed2 = some (6 ∷ []) }
+excluding = record { m1 = letters .m1; m2 = letters .m2; allowed1 = none; allowed2 = some (6 ∷ []); ignored = [] }
 
 abbrev left2 : World
 left2 =

@@ -31,6 +31,7 @@ pub mod InScope
 pub mod TwoWorlds
 pub mod LargerMemory
 pub mod NeverEight
+pub mod LentPaths
 pub mod Demands
 pub mod Copied
 pub mod Demand2
@@ -49,3 +50,4 @@ pub mod OwnedCase
 pub mod WordCase
 pub mod SigmaCase
 pub mod LetterCase
+pub mod IgnoredCase

@@ -1,4 +1,4 @@
--- "8 is never answered", as a fact about all replies of a list: a found state is refused by 10 to 13, one that is not found by 9, and an opening by 1 to 7 or 13.
+-- "8 is never answered", as a fact about all replies of a list: a found state is refused by 10 to 13, one that is not found by 9, and an opening by 1 to 7, 18 or 13.
 use mathlib.Core.Path.{_≡_, refl, sym, _∙_, ap}
 use mathlib.Core.List.{List, [], _∷_, List·Memᴰ as In, List·Memᴰ·not-nil, List·Memᴰ·cases-cons}
 use mathlib.Core.Logic.{_≢_, ⊎-elim}
@@ -66,7 +66,7 @@ module _ (l : Lent) (c : Composition) where
   call-eight : (w : World) → KeptWorld l c w → (x : Call) (t : Session) → callOf l w x .reply ≢ answered (refusal 8) t
   unfolding callWith
   call-eight w h (opening s k) =
-      turn-eight (λ u. accepted) (λ a t. refl) (openOf s k (w .session) (w .memory)) (λ e. ⊎-elim (λ z. omega (arith, z)) (λ z. omega (arith, z)) (open-refusals s k (w .session) (w .memory) 8 e))
+      turn-eight (λ u. accepted) (λ a t. refl) (openOf s k (w .session) (w .memory)) (λ e. ⊎-elim (⊎-elim (λ z. omega (arith, z)) (λ z. omega (arith, z))) (λ z. omega (arith, z)) (open-refusals s k (w .session) (w .memory) 8 e))
   call-eight w h (expand n) = turn-eight part (λ a t. refl) (expandIn l w n) (expand-eight w h n)
   call-eight w h (finalWeight n) = turn-eight weight (λ a t. refl) (finalIn l w n) (final-eight w h n)
   call-eight w h (records n) = λ t z. let a : _≡_ {A = ℕ} 0 8 = ap numberOf z in omega (arith, a)

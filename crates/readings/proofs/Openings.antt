@@ -135,7 +135,7 @@ module _ (s : Settings) (l : Lent) (got : Session) (m : Memory) where
     full = (
       by-open s l got m
           (λ (o : Outcome (Unit {0})). openOf s l got m ≡ o → o .answer ≡ refused 13 → (side : Side) × (sideFor s l ≡ good side) × HasStart s l side × ((length (m .heads) ≡ 0) ⊎ (stateRoom m ≡ 0)))
-          (λ k e q z. let r = side-refusals s l k e in absurd (omega (arith, r, refused-is z)))
+          (λ k e q z. absurd (⊎-elim (λ r. omega (arith, r, refused-is z)) (λ r. omega (arith, r, refused-is z)) (side-refusals s l k e)))
           (λ side e h q z. absurd (good≢refused z))
           (λ side t e h q z. (side, e, (t, h), ⊎-elim (λ f. absurd (good≢refused (sym (begins side e (t, h) f) ∙ ap (λ (o : Outcome (Unit {0})). o .answer) q))) (λ f. f) finds-or-not))
           (λ side t e h b q z. absurd (good≢refused z))

@@ -12,10 +12,10 @@ use Rattle.lists.specs.Lists.{every, interval}
 use Rattle.lists.proofs.Members.{and-left, and-right, or-cases, in-flat, of-flat, every-in, in-interval}
 use Rattle.words.specs.Labels.{noLabel, Checked, good, refused}
 use Rattle.words.specs.Matches.{inputs, outputs}
-use Rattle.words.specs.Machines.{trCount, machineOf}
+use Rattle.words.specs.Machines.{trCount}
 use Rattle.words.specs.Sigmas.{isSet}
 use Rattle.words.specs.Sides.{Side, only, both}
-use Rattle.words.specs.Settings.{Settings, Lent, compositionOf}
+use Rattle.words.specs.Settings.{Settings, Lent, operand1, compositionOf}
 use Rattle.calls.specs.Store.{expandedAt}
 use Rattle.calls.specs.Sequences.{World}
 use Rattle.readings.specs.Worlds.{finalIn, UsedState, Expanded, recordsIn, targetOf}
@@ -93,11 +93,13 @@ letters-side (only inputs) e = inl refl
 letters-side (only outputs) e = absurd (false≢true e)
 letters-side both e = inr refl
 
+-- a transition of machine 1 whose output, after replacement, is not the sigma label
+abbrev notSigma : Settings → Lent → ℕ → Bool
+notSigma s l t = not (eqb (operand1 s l .machine .output t) (s .sigma2))
+
 unfoldable sigmaTest : Settings → Lent → Side → Bool
 unfolding interval every
-sigmaTest s l side =
-    eqb (s .sigma1) noLabel
-    && (eqb (s .sigma2) noLabel || (readsLetters side && every (λ t. not (eqb (machineOf (l .m1) .output t) (s .sigma2))) (interval 1 (trCount (l .m1)))))
+sigmaTest s l side = eqb (s .sigma1) noLabel && (eqb (s .sigma2) noLabel || (readsLetters side && every (notSigma s l) (interval 1 (trCount (l .m1)))))
 
 test-sigma : (s : Settings) (l : Lent) (side : Side) → sigmaTest s l side ≡ true → SigmaOn2AtMost (compositionOf s l side)
 unfolding sigmaTest
@@ -106,11 +108,11 @@ test-sigma s l side e = record {
   side = λ h. letters-side side (and-left (readsLetters side) _ (set h));
   letters = λ h q t i z.
       let r = list-member (l .m1) q i in
-      let test = every-in (λ t. not (eqb (machineOf (l .m1) .output t) (s .sigma2))) (and-right (readsLetters side) _ (set h)) (in-interval 1 (trCount (l .m1)) t (omega (arith, r .0)) (omega (arith, r .1))) in
+      let test = every-in (notSigma s l) (and-right (readsLetters side) _ (set h)) (in-interval 1 (trCount (l .m1)) t (omega (arith, r .0)) (omega (arith, r .1))) in
       eqb-false _ _ (not-true _ test) z;
 }
   where
-    set : isSet (sigma2 (compositionOf s l side)) ≡ true → readsLetters side && every (λ t. not (eqb (machineOf (l .m1) .output t) (s .sigma2))) (interval 1 (trCount (l .m1))) ≡ true
+    set : isSet (sigma2 (compositionOf s l side)) ≡ true → readsLetters side && every (notSigma s l) (interval 1 (trCount (l .m1))) ≡ true
     set h = ⊎-elim (λ z. absurd (false≢true (sym (not-true _ h) ∙ z))) (λ z. z) (or-cases (eqb (s .sigma2) noLabel) _ (and-right (eqb (s .sigma1) noLabel) _ e))
 
 -- 3c's condition, by a test

@@ -196,7 +196,7 @@ module _ (l : Lent) (c : Composition) (w v : World) (h : Same l c w v) where
       go (no i) =
           rw (h .kept1 .sound .enters, h .kept2 .sound .enters, le-leb (w .session .used .states) n (omega arith), le-leb (v .session .used .states) n (omega (arith, h .alike .states, i)))
 
-  -- an opening that is refused in the first: by 1 to 7, which look at no memory, or by 13
+  -- an opening that is refused in the first: by 1 to 7 or 18, which look at no memory, or by 13
   pub open-two : (s : Settings) (k : Lent) → Refused (openOf s k (w .session) (w .memory) .answer) → Agrees l c (openOf s k (w .session) (w .memory)) (openOf s k (v .session) (v .memory))
   unfolding openWith
   open-two s k =

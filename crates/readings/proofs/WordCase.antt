@@ -16,6 +16,8 @@ use Rattle.papers.specs.Sums.{total, SumIs, PairOf, weightOfPair, ComposedWeigh
 use Rattle.words.specs.Labels.{good}
 use Rattle.words.specs.Matches.{outputs}
 use Rattle.words.specs.Machines.{machineOf}
+use Rattle.words.specs.Ignored.{heard}
+use Rattle.words.specs.Sigmas.{has}
 use Rattle.words.specs.Sides.{only}
 use Rattle.words.specs.Steps.{Composition}
 use Rattle.words.specs.Settings.{Settings, Lent, compositionOf}
@@ -145,10 +147,12 @@ in-the-store = (four, just-these, refl)
 
 -- which is Mohri, Pereira and Riley's sum over the middle words,
 pub over-middle : ComposedWeighs naturals (exact count) (machineOf words1) (machineOf words2) (1 ∷ []) (9 ∷ []) 57
+unfolding heard has
 over-middle = claimed2 .words (omega arith) settled (1 ∷ []) (9 ∷ []) .sum 57 .0 in-the-store
 
 -- and back
 pub back-again : SumIs naturals Reads (recordsWeight count lent left 0) 57
+unfolding heard has
 back-again = claimed2 .words (omega arith) settled (1 ∷ []) (9 ∷ []) .sum 57 .1 over-middle
 
 -- record 4 is the pair of the machines' records 3 and 3, and weighs the product of 4 and 7
@@ -160,8 +164,10 @@ reads4 : Reads (4 ∷ [])
 reads4 = just-these .exactly (4 ∷ []) .0 (there (there (there (here refl))))
 
 pub pairs-up : PairOf naturals (exact count) (machineOf words1) (machineOf words2) (1 ∷ []) (9 ∷ []) (3 ∷ [], 3 ∷ [])
+unfolding heard has
 pairs-up = subst (PairOf naturals (exact count) (machineOf words1) (machineOf words2) (1 ∷ []) (9 ∷ [])) its-pair (claimed2 .words (omega arith) settled (1 ∷ []) (9 ∷ []) .paths .goes (4 ∷ []) reads4)
 
 pub multiplies : recordsWeight count lent left 0 (4 ∷ []) ≡ weightOfPair naturals (exact count) (machineOf words1) (machineOf words2) (3 ∷ [], 3 ∷ [])
+unfolding heard has
 multiplies =
     claimed2 .words (omega arith) settled (1 ∷ []) (9 ∷ []) .weights (4 ∷ []) reads4 ∙ ap (weightOfPair naturals (exact count) (machineOf words1) (machineOf words2)) its-pair

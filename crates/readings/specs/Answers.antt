@@ -18,12 +18,12 @@ use Rattle.calls.specs.Calls.{openOf}
 use Rattle.calls.specs.Sequences.{World, Call, expand, run, after}
 use Rattle.readings.specs.Worlds.{worldOf, expandIn, finalIn, runIn, handedIn, Accepted, UsedState, Expanded, stateAt}
 
--- "Opening checks 1 to 7, then 13 (not if a machine lacks a start: then no state is found)", where 13 is "a record or, at opening, a head is lacking"
+-- "Opening checks 1 to 7" with 18 (02, 2.7), "then 13 (not if a machine lacks a start: then no state is found)", where 13 is "a record or, at opening, a head is lacking"
 abbrev pub HasStart : Settings → Lent → Side → Type 0
 HasStart s l side = (t : Triple) × (startAt (compositionOf s l side) ≡ some t)
 
 pub record Opens (s : Settings) (l : Lent) (got : Session) (m : Memory) : Type 0 where
-  -- accepted just where the checks 1 to 7 give a side, and a composition with a start finds a head and a state record
+  -- accepted just where the checks 1 to 7 and 18 give a side, and a composition with a start finds a head and a state record
   pub accepts : (openOf s l got m .answer ≡ good tt)
       ↔ ((side : Side) × (sideFor s l ≡ good side) × (HasStart s l side → (0 < length (m .heads)) × (0 < stateRoom m)))
   -- refused by 13 just where one of them is lacking

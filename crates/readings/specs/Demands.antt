@@ -1,5 +1,5 @@
 -- Demands 3 and 2b. Demand 3: one claim about whole lists of calls, on slices and sessions, over the definitions that the calls' contracts cite. Its parts stand in Worlds and
--- Answers (scope), Again (3a), Larger (3b) and StorePaths (3c); each quotes the demand or document 01.
+-- Answers (scope), Again (3a), Larger (3b), StorePaths and LentPaths (3c); each quotes the demand or document 01.
 use mathlib.Core.Path.{_≡_}
 use mathlib.Core.List.{List, _∷_, _++_, List·Memᴰ}
 use mathlib.Core.Logic.{_≢_, _↔_}
@@ -24,6 +24,7 @@ use Rattle.readings.specs.Answers.{ExpandedBy, Answers}
 use Rattle.readings.specs.Again.{Again, replyAfter, GivesAgain}
 use Rattle.readings.specs.Larger.{NoShorter, Larger}
 use Rattle.readings.specs.StorePaths.{AllRead, Settled, Finished, Paths}
+use Rattle.readings.specs.LentPaths.{LentPaths}
 use Rattle.readings.specs.Follows.{PapersList, RefusedFor, PapersPaths, ByWords}
 
 -- The claim about one list of calls, from the world w that an opening with the settings s in the memory m left; c is the composition that it fixed.
@@ -42,6 +43,8 @@ pub record Demand3 (s : Settings) (l : Lent) (m : Memory) (c : Composition) (w :
   pub larger : (got : Session) (big : Memory) → NoShorter m big → Larger s l w cs got big
   -- 3c
   pub paths : Finished s l c (after l w cs) → Paths l c (pickOf (s .filter)) (after l w cs)
+  -- 3c on the machines as lent: "Readings agree when their inner labels do after replacement" (02, 2.7). With an empty list both say the same.
+  pub lent-paths : Finished s l c (after l w cs) → LentPaths s l c (pickOf (s .filter)) (after l w cs)
 
 -- 3s: "For every list of calls after one accepted opening .. whatever memory held before that opening". The side is the one that the rule gives.
 abbrev pub Claim : Type 0

@@ -67,7 +67,7 @@ pub record PapersPaths (l : Lent) (c : Composition) (w : World) : Type 0 where
 abbrev pub ReadsAs : Lent → World → List ℕ → List ℕ → List ℕ → Type 0
 ReadsAs l w x y rs = AcceptingRecords l w rs × (word (map (inputOf w) rs) ≡ x) × (word (map (outputOf w) rs) ≡ y)
 
--- MPR's equation, of the store. The machines are T1 and T2.
+-- MPR's equation, of the store. The machines, after replacement (02, 2.7), are T1 and T2.
 pub record ByWords (l : Lent) (c : Composition) (pick : Bool → Bool → MoveKind) (w : World) (x y : List ℕ) : Type 0 where
   -- path by path: the accepting paths x:y and the pairs of accepting paths x:z, z:y, for any z, correspond one to one, and the weights multiply
   pub paths : OneToOne (ReadsAs l w x y) (PairOf (semiring (c .kind)) (exact (c .kind)) (machine1 c) (machine2 c) x y) (pairOfRecords c w) (recordsOfPair c pick w)

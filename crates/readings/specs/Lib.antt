@@ -15,6 +15,7 @@ pub mod Answers
 pub mod Again
 pub mod Larger
 pub mod StorePaths
+pub mod LentPaths
 pub mod Follows
 pub mod Demands
 -- 02, 2.1: what holds of null, trivial and no-match in place of 3c.

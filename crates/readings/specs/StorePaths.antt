@@ -41,7 +41,7 @@ pub record Settled (s : Settings) (l : Lent) (w : World) : Type 0 where
   pub sigma2 : s .sigma2 ≡ noLabel
   pub read : AllRead l w
 
--- machine 1 and machine 2 of a composition, and the sigma of machine 2
+-- machine 1 and machine 2 of a composition, after replacement of their inner labels (02, 2.7), and the sigma of machine 2
 abbrev pub machine1 : Composition → Machine
 machine1 c = c .operand1 .machine
 
@@ -51,7 +51,8 @@ machine2 c = c .operand2 .machine
 abbrev pub sigma2 : Composition → Sigma
 sigma2 c = c .operand2 .sigma
 
--- 02, 2.4: "sigma on machine 2 alone, side input or both, when no output of machine 1 is the sigma label"; or no sigma label is set
+-- 02, 2.4: "sigma on machine 2 alone, side input or both, when no output of machine 1 is the sigma label"; or no sigma label is set. Outputs are judged
+-- after replacement (02, 2.7): `machine1 c` hears the listed ones as 0.
 pub record SigmaOn2AtMost (c : Composition) : Type 0 where
   pub alone : c .operand1 .sigma .label ≡ noLabel
   pub side : isSet (sigma2 c) ≡ true → (c .side ≡ only inputs) ⊎ (c .side ≡ both)

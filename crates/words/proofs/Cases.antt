@@ -10,6 +10,7 @@ use Rattle.words.specs.Labels.{Checked, good, refused, collect}
 use Rattle.words.specs.Weights.{times, isZero}
 use Rattle.words.specs.Matches.{inputs, outputs, labelled, sortedMatches}
 use Rattle.words.specs.Machines.{stateCount, trCount, startWord, sideMark, acceptorMark, stateWord, trWord, firstOk, nextOk, firstOf, nextOf, listBy, listFrom, listOf, noFall, sorted, wellFormed}
+use Rattle.words.specs.Ignored.{heard}
 use Rattle.words.specs.Sides.{Side, only, both, sideOf, directionAt}
 use Rattle.words.specs.Filters.{noneAt, allAt}
 use Rattle.words.specs.Sigmas.{has, sigmaTrs, sigmaMatches, lookup, given}
@@ -26,7 +27,7 @@ pub record Case : Type 0 where
 unfoldable pub caseOf : List ℕ → List ℕ → List ℕ → Option (List ℕ) → Option (List ℕ) → ℕ → ℕ → ℕ → List ℕ → Case
 caseOf w m1 m2 a1 a2 s1 s2 f wants = record {
   settings = record { kind = getD w 0 0; filter = getD w 1 0; sigma1 = getD w 2 0; mode1 = getD w 3 0; sigma2 = getD w 4 0; mode2 = getD w 5 0 };
-  lent = record { m1 = m1; m2 = m2; allowed1 = a1; allowed2 = a2 };
+  lent = record { m1 = m1; m2 = m2; allowed1 = a1; allowed2 = a2; ignored = [] };
   at = record { s1 = s1; s2 = s2; f = f };
   wants = wants;
 }
@@ -66,7 +67,7 @@ answerBy s l t (good side) = sideNumber side ∷ stateWords (compositionOf s l s
 
 -- its own `unfolding` line opens all that it calls: a closed case names `answer` alone
 unfoldable pub answer : Settings → Lent → Triple → List ℕ
-unfolding collect startAt finalAt isZero times stepsAt stepOf given keptAt keptAlong flatMap walk lookup has sigmaTrs sigmaMatches labelled keepIf sortedMatches noneAt allAt every directionAt sideOf sorted noFall interval sideMark acceptorMark stateCount trCount startWord stateWord trWord firstOk nextOk firstOf nextOf listBy listFrom listOf
+unfolding collect startAt finalAt isZero times stepsAt stepOf given keptAt keptAlong flatMap walk lookup has sigmaTrs sigmaMatches labelled keepIf sortedMatches noneAt allAt every directionAt sideOf sorted noFall interval sideMark acceptorMark stateCount trCount startWord stateWord trWord firstOk nextOk firstOf nextOf listBy listFrom listOf heard
 answer s l t = answerBy s l t (sideOf (operand1 s l) (operand2 s l))
 
 -- the settings are in their ranges, the machines are well formed, and the answer is the one wanted

@@ -175,7 +175,7 @@ directions = (refl, refl, refl, refl, refl, refl, refl, refl)
 
 -- the start of the composition of two machines
 abbrev startOfWords : List ℕ → List ℕ → Option Triple
-startOfWords m1 m2 = startAt (compositionOf (settings 0 0 0 0) (record { m1 = m1; m2 = m2; allowed1 = none; allowed2 = none }) both)
+startOfWords m1 m2 = startAt (compositionOf (settings 0 0 0 0) (record { m1 = m1; m2 = m2; allowed1 = none; allowed2 = none; ignored = [] }) both)
 
 -- start plus one: the pair of starts with f = 0, or none where a machine has no start
 pub starts :

@@ -1,22 +1,32 @@
 -- What a well-formed machine says of its size, states, records and marks.
-use mathlib.Core.Path.{_≡_, ap}
+use mathlib.Core.Path.{_≡_, refl, ap, _∙_}
 use mathlib.Core.Bool.{true}
 use mathlib.Core.List.{List}
-use Prim.Native.Nat.{ℕ, suc, _+_, _*_, _<_, _≤_}
+use Prim.Native.Nat.{ℕ, zero, suc, _+_, _-_, _*_, _<_, _≤_}
 use native.Mathlib.Omega.{arith}
 use lib.Dec.{ltb, leb}
 use lib.ListN.{length, getD}
-use borrow.Author.Tests.{ltb-true, leb-true, eqb-true, le-leb, eq-eqb}
+use borrow.Author.Tests.{ltb-true, leb-true, eqb-true, le-leb, lt-ltb, eq-eqb}
 use Rattle.lists.specs.Lists.{every, interval}
 use Rattle.lists.proofs.Members.{and-left, and-right, every-in, in-interval}
 use Rattle.words.specs.Labels.{MAX}
 use Rattle.words.specs.Matches.{MatchType, inputs, outputs}
-use Rattle.words.specs.Machines.{limit, stateCount, trCount, startWord, sideMark, acceptorMark, stateWord, trWord, firstOk, firstOf, nextOf, machineOf, sorted, finalOk, stateOk, trOk, sideMarkOk, acceptorMarkOk, acceptor, marksOk, sizeOk, wellFormed, sizeUpTo, wellFormedUpTo}
+use Rattle.words.specs.Machines.{limit, headerWords, stateWords, trWords, stateCount, trCount, startWord, sideMark, acceptorMark, stateWord, trWord, firstOk, firstOf, nextOf, machineOf, sorted, finalOk, stateOk, trOk, sideMarkOk, acceptorMarkOk, acceptor, marksOk, sizeOk, wellFormed, sizeUpTo, wellFormedUpTo}
 
 -- the place of a record: "the length is exactly 6 + 3S + 5T", and records count from 1
 pub tr-place : (m : List ℕ) (t k : ℕ) → trWord m (suc t) k ≡ getD m (6 + 3 * stateCount m + 5 * t + k) 0
 unfolding trWord
-tr-place m t k = ap (λ (i : ℕ). getD m i 0) (omega arith)
+tr-place m t k = refl
+
+-- the same with one number for all records: where record 0 would begin
+pub tr-at : (m : List ℕ) (t k : ℕ) → 0 < t → trWord m t k ≡ getD m (headerWords - trWords + stateWords * stateCount m + trWords * t + k) 0
+tr-at m zero k h = absurd (omega (arith, h))
+tr-at m (suc t) k h = tr-place m t k ∙ ap (λ (i : ℕ). getD m i 0) (omega arith)
+
+-- the place of a state's word
+pub state-at : (m : List ℕ) (s k : ℕ) → s < stateCount m → stateWord m s k ≡ getD m (headerWords + stateWords * s + k) 0
+unfolding stateWord
+state-at m s k h = rw (lt-ltb _ _ h)
 
 pub record StateForm (m : List ℕ) (s : ℕ) : Type 0 where
   -- the guarded reading is the word

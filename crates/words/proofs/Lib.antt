@@ -1,6 +1,9 @@
 pub mod CheckedLaws
 pub mod ListLaws
 pub mod FormLaws
+pub mod ReplacedLaws
+pub mod WordsReplaced
+pub mod IgnoredLookups
 pub mod TableLaws
 pub mod WalkLaws
 pub mod PapersLookup
@@ -17,3 +20,4 @@ pub mod Cases
 pub mod RustCases
 pub mod Tables
 pub mod ClosedCases
+pub mod IgnoredCases

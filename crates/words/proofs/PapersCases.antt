@@ -18,6 +18,8 @@ use Rattle.words.specs.Labels.{MAX}
 use Rattle.words.specs.Weights.{cost}
 use Rattle.words.specs.Matches.{inputs, outputs}
 use Rattle.words.specs.Machines.{stateCount, trCount, startWord, sideMark, acceptorMark, stateWord, trWord, firstOk, nextOk, firstOf, nextOf, listBy, listFrom, listOf, noFall, sorted, stateOk, trOk, acceptor, marksOk, sizeUpTo, wellFormedUpTo}
+use Rattle.words.specs.Ignored.{heard}
+use Rattle.words.specs.Sigmas.{has}
 use Rattle.words.specs.Sides.{only, sideOf, directionAt}
 use Rattle.words.specs.Steps.{Composition}
 use Rattle.words.specs.Settings.{Settings, Lent, compositionOf}
@@ -29,7 +31,7 @@ abbrev settings : ℕ → Settings
 settings sigma2 = record { kind = 0; filter = 0; sigma1 = MAX; mode1 = 0; sigma2 = sigma2; mode2 = 0 }
 
 abbrev lent : List ℕ → List ℕ → Lent
-lent m1 m2 = record { m1 = m1; m2 = m2; allowed1 = none; allowed2 = none }
+lent m1 m2 = record { m1 = m1; m2 = m2; allowed1 = none; allowed2 = none; ignored = [] }
 
 abbrev pair : Edge → Edge → Edges
 pair e d = record { first = e; second = d }
@@ -45,7 +47,7 @@ abbrev pub listing : Composition
 listing = compositionOf (settings MAX) (lent listed1 listed2) (only outputs)
 
 pub listing-sound : Composable listing
-unfolding sideOf wellFormedUpTo sizeUpTo stateOk trOk marksOk acceptor every interval sorted noFall sideMark acceptorMark stateCount trCount startWord stateWord trWord firstOk nextOk firstOf nextOf listBy listFrom listOf
+unfolding sideOf wellFormedUpTo sizeUpTo stateOk trOk marksOk acceptor every interval sorted noFall sideMark acceptorMark stateCount trCount startWord stateWord trWord firstOk nextOk firstOf nextOf listBy listFrom listOf heard has
 listing-sound = sound-of (settings MAX) (lent listed1 listed2) (only outputs) refl refl refl
 
 -- the four states of the listing: 1 alone, 2 alone, the label 5
@@ -53,7 +55,7 @@ abbrev pub moves : List Edges
 moves = pair (along 1) rest ∷ pair rest (along 1) ∷ pair (along 2) (along 2) ∷ []
 
 pub listing-run : AcceptingRun (semiring cost) (exact cost) (composedOf listing) moves
-unfolding directionAt noEpsilon onlyEpsilons every stateCount trCount startWord stateWord trWord firstOk nextOk firstOf nextOf listBy listFrom listOf
+unfolding directionAt noEpsilon onlyEpsilons every stateCount trCount startWord stateWord trWord firstOk nextOk firstOf nextOf listBy listFrom listOf heard has
 listing-run = (
   record { s1 = 0; s2 = 0; f = 0 },
   (refl, refl, refl),
@@ -70,7 +72,7 @@ listing-run = (
 
 -- "t 1 0 1 1", "t 0 7 4 2", "t 2 8 3 3", "s 3 2 2 0 3": 1 + 4 + 3 + 3
 pub listing-weight : movesWeight (semiring cost) (exact cost) (composedOf listing) 0 0 moves ≡ finite 11
-unfolding stateCount trWord stateWord
+unfolding stateCount trWord stateWord heard has
 listing-weight = refl
 
 -- machine 1 has 1:3 and 1:4; machine 2 has 3:6 and, with sigma 9, 9:7
@@ -82,7 +84,7 @@ abbrev pub sigmas : Composition
 sigmas = compositionOf (settings 9) served (only inputs)
 
 pub sigmas-sound : Composable sigmas
-unfolding sideOf wellFormedUpTo sizeUpTo stateOk trOk marksOk acceptor every interval sorted noFall sideMark acceptorMark stateCount trCount startWord stateWord trWord firstOk nextOk firstOf nextOf listBy listFrom listOf
+unfolding sideOf wellFormedUpTo sizeUpTo stateOk trOk marksOk acceptor every interval sorted noFall sideMark acceptorMark stateCount trCount startWord stateWord trWord firstOk nextOk firstOf nextOf listBy listFrom listOf heard has
 sigmas-sound = sound-of (settings 9) served (only inputs) refl refl refl
 
 abbrev origin : Triple
@@ -90,12 +92,12 @@ origin = record { s1 = 0; s2 = 0; f = 0 }
 
 -- 3 has a match of its own
 pub own-kept : KeptMove (composedOf sigmas) origin (pair (along 1) (along 1)) 0
-unfolding directionAt stateCount trCount stateWord trWord firstOk nextOk firstOf nextOf listBy listFrom listOf
+unfolding directionAt stateCount trCount stateWord trWord firstOk nextOk firstOf nextOf listBy listFrom listOf heard has
 own-kept = (aLabel, (here refl, here refl, (3, 3, refl, refl, λ e. omega arith, λ e. omega arith, (λ e. omega arith, inl refl))), refl)
 
 -- beside it 9:7 serves for 3, and it serves for 4, which has none
 pub sigma-kept : KeptMove (composedOf sigmas) origin (pair (along 1) (along 2)) 0 × KeptMove (composedOf sigmas) origin (pair (along 2) (along 2)) 0
-unfolding directionAt stateCount trCount stateWord trWord firstOk nextOk firstOf nextOf listBy listFrom listOf
+unfolding directionAt stateCount trCount stateWord trWord firstOk nextOk firstOf nextOf listBy listFrom listOf heard has
 sigma-kept = (
   (aLabel, (here refl, there (here refl), (3, 9, refl, refl, λ e. omega arith, λ e. omega arith, (λ e. omega arith, inr (refl, refl)))), refl),
   (aLabel, (there (here refl), there (here refl), (4, 9, refl, refl, λ e. omega arith, λ e. omega arith, (λ e. omega arith, inr (refl, refl)))), refl),
@@ -103,7 +105,7 @@ sigma-kept = (
 
 -- 3:6 does not serve for 4
 pub other-not-kept : (g : ℕ) → KeptMove (composedOf sigmas) origin (pair (along 2) (along 1)) g → ⊥
-unfolding directionAt stateCount trCount stateWord trWord firstOk nextOk firstOf nextOf listBy listFrom listOf
+unfolding directionAt stateCount trCount stateWord trWord firstOk nextOk firstOf nextOf listBy listFrom listOf heard has
 other-not-kept g h =
     ⊎-elim
     (λ e. let z : _≡_ {A = ℕ} 4 0 = e .0 in omega arith)

@@ -14,14 +14,15 @@ use Rattle.papers.specs.Composition.{Edge, along, Meets, equal, Triple, Edges, 
 use Rattle.papers.proofs.Forms.{met-change, Meeting, by-form, form1, form2, formε, formx}
 use Rattle.words.specs.Labels.{epsLabel, noLabel, Checked, good, refused, refuseIf}
 use Rattle.words.specs.Matches.{MatchType, inputs, outputs}
-use Rattle.words.specs.Machines.{listOf, wellFormed}
+use Rattle.words.specs.Machines.{trWord, listOf, wellFormed}
 use Rattle.words.specs.Sides.{Side, only, both, sideOf, nonEmpty, directionBy, directionAt}
 use Rattle.words.specs.Sigmas.{Operand, inner, sigmaTrs}
 use Rattle.words.specs.Steps.{Composition, Move, Kept, keptAlong, keptAt}
-use Rattle.words.specs.Settings.{Settings, Lent, operand1, operand2, compositionOf}
+use Rattle.words.specs.Settings.{Settings, Lent, ignoredBy, operand1, operand2, compositionOf}
 use Rattle.words.specs.AsPapers.{edgesOf, meetsIn, composedIn, composedOf, plain, directionOf, matchesOf}
 use Rattle.words.proofs.ListLaws.{list-member, list-distinct}
 use Rattle.words.proofs.FormLaws.{TrForm, form}
+use Rattle.words.proofs.ReplacedLaws.{heard-small}
 use Rattle.words.proofs.CheckedLaws.{good-is, good≢refused}
 use Rattle.words.specs.Links.{Composable, Exactly}
 use Rattle.words.proofs.PapersMoves.{kept-along, outputs1, inputs2}
@@ -199,8 +200,8 @@ sound-of s l side w1 w2 e =
       on2 = refl;
       distinct1 = list-distinct (l .m1);
       distinct2 = list-distinct (l .m2);
-      labels1 = λ q t i d. let h = listed-form (l .m1) w1 q t i .output in omega arith;
-      labels2 = λ q t i d. let h = listed-form (l .m2) w2 q t i .input in omega arith;
+      labels1 = λ q t i d. let h = listed-form (l .m1) w1 q t i .output in omega (arith, h, d, heard-small (ignoredBy s l) (trWord (l .m1) t 1));
+      labels2 = λ q t i d. let h = listed-form (l .m2) w2 q t i .input in omega (arith, h, d, heard-small (ignoredBy s l) (trWord (l .m2) t 0));
       nonzero1 = n .0;
       nonzero2 = n .1;
     }

@@ -11,11 +11,12 @@ use Rattle.papers.specs.Filter.{MoveKind, lone1, lone2, bothEpsilon, aLabel, Fa
 use Rattle.papers.specs.Composition.{Edge, rest, along, Leaves, nextState, Triple}
 use Rattle.words.specs.Labels.{Checked, good, refused}
 use Rattle.words.specs.Machines.{stateCount, machineOf, wellFormed}
-use Rattle.words.specs.Matches.{MatchType}
+use Rattle.words.specs.Matches.{MatchType, inputs, outputs}
 use Rattle.words.specs.Sides.{Side, sideOf}
 use Rattle.words.specs.Filters.{allFirst, noneFirst, filterOf}
 use Rattle.words.specs.Steps.{Composition, Step, stepsAt}
-use Rattle.words.specs.Settings.{Settings, Lent, operand1, operand2, compositionOf}
+use Rattle.words.specs.Ignored.{Ignored, replaced}
+use Rattle.words.specs.Settings.{Settings, Lent, ignoredBy, operand1, operand2, compositionOf}
 use Rattle.words.specs.AsPapers.{edgesOf, directionOf}
 use Rattle.words.proofs.CheckedLaws.{good≢refused}
 use Rattle.words.proofs.ListLaws.{list-member}
@@ -79,9 +80,11 @@ low (suc (suc (suc (suc (suc n))))) bothEpsilon φ f = tt
 low (suc (suc (suc (suc (suc n))))) aLabel φ f = omega arith
 
 -- a machine rests in its state or takes a transition of its list, whose target is one of its states
-next-below : (m : List ℕ) → wellFormed m ≡ true → (q : ℕ) (e : Edge) → q < stateCount m → Leaves (machineOf m) q e → nextState (machineOf m) q e < stateCount m
-next-below m w q rest h i = h
-next-below m w q (along t) h i = let r = list-member m q i in form m w .tr t (r .0) (r .1) .target
+next-below : (on : MatchType) (g : Ignored) (m : List ℕ) → wellFormed m ≡ true → (q : ℕ) (e : Edge) → q < stateCount m → Leaves (replaced on g (machineOf m)) q e
+    → nextState (replaced on g (machineOf m)) q e < stateCount m
+next-below on g m w q rest h i = h
+next-below inputs g m w q (along t) h i = let r = list-member m q i in form m w .tr t (r .0) (r .1) .target
+next-below outputs g m w q (along t) h i = let r = list-member m q i in form m w .tr t (r .0) (r .1) .target
 
 pub steps-in-range : (s : Settings) (l : Lent) (side : Side) → wellFormed (l .m1) ≡ true → wellFormed (l .m2) ≡ true → sideOf (operand1 s l) (operand2 s l) ≡ good side
     → (t : Triple) → InRange (stateCount (l .m1)) (stateCount (l .m2)) t → (st : Step) → In (good st) (stepsAt (compositionOf s l side) t)
@@ -102,7 +105,7 @@ steps-in-range s l side w1 w2 e t h st i = go (directionOf (compositionOf s l si
         let kept = r .2 .2 in
         subst (InRange (stateCount (l .m1)) (stateCount (l .m2))) (sym (r .3 .to))
         (record {
-          s1 = next-below (l .m1) w1 (t .s1) (edgesOf (v .move) .first) (h .s1) (leaves .0);
-          s2 = next-below (l .m2) w2 (t .s2) (edgesOf (v .move) .second) (h .s2) (leaves .1);
+          s1 = next-below outputs (ignoredBy s l) (l .m1) w1 (t .s1) (edgesOf (v .move) .first) (h .s1) (leaves .0);
+          s2 = next-below inputs (ignoredBy s l) (l .m2) w2 (t .s2) (edgesOf (v .move) .second) (h .s2) (leaves .1);
           f = subst Low kept (low (s .filter) (r .2 .0) _ (t .f));
         })

@@ -11,7 +11,7 @@ use Rattle.words.proofs.Cases.{Case, answer, holds}
 use Rattle.words.proofs.RustCases.{rustCases, ourCases}
 
 -- a table that the checker has computed: each answer is the one wanted
-in-table : (cs : List Case) → every holds cs ≡ true → (c : Case) → In c cs → answer (c .settings) (c .lent) (c .at) ≡ c .wants
+pub in-table : (cs : List Case) → every holds cs ≡ true → (c : Case) → In c cs → answer (c .settings) (c .lent) (c .at) ≡ c .wants
 unfolding holds
 in-table cs e c i =
     eqList-eq _ _ (and-right (wellFormed (c .lent .m2)) _ (and-right (wellFormed (c .lent .m1)) _ (and-right (settingsOk (c .settings)) _ (every-in holds e i))))

@@ -12,6 +12,8 @@ pub mod Sides
 pub mod Filters
 -- "Sigma".
 pub mod Sigmas
+-- 02, 2.7: the ignored labels.
+pub mod Ignored
 -- "Choosing the side", second paragraph: the moves of a triple in their order, its final weight.
 pub mod Steps
 -- "Session and memory": the six settings, the machines and lists that every call is lent.

@@ -2,7 +2,7 @@
 use mathlib.Core.Bool.{Bool, true, false, not, _&&_, _||_, cond}
 use mathlib.Core.List.{List, [], _∷_, map}
 use mathlib.Core.Option.{Option, none, some}
-use Prim.Native.Nat.{ℕ, zero, suc, _+_, _-_, _*_}
+use Prim.Native.Nat.{ℕ, zero, suc, _+_, _*_}
 use lib.Dec.{eqb, ltb, leb}
 use lib.ListN.{length, getD}
 use Rattle.lists.specs.Lists.{every, interval}
@@ -34,21 +34,33 @@ trCount m = getD m 1 0
 unfoldable pub startWord : List ℕ → ℕ
 startWord m = getD m 2 0
 
+-- the words of the header that hold a side's mark and the acceptor mark
+abbrev pub markWord : MatchType → ℕ
+markWord inputs = 3
+markWord outputs = 4
+
+abbrev pub acceptorWord : ℕ
+acceptorWord = 5
+
 unfoldable pub sideMark : MatchType → List ℕ → ℕ
-sideMark inputs m = getD m 3 0
-sideMark outputs m = getD m 4 0
+sideMark on m = getD m (markWord on) 0
 
 unfoldable pub acceptorMark : List ℕ → ℕ
-acceptorMark m = getD m 5 0
+acceptorMark m = getD m acceptorWord 0
 
--- "Then S records: first transition (0: none), final 0 or 1, final weight (0 if not final)." Word k of the record of state s.
+-- "Then S records: first transition (0: none), final 0 or 1, final weight (0 if not final)." Word k of the record of state s; a state that is not there has words 0.
 unfoldable pub stateWord : List ℕ → ℕ → ℕ → ℕ
-stateWord m s k = getD m (headerWords + stateWords * s + k) 0
+stateWord m s k = cond (ltb s (stateCount m)) (getD m (headerWords + stateWords * s + k) 0) 0
 
--- "Then T records: input, output, weight, target state, next. Transitions count from 1". Word k of record t: the record begins where
--- t - 1 records have gone before it.
+-- "Then T records: input, output, weight, target state, next. Transitions count from 1". Word k of a record: t records go before the record t + 1. Number 0 has words 0.
 unfoldable pub trWord : List ℕ → ℕ → ℕ → ℕ
-trWord m t k = getD m (headerWords - trWords + stateWords * stateCount m + trWords * t + k) 0
+trWord m zero k = 0
+trWord m (suc t) k = getD m (headerWords + stateWords * stateCount m + trWords * t + k) 0
+
+-- the word of a record that holds its label on a side
+abbrev pub wordOn : MatchType → ℕ
+wordOn inputs = 0
+wordOn outputs = 1
 
 -- "a first at most T"
 unfoldable pub firstOk : List ℕ → ℕ → Bool
@@ -136,9 +148,12 @@ acceptorMarkOk zero fact = true
 acceptorMarkOk (suc zero) fact = fact
 acceptorMarkOk (suc (suc n)) fact = false
 
--- input equals output in all T records, whether they stand in a list or not
+-- input equals output in all of the first T records, whether they stand in a list or not
+abbrev pub sameLabels : ℕ → Machine → Bool
+sameLabels T M = every (λ t. eqb (M .input t) (M .output t)) (interval 1 T)
+
 unfoldable pub acceptor : List ℕ → Bool
-acceptor m = every (λ t. eqb (trWord m t 0) (trWord m t 1)) (interval 1 (trCount m))
+acceptor m = sameLabels (trCount m) (machineOf m)
 
 -- no "false mark"
 unfoldable pub marksOk : List ℕ → Bool
