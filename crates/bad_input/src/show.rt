@@ -5,6 +5,7 @@ use compose_filters::MoveKind;
 use fst::Label;
 use fst::MatchType;
 use fst::NO_LABEL;
+use fst::Sigmas;
 use fst::StartState;
 use fst::StateId;
 use fst::Tr;
@@ -31,12 +32,21 @@ fn end() {
     io::write_all(1, b"\n");
 }
 
-fn properties(m: &[u32]) {
+// No sigma label is set.
+fn unset() -> Sigmas {
+    Sigmas {
+        first: NO_LABEL,
+        second: NO_LABEL,
+    }
+}
+
+fn properties(m: &[u32], ignored: &[u32]) {
     io::write_all(1, b"p");
     flag(fst_properties::well_formed(m));
-    flag(fst_properties::sorted(m, MatchType::MatchInput));
-    flag(fst_properties::sorted(m, MatchType::MatchOutput));
-    flag(fst_properties::acceptor(m));
+    flag(fst_properties::sorted(m, MatchType::MatchInput, unset(), ignored));
+    flag(fst_properties::sorted(m, MatchType::MatchOutput, unset(), ignored));
+    flag(fst_properties::acceptor(m, MatchType::MatchInput, unset(), ignored));
+    flag(fst_properties::acceptor(m, MatchType::MatchOutput, unset(), ignored));
     end();
 }
 
@@ -51,30 +61,33 @@ fn start(m: &[u32]) {
     }
 }
 
-fn marks(m: &[u32]) {
+// Each mark as it stands, and as a machine that is matched on a side has it read.
+fn marks(m: &[u32], ignored: &[u32]) {
     put(fst::side_mark(m, MatchType::MatchInput));
     put(fst::side_mark(m, MatchType::MatchOutput));
-    put(fst::inner_mark(m, MatchType::MatchInput));
-    put(fst::inner_mark(m, MatchType::MatchOutput));
+    put(fst::inner_mark(m, MatchType::MatchInput, ignored));
+    put(fst::inner_mark(m, MatchType::MatchOutput, ignored));
     put(fst::acceptor_mark(m));
+    put(fst_properties::inner_acceptor_mark(m, MatchType::MatchInput, unset(), ignored));
+    put(fst_properties::inner_acceptor_mark(m, MatchType::MatchOutput, unset(), ignored));
 }
 
-fn header(m: &[u32]) {
+fn header(m: &[u32], ignored: &[u32]) {
     io::write_all(1, b"h");
     put(fst::word(m, 18446744073709551615));
     put(fst::num_states(m));
     put(fst::num_records(m));
     put(fst::start_word(m));
-    marks(m);
+    marks(m, ignored);
     start(m);
     end();
 }
 
-fn epsilons(m: &[u32], s: StateId) {
-    flag(compose_filters::no_eps(m, MatchType::MatchInput, s));
-    flag(compose_filters::no_eps(m, MatchType::MatchOutput, s));
-    flag(compose_filters::all_eps(m, MatchType::MatchInput, s));
-    flag(compose_filters::all_eps(m, MatchType::MatchOutput, s));
+fn epsilons(m: &[u32], ignored: &[u32], s: StateId) {
+    flag(compose_filters::no_eps(m, MatchType::MatchInput, unset(), ignored, s));
+    flag(compose_filters::no_eps(m, MatchType::MatchOutput, unset(), ignored, s));
+    flag(compose_filters::all_eps(m, MatchType::MatchInput, unset(), ignored, s));
+    flag(compose_filters::all_eps(m, MatchType::MatchOutput, unset(), ignored, s));
 }
 
 fn list(m: &[u32], s: StateId) {
@@ -84,12 +97,12 @@ fn list(m: &[u32], s: StateId) {
     put(fst::num_trs(m, s));
 }
 
-fn state(m: &[u32], s: StateId) {
+fn state(m: &[u32], ignored: &[u32], s: StateId) {
     io::write_all(1, b"s");
     list(m, s);
     flag(fst::is_final(m, s));
     put(fst::final_weight(m, s));
-    epsilons(m, s);
+    epsilons(m, ignored, s);
     end();
 }
 
@@ -105,25 +118,25 @@ fn transition(tr: Tr) {
 }
 
 // Record t in a machine that is matched on a side.
-fn matched(m: &[u32], on: MatchType, t: u32) {
+fn matched(m: &[u32], on: MatchType, ignored: &[u32], t: u32) {
     label(fst::label_on(m, on, t));
-    label(fst::inner_label(m, on, t));
-    transition(fst::get_tr(m, on, t));
+    label(fst::inner_label(m, on, unset(), ignored, t));
+    transition(fst::get_tr(m, on, unset(), ignored, t));
 }
 
-fn record(m: &[u32], t: u32) {
+fn record(m: &[u32], ignored: &[u32], t: u32) {
     io::write_all(1, b"r");
     put(fst::tr_word(m, t, 4));
     put(fst::tr_word(m, t, MAX));
     put(fst::next_tr(m, t));
-    matched(m, MatchType::MatchInput, t);
-    matched(m, MatchType::MatchOutput, t);
+    matched(m, MatchType::MatchInput, ignored, t);
+    matched(m, MatchType::MatchOutput, ignored, t);
     end();
 }
 
-fn facts(m: &[u32]) {
+fn facts(m: &[u32], ignored: &[u32]) {
     io::write_all(1, b"f");
-    let f = compose_filters::facts_at(m, m, StateId(MAX), StateId(0));
+    let f = compose_filters::facts_at(m, m, unset(), ignored, StateId(MAX), StateId(0));
     flag(f.none1);
     flag(f.all1);
     flag(f.none2);
@@ -146,32 +159,41 @@ fn chosen(x: Chosen) {
 }
 
 // The choice of the side is for well-formed machines.
-fn side(m: &[u32], sigma1: Label, sigma2: Label) {
+fn side(m: &[u32], ignored: &[u32], first: Label, second: Label) {
     if !fst_properties::well_formed(m) {
         return;
     }
-    chosen(match_type::match_type(m, m, sigma1, sigma2));
+    chosen(match_type::match_type(m, m, Sigmas { first, second }, ignored));
 }
 
-fn sides(m: &[u32]) {
+fn sides(m: &[u32], ignored: &[u32]) {
     io::write_all(1, b"m");
-    side(m, NO_LABEL, NO_LABEL);
-    side(m, Label(7), NO_LABEL);
-    side(m, NO_LABEL, Label(7));
-    side(m, Label(7), Label(0));
+    side(m, ignored, NO_LABEL, NO_LABEL);
+    side(m, ignored, Label(7), NO_LABEL);
+    side(m, ignored, NO_LABEL, Label(7));
+    side(m, ignored, Label(7), Label(0));
     end();
 }
 
+fn under(m: &[u32], ignored: &[u32]) {
+    properties(m, ignored);
+    header(m, ignored);
+    state(m, ignored, StateId(0));
+    state(m, ignored, StateId(MAX));
+    record(m, ignored, 0);
+    record(m, ignored, 1);
+    record(m, ignored, MAX);
+    facts(m, ignored);
+    sides(m, ignored);
+}
+
+// With no label ignored, with some, and with a list that every call refuses.
 pub fn machine(m: &[u32]) {
-    properties(m);
-    header(m);
-    state(m, StateId(0));
-    state(m, StateId(MAX));
-    record(m, 0);
-    record(m, 1);
-    record(m, MAX);
-    facts(m);
-    sides(m);
+    let quiet = [5u32, 1, 9, 5];
+    let refused = [MAX, 0];
+    under(m, &quiet[..0]);
+    under(m, &quiet);
+    under(m, &refused);
 }
 
 // 1 and the weight, or 0.

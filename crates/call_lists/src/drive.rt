@@ -1,7 +1,7 @@
 // Lists of calls. A line's code, and its words:
 // 1 the lengths of heads, states and transitions, and the word that fills them: a list begins; 2, 3 the words of machine 1, 2; 4, 5 whether machine 1, 2 has an allowed list, and the list;
 // 6 a session, its nine words; 7 a slice from 0 to 2, an index, a word: written to memory; 8 open, the six settings; 9 expand; 10 final weight; 11 run; 12 records; 13 memory is printed;
-// 14 the fan-out of a look-up, the six settings, a machine, a state and a label.
+// 14 the fan-out of a look-up, the six settings, a machine, a state and a label; 15 the ignored labels, none where a list has no such line.
 ghost use mathlib.Core.Path.{_≡_};
 ghost use Rattle.call_lists.specs.Lines.{nextLine, listEnd};
 use crate::lines::Span;
@@ -28,6 +28,7 @@ struct Lending {
     allowed2: Span,
     listed1: bool,
     listed2: bool,
+    ignored: Span,
 }
 
 fn nothing() -> Lending {
@@ -39,10 +40,11 @@ fn nothing() -> Lending {
         allowed2: none,
         listed1: false,
         listed2: false,
+        ignored: none,
     }
 }
 
-// Codes 2 to 5.
+// Codes 2 to 5 and 15.
 fn lend(words: &[u32], at: u32, before: Lending) -> Lending {
     let mut lending = before;
     let code = arg(words, at, 0);
@@ -60,6 +62,9 @@ fn lend(words: &[u32], at: u32, before: Lending) -> Lending {
         5 => {
             lending.allowed2 = args(words, at, 2);
             lending.listed2 = arg(words, at, 1) == 1;
+        }
+        15 => {
+            lending.ignored = args(words, at, 1);
         }
         _ => {}
     }
@@ -109,8 +114,20 @@ fn open(
     let m2 = words_of(words, l.m2);
     let a1 = words_of(words, l.allowed1);
     let a2 = words_of(words, l.allowed2);
+    let ignored = words_of(words, l.ignored);
     let settings = settings_at(words, at);
-    show::answer(session.open(settings, m1, m2, a1, a2, listed(l), heads, states, trs))
+    show::answer(session.open(
+        settings,
+        m1,
+        m2,
+        a1,
+        a2,
+        ignored,
+        listed(l),
+        heads,
+        states,
+        trs,
+    ))
 }
 
 fn expand(
@@ -127,7 +144,8 @@ fn expand(
     let m2 = words_of(words, l.m2);
     let a1 = words_of(words, l.allowed1);
     let a2 = words_of(words, l.allowed2);
-    show::part(session.expand(m1, m2, a1, a2, listed(l), heads, states, trs, n))
+    let ignored = words_of(words, l.ignored);
+    show::part(session.expand(m1, m2, a1, a2, ignored, listed(l), heads, states, trs, n))
 }
 
 fn final_weight(
@@ -144,7 +162,8 @@ fn final_weight(
     let m2 = words_of(words, l.m2);
     let a1 = words_of(words, l.allowed1);
     let a2 = words_of(words, l.allowed2);
-    show::weight(session.final_weight(m1, m2, a1, a2, listed(l), heads, states, trs, n))
+    let ignored = words_of(words, l.ignored);
+    show::weight(session.final_weight(m1, m2, a1, a2, ignored, listed(l), heads, states, trs, n))
 }
 
 fn run(
@@ -160,7 +179,8 @@ fn run(
     let m2 = words_of(words, l.m2);
     let a1 = words_of(words, l.allowed1);
     let a2 = words_of(words, l.allowed2);
-    show::answer(session.run(m1, m2, a1, a2, listed(l), heads, states, trs))
+    let ignored = words_of(words, l.ignored);
+    show::answer(session.run(m1, m2, a1, a2, ignored, listed(l), heads, states, trs))
 }
 
 fn records(
@@ -177,7 +197,8 @@ fn records(
     let m2 = words_of(words, l.m2);
     let a1 = words_of(words, l.allowed1);
     let a2 = words_of(words, l.allowed2);
-    show::words(session.records(m1, m2, a1, a2, listed(l), heads, states, trs, n));
+    let ignored = words_of(words, l.ignored);
+    show::words(session.records(m1, m2, a1, a2, ignored, listed(l), heads, states, trs, n));
     session
 }
 
@@ -188,11 +209,23 @@ fn look_up(words: &[u32], at: u32, l: Lending) {
     let m2 = words_of(words, l.m2);
     let a1 = words_of(words, l.allowed1);
     let a2 = words_of(words, l.allowed2);
+    let ignored = words_of(words, l.ignored);
     let settings = settings_at(words, at);
     let machine = arg(words, at, 7);
     let s = StateId(arg(words, at, 8));
     let label = Label(arg(words, at, 9));
-    show::count(fan_out(settings, m1, m2, a1, a2, listed(l), machine, s, label));
+    show::count(fan_out(
+        settings,
+        m1,
+        m2,
+        a1,
+        a2,
+        ignored,
+        listed(l),
+        machine,
+        s,
+        label,
+    ));
 }
 
 // Codes 8 to 12 and 14: a call, and what it answers. The session that it hands back; records and fan-outs hand none back, and the given one stays the latest.
@@ -232,7 +265,7 @@ fn damage(words: &[u32], at: u32, heads: &mut [u32], states: &mut [u32], trs: &m
     }
 }
 
-// Codes 6 to 14. Answers the latest session.
+// Codes 6 to 14; the others lend. Answers the latest session.
 fn step(
     words: &[u32],
     at: u32,
@@ -243,7 +276,7 @@ fn step(
     trs: &mut [u32],
 ) -> Session {
     let code = arg(words, at, 0);
-    if code < 6 {
+    if code < 6 || code > 14 {
         return session;
     }
     if code == 6 {

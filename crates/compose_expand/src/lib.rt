@@ -3,6 +3,7 @@
 ghost use mathlib.Core.Path.{_≡_};
 ghost use mathlib.Core.Bool.{true};
 ghost use Prim.Native.Nat.{_<_};
+ghost use lib.ListN.{length};
 ghost use Rattle.words.specs.Labels.{good};
 ghost use Rattle.words.specs.Weights.{kindOf};
 ghost use Rattle.words.specs.Matches.{inputs, outputs};
@@ -16,9 +17,9 @@ ghost use Rattle.store_records.specs.Meaning.{storeIn, memoryOf};
 ghost use Rattle.compose_fst_op.specs.Composing.{optionSettings, lentOf, composing};
 ghost use Rattle.compose_bounds.specs.Serving.{plainDirection};
 ghost use Rattle.list_facts.specs.Facts.{TrueOf};
-ghost use Rattle.compose_plan.specs.Serves.{noSigma, servesOf};
+ghost use Rattle.compose_plan.specs.Serves.{servesOf};
 ghost use Rattle.compose_store.specs.Meaning.{sessionUnder, leftBy};
-ghost use Rattle.compose_expand.specs.Memos.{Remembered, askedAt};
+ghost use Rattle.compose_expand.specs.Memos.{plainLabels, Remembered, askedAt};
 use compose_fst_op::ComposeFstOpOptions;
 use compose_plan::Stored;
 use compose_plan::direction;
@@ -43,12 +44,23 @@ use store_records::Used;
 use store_records::get_tuple;
 use store_records::mark_expanded;
 
+// Whether labels are taken as they stand: none is ignored, and none is sigma.
+pub fn plain_labels(options: ComposeFstOpOptions, ignored: &[u32]) -> bool
+    ensures { λ r. ⌜ r ≡ plainLabels (optionSettings options) (now (ignored .entry)) ⌝ }
+{
+    if ignored.len() != 0 {
+        return false;
+    }
+    no_sigma(options)
+}
+
 // The expansion of state n with this triple, in this direction, where no refusal can stand: each move is stored as it is met, and then the last link is ended.
 fn expand_plain(
     m1: &[u32],
     m2: &[u32],
     a1: &[u32],
     a2: &[u32],
+    ignored: &[u32],
     options: ComposeFstOpOptions,
     heads: &mut [u32],
     states: &mut [u32],
@@ -61,11 +73,11 @@ fn expand_plain(
     facts2: ListFacts,
 ) -> Expansion
     requires { ⌜ (
-        let l = lentOf options (now m1) (now m2) (now a1) (now a2) in
+        let l = lentOf options (now m1) (now m2) (now a1) (now a2) (now ignored) in
         let m = memoryOf (now heads) (now states) (now trs) in
-        let c = composing options (now m1) (now m2) (now a1) (now a2) in
+        let c = composing options (now m1) (now m2) (now a1) (now a2) (now ignored) in
         let t = tripleAt (now states) (n .0) in
-        (entered l (sessionUnder options used) m ≡ good c) × (n .0 < used .states) × (tupleMeans tuple ≡ t)
+        (entered l (sessionUnder options used) m ≡ good c) × (n .0 < used .states) × (tupleMeans tuple ≡ t) × (length (now ignored) ≡ 0)
         × TrueOf outputs (kindOf (options .kind)) (now m1) (t .s1) facts1
         × TrueOf inputs (kindOf (options .kind)) (now m2) (t .s2) facts2
         × (onOf on ≡ plainDirection (sideMeans (options .side)) (facts1 .len) (facts2 .len))
@@ -74,7 +86,7 @@ fn expand_plain(
     ensures { λ r. ⌜ (
         let m = memoryOf (now (heads .entry)) (now (states .entry)) (now (trs .entry)) in
         let m′ = memoryOf (now (heads .exit)) (now (states .exit)) (now (trs .exit)) in
-        let c = composing options (now (m1 .entry)) (now (m2 .entry)) (now (a1 .entry)) (now (a2 .entry)) in
+        let c = composing options (now (m1 .entry)) (now (m2 .entry)) (now (a1 .entry)) (now (a2 .entry)) (now (ignored .entry)) in
         leftBy options used m′ r ≡ settle (sessionUnder options used) m (expansion c (sessionUnder options used) m (n .0))
         ) ⌝ }
 {
@@ -97,13 +109,14 @@ fn expand_plain(
     Expansion::New(part, after)
 }
 
-// The expansion of state n, a found one, where the checks 1 to 8 passed and no label is sigma. The facts of its two lists are told here. Its steps are counted where their room is not
+// The expansion of state n, a found one, where the checks 1 to 8 passed and no label is ignored or sigma. The facts of its two lists are told here. Its steps are counted where their room is not
 // sure, and weighed one by one where a weight may be too large or the count tells nothing.
 pub fn expand_tight(
     m1: &[u32],
     m2: &[u32],
     a1: &[u32],
     a2: &[u32],
+    ignored: &[u32],
     options: ComposeFstOpOptions,
     heads: &mut [u32],
     states: &mut [u32],
@@ -112,15 +125,15 @@ pub fn expand_tight(
     n: StateId,
 ) -> Expansion
     requires { ⌜ (
-        let l = lentOf options (now m1) (now m2) (now a1) (now a2) in
+        let l = lentOf options (now m1) (now m2) (now a1) (now a2) (now ignored) in
         let m = memoryOf (now heads) (now states) (now trs) in
-        let c = composing options (now m1) (now m2) (now a1) (now a2) in
-        (entered l (sessionUnder options used) m ≡ good c) × (n .0 < used .states) × (noSigma (optionSettings options) ≡ true)
+        let c = composing options (now m1) (now m2) (now a1) (now a2) (now ignored) in
+        (entered l (sessionUnder options used) m ≡ good c) × (n .0 < used .states) × (plainLabels (optionSettings options) (now ignored) ≡ true)
         ) ⌝ }
     ensures { λ r. ⌜ (
         let m = memoryOf (now (heads .entry)) (now (states .entry)) (now (trs .entry)) in
         let m′ = memoryOf (now (heads .exit)) (now (states .exit)) (now (trs .exit)) in
-        let c = composing options (now (m1 .entry)) (now (m2 .entry)) (now (a1 .entry)) (now (a2 .entry)) in
+        let c = composing options (now (m1 .entry)) (now (m2 .entry)) (now (a1 .entry)) (now (a2 .entry)) (now (ignored .entry)) in
         leftBy options used m′ r ≡ settle (sessionUnder options used) m (expansion c (sessionUnder options used) m (n .0))
         ) ⌝ }
 {
@@ -130,7 +143,19 @@ pub fn expand_tight(
     let facts1 = list_facts(m1, MatchType::MatchOutput, options.kind, s1);
     let facts2 = list_facts(m2, MatchType::MatchInput, options.kind, s2);
     if !weights_fit(options.kind, facts1.most, facts2.most) {
-        return expand_weighed(m1, m2, a1, a2, options, heads, states, trs, used, n);
+        return expand_weighed(
+            m1,
+            m2,
+            a1,
+            a2,
+            ignored,
+            options,
+            heads,
+            states,
+            trs,
+            used,
+            n,
+        );
     }
     let side = options.side;
     let on = direction(side, facts1.len, facts2.len);
@@ -151,7 +176,19 @@ pub fn expand_tight(
     );
     match stored {
         Stored::Lacks => Expansion::Refused(REFUSED_NO_ROOM),
-        Stored::Unknown => expand_weighed(m1, m2, a1, a2, options, heads, states, trs, used, n),
+        Stored::Unknown => expand_weighed(
+            m1,
+            m2,
+            a1,
+            a2,
+            ignored,
+            options,
+            heads,
+            states,
+            trs,
+            used,
+            n,
+        ),
         Stored::After(after) => {
             end_list(trs, used.trs, after.trs);
             let part = new_part(used.trs, after.trs);
@@ -167,6 +204,7 @@ fn expand_known(
     m2: &[u32],
     a1: &[u32],
     a2: &[u32],
+    ignored: &[u32],
     options: ComposeFstOpOptions,
     heads: &mut [u32],
     states: &mut [u32],
@@ -178,31 +216,44 @@ fn expand_known(
     facts2: ListFacts,
 ) -> Expansion
     requires { ⌜ (
-        let l = lentOf options (now m1) (now m2) (now a1) (now a2) in
+        let l = lentOf options (now m1) (now m2) (now a1) (now a2) (now ignored) in
         let m = memoryOf (now heads) (now states) (now trs) in
-        let c = composing options (now m1) (now m2) (now a1) (now a2) in
+        let c = composing options (now m1) (now m2) (now a1) (now a2) (now ignored) in
         let t = tripleAt (now states) (n .0) in
-        (entered l (sessionUnder options used) m ≡ good c) × (n .0 < used .states) × (tupleMeans tuple ≡ t) × (noSigma (optionSettings options) ≡ true)
+        (entered l (sessionUnder options used) m ≡ good c) × (n .0 < used .states) × (tupleMeans tuple ≡ t) × (plainLabels (optionSettings options) (now ignored) ≡ true)
         × TrueOf outputs (kindOf (options .kind)) (now m1) (t .s1) facts1
         × TrueOf inputs (kindOf (options .kind)) (now m2) (t .s2) facts2
         ) ⌝ }
     ensures { λ r. ⌜ (
         let m = memoryOf (now (heads .entry)) (now (states .entry)) (now (trs .entry)) in
         let m′ = memoryOf (now (heads .exit)) (now (states .exit)) (now (trs .exit)) in
-        let c = composing options (now (m1 .entry)) (now (m2 .entry)) (now (a1 .entry)) (now (a2 .entry)) in
+        let c = composing options (now (m1 .entry)) (now (m2 .entry)) (now (a1 .entry)) (now (a2 .entry)) (now (ignored .entry)) in
         leftBy options used m′ r ≡ settle (sessionUnder options used) m (expansion c (sessionUnder options used) m (n .0))
         ) ⌝ }
 {
     let side = options.side;
     let on = direction(side, facts1.len, facts2.len);
     if !serves(states, trs, options, used, on, facts1, facts2) {
-        return expand_tight(m1, m2, a1, a2, options, heads, states, trs, used, n);
+        return expand_tight(
+            m1,
+            m2,
+            a1,
+            a2,
+            ignored,
+            options,
+            heads,
+            states,
+            trs,
+            used,
+            n,
+        );
     }
     expand_plain(
         m1,
         m2,
         a1,
         a2,
+        ignored,
         options,
         heads,
         states,
@@ -216,13 +267,14 @@ fn expand_known(
     )
 }
 
-// The expansion of state n, a found one, where the checks 1 to 8 passed, by the facts that are remembered of its two lists. Where a sigma label is set, they are not asked for. What is
+// The expansion of state n, a found one, where the checks 1 to 8 passed, by the facts that are remembered of its two lists. Where a label is ignored or a sigma label is set, they are not asked for. What is
 // remembered of the two machines' lists stays true.
 pub fn expand_state(
     m1: &[u32],
     m2: &[u32],
     a1: &[u32],
     a2: &[u32],
+    ignored: &[u32],
     options: ComposeFstOpOptions,
     heads: &mut [u32],
     states: &mut [u32],
@@ -233,32 +285,44 @@ pub fn expand_state(
     n: StateId,
 ) -> Expansion
     requires { ⌜ (
-        let l = lentOf options (now m1) (now m2) (now a1) (now a2) in
+        let l = lentOf options (now m1) (now m2) (now a1) (now a2) (now ignored) in
         let m = memoryOf (now heads) (now states) (now trs) in
-        let c = composing options (now m1) (now m2) (now a1) (now a2) in
+        let c = composing options (now m1) (now m2) (now a1) (now a2) (now ignored) in
         let s = sessionUnder options used in
         (entered l s m ≡ good c) × (n .0 < used .states) × Remembered outputs l s (now memo1) × Remembered inputs l s (now memo2)
         ) ⌝ }
     ensures { λ r. ⌜ (
         let m = memoryOf (now (heads .entry)) (now (states .entry)) (now (trs .entry)) in
         let m′ = memoryOf (now (heads .exit)) (now (states .exit)) (now (trs .exit)) in
-        let c = composing options (now (m1 .entry)) (now (m2 .entry)) (now (a1 .entry)) (now (a2 .entry)) in
+        let c = composing options (now (m1 .entry)) (now (m2 .entry)) (now (a1 .entry)) (now (a2 .entry)) (now (ignored .entry)) in
         leftBy options used m′ r ≡ settle (sessionUnder options used) m (expansion c (sessionUnder options used) m (n .0))
         ) ⌝ }
     ensures asked { λ _. ⌜ (
-        let l = lentOf options (now (m1 .entry)) (now (m2 .entry)) (now (a1 .entry)) (now (a2 .entry)) in
+        let l = lentOf options (now (m1 .entry)) (now (m2 .entry)) (now (a1 .entry)) (now (a2 .entry)) (now (ignored .entry)) in
         let m = memoryOf (now (heads .entry)) (now (states .entry)) (now (trs .entry)) in
         let s = sessionUnder options used in
         (now (memo1 .exit) ≡ askedAt outputs l s m (n .0) (now (memo1 .entry))) × (now (memo2 .exit) ≡ askedAt inputs l s m (n .0) (now (memo2 .entry)))
         ) ⌝ }
     ensures remembered { λ _. ⌜ (
-        let l = lentOf options (now (m1 .entry)) (now (m2 .entry)) (now (a1 .entry)) (now (a2 .entry)) in
+        let l = lentOf options (now (m1 .entry)) (now (m2 .entry)) (now (a1 .entry)) (now (a2 .entry)) (now (ignored .entry)) in
         let s = sessionUnder options used in
         Remembered outputs l s (now (memo1 .exit)) × Remembered inputs l s (now (memo2 .exit))
         ) ⌝ }
 {
-    if !no_sigma(options) {
-        return expand_weighed(m1, m2, a1, a2, options, heads, states, trs, used, n);
+    if !plain_labels(options, ignored) {
+        return expand_weighed(
+            m1,
+            m2,
+            a1,
+            a2,
+            ignored,
+            options,
+            heads,
+            states,
+            trs,
+            used,
+            n,
+        );
     }
     let tuple = get_tuple(states, n);
     let s1 = tuple.s1;
@@ -270,6 +334,7 @@ pub fn expand_state(
         m2,
         a1,
         a2,
+        ignored,
         options,
         heads,
         states,

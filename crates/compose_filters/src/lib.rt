@@ -10,10 +10,12 @@ ghost use mathlib.Core.Path.{_≡_};
 ghost use Rattle.words.specs.Labels.{noLabel};
 ghost use Rattle.words.specs.Matches.{inputs, outputs};
 ghost use Rattle.words.specs.Filters.{noneAt, allAt, factsAt, allFirst, noneFirst, filterOf};
-ghost use Rattle.fst.specs.Meaning.{onOf, asOperand};
+ghost use Rattle.fst.specs.Meaning.{onOf, asOperand, readAs};
+ghost use Rattle.fst.specs.declared.MatchType.the-variants.{MatchInput, MatchOutput};
 ghost use Rattle.compose_filters.specs.Meaning.{moveMeans, factsMean, filteredMeans, wantedEps, epsilonsAre};
 use fst::EPS_LABEL;
 use fst::MatchType;
+use fst::Sigmas;
 use fst::StateId;
 use fst::first_tr;
 use fst::inner_label;
@@ -43,22 +45,29 @@ pub enum Filtered {
 }
 
 // Whether record t has the inner label epsilon, or, where wanted is false, has not.
-fn eps_is(m: &[u32], on: MatchType, t: u32, wanted: bool) -> bool
-    ensures { λ r. ⌜ r ≡ wantedEps wanted (onOf on) (now (m .entry)) t ⌝ }
+fn eps_is(m: &[u32], on: MatchType, sigmas: Sigmas, ignored: &[u32], t: u32, wanted: bool) -> bool
+    ensures { λ r. ⌜ r ≡ wantedEps wanted (onOf on) (readAs on sigmas (now (ignored .entry)) (now (m .entry))) t ⌝ }
 {
-    let label = inner_label(m, on, t);
+    let label = inner_label(m, on, sigmas, ignored, t);
     let eps = label.0 == EPS_LABEL.0;
     if wanted { eps } else { !eps }
 }
 
 // Whether the state's list has only epsilons on a side, or, where wanted is false, none. Left at the first record that is otherwise.
-fn epsilons_are(m: &[u32], on: MatchType, s: StateId, wanted: bool) -> bool
-    ensures { λ r. ⌜ r ≡ epsilonsAre wanted (onOf on) (now (m .entry)) (s .0) ⌝ }
+fn epsilons_are(
+    m: &[u32],
+    on: MatchType,
+    sigmas: Sigmas,
+    ignored: &[u32],
+    s: StateId,
+    wanted: bool,
+) -> bool
+    ensures { λ r. ⌜ r ≡ epsilonsAre wanted (onOf on) (readAs on sigmas (now (ignored .entry)) (now (m .entry))) (s .0) ⌝ }
 {
     let mut ok = true;
     let mut t = first_tr(m, s);
     'list: while t != 0 {
-        if !eps_is(m, on, t, wanted) {
+        if !eps_is(m, on, sigmas, ignored, t, wanted) {
             ok = false;
             break 'list;
         }
@@ -68,31 +77,38 @@ fn epsilons_are(m: &[u32], on: MatchType, s: StateId, wanted: bool) -> bool
 }
 
 // "none" of a state.
-pub fn no_eps(m: &[u32], on: MatchType, s: StateId) -> bool
-    ensures { λ r. ⌜ r ≡ noneAt (asOperand (onOf on) (now (m .entry)) noLabel) (s .0) ⌝ }
+pub fn no_eps(m: &[u32], on: MatchType, sigmas: Sigmas, ignored: &[u32], s: StateId) -> bool
+    ensures { λ r. ⌜ r ≡ noneAt (asOperand (onOf on) (readAs on sigmas (now (ignored .entry)) (now (m .entry))) noLabel) (s .0) ⌝ }
 {
-    epsilons_are(m, on, s, false)
+    epsilons_are(m, on, sigmas, ignored, s, false)
 }
 
 // "all" of a state.
-pub fn all_eps(m: &[u32], on: MatchType, s: StateId) -> bool
-    ensures { λ r. ⌜ r ≡ allAt (asOperand (onOf on) (now (m .entry)) noLabel) (s .0) ⌝ }
+pub fn all_eps(m: &[u32], on: MatchType, sigmas: Sigmas, ignored: &[u32], s: StateId) -> bool
+    ensures { λ r. ⌜ r ≡ allAt (asOperand (onOf on) (readAs on sigmas (now (ignored .entry)) (now (m .entry))) noLabel) (s .0) ⌝ }
 {
     if is_final(m, s) {
         return false;
     }
-    epsilons_are(m, on, s, true)
+    epsilons_are(m, on, sigmas, ignored, s, true)
 }
 
 // What a filter sees of a pair of states: machine 1 is matched on outputs, 2 on inputs.
-pub fn facts_at(m1: &[u32], m2: &[u32], s1: StateId, s2: StateId) -> Facts
-    ensures { λ r. ⌜ factsMean r ≡ factsAt (asOperand outputs (now (m1 .entry)) noLabel) (asOperand inputs (now (m2 .entry)) noLabel) (s1 .0) (s2 .0) ⌝ }
+pub fn facts_at(
+    m1: &[u32],
+    m2: &[u32],
+    sigmas: Sigmas,
+    ignored: &[u32],
+    s1: StateId,
+    s2: StateId,
+) -> Facts
+    ensures { λ r. ⌜ factsMean r ≡ factsAt (asOperand outputs (readAs MatchOutput sigmas (now (ignored .entry)) (now (m1 .entry))) noLabel) (asOperand inputs (readAs MatchInput sigmas (now (ignored .entry)) (now (m2 .entry))) noLabel) (s1 .0) (s2 .0) ⌝ }
 {
     Facts {
-        none1: no_eps(m1, MatchType::MatchOutput, s1),
-        all1: all_eps(m1, MatchType::MatchOutput, s1),
-        none2: no_eps(m2, MatchType::MatchInput, s2),
-        all2: all_eps(m2, MatchType::MatchInput, s2),
+        none1: no_eps(m1, MatchType::MatchOutput, sigmas, ignored, s1),
+        all1: all_eps(m1, MatchType::MatchOutput, sigmas, ignored, s1),
+        none2: no_eps(m2, MatchType::MatchInput, sigmas, ignored, s2),
+        all2: all_eps(m2, MatchType::MatchInput, sigmas, ignored, s2),
     }
 }
 

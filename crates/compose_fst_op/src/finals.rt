@@ -5,7 +5,7 @@ ghost use Prim.Native.Nat.{ℕ};
 ghost use Rattle.words.specs.Weights.{kindOf, times as timesOf};
 ghost use Rattle.words.specs.Steps.{unlessZero, finalAt};
 ghost use Rattle.compose_state_tuple.specs.Meaning.{tupleMeans};
-ghost use Rattle.compose_fst_op.specs.Composing.{composing, finalMeans};
+ghost use Rattle.compose_fst_op.specs.Composing.{compositionFor, finalMeans};
 use crate::ComposeFstOpOptions;
 use compose_state_tuple::ComposeStateTuple;
 use fst::final_weight;
@@ -34,14 +34,14 @@ fn times_final(kind: u32, w1: u32, w2: u32) -> FinalWeight
     FinalWeight::Weight(w)
 }
 
-// The final weight of a composed state. It does not depend on the allowed lists.
+// The final weight of a composed state. It does not depend on the allowed lists, nor on the ignored labels.
 pub fn compute_final_weight(
     m1: &[u32],
     m2: &[u32],
     options: ComposeFstOpOptions,
     tuple: ComposeStateTuple,
 ) -> FinalWeight
-    ensures { λ r. ⌜ ((a1 a2 : List ℕ) → finalMeans r ≡ finalAt (composing options (now (m1 .entry)) (now (m2 .entry)) a1 a2) (tupleMeans tuple)) ⌝ }
+    ensures { λ r. ⌜ ((a1 a2 ignored : List ℕ) → finalMeans r ≡ finalAt (compositionFor options (now (m1 .entry)) (now (m2 .entry)) a1 a2 ignored) (tupleMeans tuple)) ⌝ }
 {
     let s1 = tuple.s1;
     let s2 = tuple.s2;

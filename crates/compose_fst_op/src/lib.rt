@@ -2,8 +2,11 @@
 mod finals;
 mod start;
 
+ghost use mathlib.Core.Path.{_≡_};
+ghost use Rattle.compose_fst_op.specs.Composing.{sigmasOf};
 pub use finals::FinalWeight;
 pub use finals::compute_final_weight;
+use fst::Sigmas;
 use match_type::Side;
 use matchers::Sigma;
 pub use start::ComposeStart;
@@ -18,4 +21,15 @@ pub struct ComposeFstOpOptions {
     pub side: Side,
     pub sigma1: Sigma,
     pub sigma2: Sigma,
+}
+
+// The sigma labels of the two machines.
+pub fn sigmas_of(options: ComposeFstOpOptions) -> Sigmas
+    ensures { λ r. ⌜ r ≡ sigmasOf options ⌝ }
+{
+    let sigma1 = options.sigma1;
+    let sigma2 = options.sigma2;
+    let first = sigma1.label;
+    let second = sigma2.label;
+    Sigmas { first, second }
 }

@@ -15,12 +15,13 @@ use Rattle.words.specs.Labels.{noLabel, good, refused}
 use Rattle.words.specs.Weights.{times}
 use Rattle.words.specs.Matches.{outputs, labelled, sortedMatches}
 use Rattle.words.specs.Machines.{acceptorMark, stateCount, trCount, stateWord, trWord, firstOk, nextOk, firstOf, nextOf, listBy, listFrom, listOf}
-use Rattle.words.specs.Sigmas.{sigmaTrs, sigmaMatches, lookup, given}
+use Rattle.words.specs.Ignored.{heard, wordsRead}
+use Rattle.words.specs.Sigmas.{has, sigmaTrs, sigmaMatches, lookup, given}
 use Rattle.words.specs.Sides.{directionAt}
 use Rattle.words.specs.Filters.{noneAt, allAt}
 use Rattle.words.specs.Steps.{walk, keptAlong, keptAt, stepOf, stepsAt}
 use Rattle.fst.specs.declared.MatchType.the-variants.{MatchOutput}
-use Rattle.match_type.specs.declared.Side.the-variants.{Only, Both}
+use Rattle.match_type.specs.declared.Side.the-variants.{Both}
 use Rattle.matchers.specs.declared.Phase.the-variants.{Own}
 use Rattle.matchers.specs.declared.sigma_matcher.Sigma.{Sigma}
 use Rattle.matchers.specs.Meaning.{lookupItems}
@@ -36,14 +37,8 @@ use Rattle.compose_moves.specs.declared.MovesStart.{MovesStart}
 use Rattle.compose_moves.specs.declared.MovesStart.the-variants.{At, Refused as NoStart}
 use Rattle.compose_moves.specs.declared.NextStep.{NextStep}
 use Rattle.compose_moves.specs.declared.NextStep.the-variants.{Step as AStep, Done, Refused}
-use Rattle.compose_moves.proofs.Cases.{machines, cursor}
+use Rattle.compose_moves.proofs.Cases.{machines, cursor, options}
 use Rattle.compose_moves.proofs.Asking.{StartReply, StepReply, moves-asked-on, from-cursor}
-
-abbrev unset : Sigma
-unset = record { label = record { 0 = noLabel }; mode = 0; listed = false }
-
-abbrev options : ComposeFstOpOptions
-options = record { kind = 0; filter = 0; side = Only MatchOutput; sigma1 = unset; sigma2 = unset }
 
 abbrev state : ℕ → ComposeStateTuple
 state s1 = record { fs = 0; s1 = record { 0 = s1 }; s2 = record { 0 = 0 } }
@@ -72,7 +67,7 @@ heavy = record {
   facts = record { none1 = true; all1 = false; none2 = true; all2 = false };
   on = MatchOutput;
   walked = 0;
-  matches = record { on = MatchOutput; label = record { 0 = noLabel }; sigma = record { 0 = noLabel }; both = false; phase = Own; loops = false; tr = 0; sigmas = 0 };
+  matches = record { on = MatchOutput; label = record { 0 = noLabel }; sigma = record { 0 = noLabel }; labels = record { first = record { 0 = noLabel }; second = record { 0 = noLabel } }; both = false; phase = Own; loops = false; tr = 0; sigmas = 0 };
 }
 
 -- two machines whose one state has a sigma transition on its inner side, 1:9 and 8:2
@@ -83,36 +78,39 @@ abbrev sigma2 : List ℕ
 sigma2 = 1 ∷ 1 ∷ 1 ∷ 0 ∷ 0 ∷ 0 ∷ 1 ∷ 1 ∷ 0 ∷ 8 ∷ 2 ∷ 0 ∷ 0 ∷ 0 ∷ []
 
 abbrev named : ℕ → Sigma
-named x = record { label = record { 0 = x }; mode = 2; listed = false }
+named x = record { label = record { 0 = x }; mode = 2; listed = false; acceptor = 0 }
 
 abbrev bothSigmas : ComposeFstOpOptions
 bothSigmas = record { kind = 0; filter = 0; side = Both; sigma1 = named 9; sigma2 = named 8 }
 
--- the words are lent in slices, wherever they lie; there are no allowed lists
-module _ (κs : Lfts 2) (κt : Lfts 4) (ptr1 ptr2 : ℕ × ℕ) (name1 name2 : ℕ) (unread1 unread2 : RefT (List ℕ)) where
+-- the words are lent in slices, wherever they lie; there are no allowed lists, and no label is ignored
+module _ (κs : Lfts 3) (κt : Lfts 5) (ptr1 ptr2 : ℕ × ℕ) (name1 name2 : ℕ) (unread1 unread2 : RefT (List ℕ)) where
   abbrev in1 : List ℕ → RefT (List ℕ)
   in1 words = record { ptr = ptr1; name = name1; now = words }
 
   abbrev in2 : List ℕ → RefT (List ℕ)
   in2 words = record { ptr = ptr2; name = name2; now = words }
 
+  abbrev none-ignored : RefT (List ℕ)
+  none-ignored = record { ptr = ptr1; name = name1; now = [] }
+
   -- (1, 0, 0)
   abbrev Answer : MoveCursor → NextStep → Type 0
-  Answer c r = StepReply κt (in1 (machines .m1)) (in2 (machines .m2)) unread1 unread2 options c r
+  Answer c r = StepReply κt (in1 (machines .m1)) (in2 (machines .m2)) unread1 unread2 none-ignored options c r
 
   abbrev Gets : ℕ → NextStep → Type 0
   Gets k r = AskedOn Answer onward first k r
 
-  pub begins : StartReply κs (in1 (machines .m1)) (in2 (machines .m2)) options (state 1) (At first)
-  unfolding stepsAt keptAt keptAlong walk stepOf given directionAt noneAt allAt noEpsilon onlyEpsilons every stepsLeft walkLeft trsSteps trSteps edgeSteps stepsOf times flatMap lookupItems lookup sortedMatches sigmaMatches sigmaTrs labelled itemsLeft matchesLeft ownLeft sigmaLeft withLabel recordsFrom keepIf stateCount trCount stateWord trWord firstOk nextOk firstOf nextOf listBy listFrom listOf acceptorMark
+  pub begins : StartReply κs (in1 (machines .m1)) (in2 (machines .m2)) none-ignored options (state 1) (At first)
+  unfolding stepsAt keptAt keptAlong walk stepOf given directionAt noneAt allAt noEpsilon onlyEpsilons every stepsLeft walkLeft trsSteps trSteps edgeSteps stepsOf times flatMap lookupItems lookup sortedMatches sigmaMatches sigmaTrs labelled itemsLeft matchesLeft ownLeft sigmaLeft withLabel recordsFrom keepIf stateCount trCount stateWord trWord firstOk nextOk firstOf nextOf listBy listFrom listOf acceptorMark wordsRead heard has
   begins = (λ a1 a2. refl, λ a1 a2. record { state = refl; facts = refl; direction = refl; place = record { walked = inl refl; matches = record { whole = refl; tr = inr (here refl); sigmas = inl refl } } })
 
   one-step : Answer first lone
-  unfolding stepsAt keptAt keptAlong walk stepOf given directionAt noneAt allAt noEpsilon onlyEpsilons every stepsLeft walkLeft trsSteps trSteps edgeSteps stepsOf times flatMap lookupItems lookup sortedMatches sigmaMatches sigmaTrs labelled itemsLeft matchesLeft ownLeft sigmaLeft withLabel recordsFrom keepIf stateCount trCount stateWord trWord firstOk nextOk firstOf nextOf listBy listFrom listOf acceptorMark
+  unfolding stepsAt keptAt keptAlong walk stepOf given directionAt noneAt allAt noEpsilon onlyEpsilons every stepsLeft walkLeft trsSteps trSteps edgeSteps stepsOf times flatMap lookupItems lookup sortedMatches sigmaMatches sigmaTrs labelled itemsLeft matchesLeft ownLeft sigmaLeft withLabel recordsFrom keepIf stateCount trCount stateWord trWord firstOk nextOk firstOf nextOf listBy listFrom listOf acceptorMark wordsRead heard has
   one-step = (refl, (refl, λ p. record { walked = inr (here refl); matches = record { whole = refl; tr = inr (here refl); sigmas = inl refl } }))
 
   no-step : Answer second Done
-  unfolding stepsAt keptAt keptAlong walk stepOf given directionAt noneAt allAt noEpsilon onlyEpsilons every stepsLeft walkLeft trsSteps trSteps edgeSteps stepsOf times flatMap lookupItems lookup sortedMatches sigmaMatches sigmaTrs labelled itemsLeft matchesLeft ownLeft sigmaLeft withLabel recordsFrom keepIf stateCount trCount stateWord trWord firstOk nextOk firstOf nextOf listBy listFrom listOf acceptorMark
+  unfolding stepsAt keptAt keptAlong walk stepOf given directionAt noneAt allAt noEpsilon onlyEpsilons every stepsLeft walkLeft trsSteps trSteps edgeSteps stepsOf times flatMap lookupItems lookup sortedMatches sigmaMatches sigmaTrs labelled itemsLeft matchesLeft ownLeft sigmaLeft withLabel recordsFrom keepIf stateCount trCount stateWord trWord firstOk nextOk firstOf nextOf listBy listFrom listOf acceptorMark wordsRead heard has
   no-step = (refl, tt)
 
   pub asked : Gets 0 lone × Gets 1 Done × Gets 2 Done
@@ -120,30 +118,30 @@ module _ (κs : Lfts 2) (κt : Lfts 4) (ptr1 ptr2 : ℕ × ℕ) (name1 name2 : �
 
   -- whatever replies are allowed
   pub gives : (r : NextStep) → Gets 0 r → givenBy r ≡ some (good (record { input = 0; output = 7; weight = 4; to = record { s1 = 1; s2 = 1; f = 0 } }))
-  unfolding stepsAt keptAt keptAlong walk stepOf given directionAt noneAt allAt noEpsilon onlyEpsilons every stepsLeft walkLeft trsSteps trSteps edgeSteps stepsOf times flatMap lookupItems lookup sortedMatches sigmaMatches sigmaTrs labelled itemsLeft matchesLeft ownLeft sigmaLeft withLabel recordsFrom keepIf stateCount trCount stateWord trWord firstOk nextOk firstOf nextOf listBy listFrom listOf acceptorMark
-  gives r h = from-cursor outputs refl (moves-asked-on κs κt (in1 (machines .m1)) (in2 (machines .m2)) unread1 unread2 options (state 1) (At first) begins) .inOrder 0 r h
+  unfolding stepsAt keptAt keptAlong walk stepOf given directionAt noneAt allAt noEpsilon onlyEpsilons every stepsLeft walkLeft trsSteps trSteps edgeSteps stepsOf times flatMap lookupItems lookup sortedMatches sigmaMatches sigmaTrs labelled itemsLeft matchesLeft ownLeft sigmaLeft withLabel recordsFrom keepIf stateCount trCount stateWord trWord firstOk nextOk firstOf nextOf listBy listFrom listOf acceptorMark wordsRead heard has
+  gives r h = from-cursor outputs refl (moves-asked-on κs κt (in1 (machines .m1)) (in2 (machines .m2)) unread1 unread2 none-ignored options (state 1) (At first) begins) .inOrder 0 r h
 
   pub then-ends : (k : ℕ) (r : NextStep) → Gets (suc k) r → givenBy r ≡ none
-  unfolding stepsAt keptAt keptAlong walk stepOf given directionAt noneAt allAt noEpsilon onlyEpsilons every stepsLeft walkLeft trsSteps trSteps edgeSteps stepsOf times flatMap lookupItems lookup sortedMatches sigmaMatches sigmaTrs labelled itemsLeft matchesLeft ownLeft sigmaLeft withLabel recordsFrom keepIf stateCount trCount stateWord trWord firstOk nextOk firstOf nextOf listBy listFrom listOf acceptorMark
-  then-ends k r h = from-cursor outputs refl (moves-asked-on κs κt (in1 (machines .m1)) (in2 (machines .m2)) unread1 unread2 options (state 1) (At first) begins) .inOrder (suc k) r h
+  unfolding stepsAt keptAt keptAlong walk stepOf given directionAt noneAt allAt noEpsilon onlyEpsilons every stepsLeft walkLeft trsSteps trSteps edgeSteps stepsOf times flatMap lookupItems lookup sortedMatches sigmaMatches sigmaTrs labelled itemsLeft matchesLeft ownLeft sigmaLeft withLabel recordsFrom keepIf stateCount trCount stateWord trWord firstOk nextOk firstOf nextOf listBy listFrom listOf acceptorMark wordsRead heard has
+  then-ends k r h = from-cursor outputs refl (moves-asked-on κs κt (in1 (machines .m1)) (in2 (machines .m2)) unread1 unread2 none-ignored options (state 1) (At first) begins) .inOrder (suc k) r h
 
   -- the start of the heavy machines
   abbrev HeavyAnswer : MoveCursor → NextStep → Type 0
-  HeavyAnswer c r = StepReply κt (in1 heavy1) (in2 heavy2) unread1 unread2 options c r
+  HeavyAnswer c r = StepReply κt (in1 heavy1) (in2 heavy2) unread1 unread2 none-ignored options c r
 
-  heavy-begins : StartReply κs (in1 heavy1) (in2 heavy2) options (state 0) (At heavy)
-  unfolding stepsAt keptAt keptAlong walk stepOf given directionAt noneAt allAt noEpsilon onlyEpsilons every stepsLeft walkLeft trsSteps trSteps edgeSteps stepsOf times flatMap lookupItems lookup sortedMatches sigmaMatches sigmaTrs labelled itemsLeft matchesLeft ownLeft sigmaLeft withLabel recordsFrom keepIf stateCount trCount stateWord trWord firstOk nextOk firstOf nextOf listBy listFrom listOf acceptorMark
+  heavy-begins : StartReply κs (in1 heavy1) (in2 heavy2) none-ignored options (state 0) (At heavy)
+  unfolding stepsAt keptAt keptAlong walk stepOf given directionAt noneAt allAt noEpsilon onlyEpsilons every stepsLeft walkLeft trsSteps trSteps edgeSteps stepsOf times flatMap lookupItems lookup sortedMatches sigmaMatches sigmaTrs labelled itemsLeft matchesLeft ownLeft sigmaLeft withLabel recordsFrom keepIf stateCount trCount stateWord trWord firstOk nextOk firstOf nextOf listBy listFrom listOf acceptorMark wordsRead heard has
   heavy-begins = (λ a1 a2. refl, λ a1 a2. record { state = refl; facts = refl; direction = refl; place = record { walked = inl refl; matches = record { whole = refl; tr = inl refl; sigmas = inl refl } } })
 
   pub too-heavy : HeavyAnswer heavy (Refused 12)
-  unfolding stepsAt keptAt keptAlong walk stepOf given directionAt noneAt allAt noEpsilon onlyEpsilons every stepsLeft walkLeft trsSteps trSteps edgeSteps stepsOf times flatMap lookupItems lookup sortedMatches sigmaMatches sigmaTrs labelled itemsLeft matchesLeft ownLeft sigmaLeft withLabel recordsFrom keepIf stateCount trCount stateWord trWord firstOk nextOk firstOf nextOf listBy listFrom listOf acceptorMark
+  unfolding stepsAt keptAt keptAlong walk stepOf given directionAt noneAt allAt noEpsilon onlyEpsilons every stepsLeft walkLeft trsSteps trSteps edgeSteps stepsOf times flatMap lookupItems lookup sortedMatches sigmaMatches sigmaTrs labelled itemsLeft matchesLeft ownLeft sigmaLeft withLabel recordsFrom keepIf stateCount trCount stateWord trWord firstOk nextOk firstOf nextOf listBy listFrom listOf acceptorMark wordsRead heard has
   too-heavy = (refl, tt)
 
   pub ever-too-heavy : (k : ℕ) (r : NextStep) → AskedOn HeavyAnswer onward heavy k r → givenBy r ≡ some (refused 12)
-  unfolding stepsAt keptAt keptAlong walk stepOf given directionAt noneAt allAt noEpsilon onlyEpsilons every stepsLeft walkLeft trsSteps trSteps edgeSteps stepsOf times flatMap lookupItems lookup sortedMatches sigmaMatches sigmaTrs labelled itemsLeft matchesLeft ownLeft sigmaLeft withLabel recordsFrom keepIf stateCount trCount stateWord trWord firstOk nextOk firstOf nextOf listBy listFrom listOf acceptorMark
-  ever-too-heavy k r h = from-cursor outputs refl (moves-asked-on κs κt (in1 heavy1) (in2 heavy2) unread1 unread2 options (state 0) (At heavy) heavy-begins) .inOrder k r h
+  unfolding stepsAt keptAt keptAlong walk stepOf given directionAt noneAt allAt noEpsilon onlyEpsilons every stepsLeft walkLeft trsSteps trSteps edgeSteps stepsOf times flatMap lookupItems lookup sortedMatches sigmaMatches sigmaTrs labelled itemsLeft matchesLeft ownLeft sigmaLeft withLabel recordsFrom keepIf stateCount trCount stateWord trWord firstOk nextOk firstOf nextOf listBy listFrom listOf acceptorMark wordsRead heard has
+  ever-too-heavy k r h = from-cursor outputs refl (moves-asked-on κs κt (in1 heavy1) (in2 heavy2) unread1 unread2 none-ignored options (state 0) (At heavy) heavy-begins) .inOrder k r h
 
   -- both machines have sigma transitions
-  pub no-direction : (b : MovesStart) → StartReply κs (in1 sigma1) (in2 sigma2) bothSigmas (state 0) b → b ≡ NoStart 10
-  unfolding directionAt sigmaTrs labelled keepIf stateCount trCount stateWord trWord firstOk nextOk firstOf nextOf listBy listFrom listOf
-  no-direction b h = moves-asked-on κs κt (in1 sigma1) (in2 sigma2) unread1 unread2 bothSigmas (state 0) b h .refuses 10 refl .0
+  pub no-direction : (b : MovesStart) → StartReply κs (in1 sigma1) (in2 sigma2) none-ignored bothSigmas (state 0) b → b ≡ NoStart 10
+  unfolding directionAt sigmaTrs labelled keepIf stateCount trCount stateWord trWord firstOk nextOk firstOf nextOf listBy listFrom listOf wordsRead heard has
+  no-direction b h = moves-asked-on κs κt (in1 sigma1) (in2 sigma2) unread1 unread2 none-ignored bothSigmas (state 0) b h .refuses 10 refl .0

@@ -5,19 +5,21 @@ use mathlib.Core.List.{List, [], _∷_, _++_, flatMap}
 use mathlib.Core.Option.{Option, none, some}
 use Prim.Native.Nat.{ℕ, zero, suc, _≤_}
 use Rattle.words.specs.Labels.{Checked, good, refused}
-use Rattle.words.specs.Matches.{trOf}
+use Rattle.words.specs.Matches.{MatchType, trOf}
 use Rattle.words.specs.Machines.{trCount, nextOf, machineOf}
 use Rattle.words.specs.Steps.{Step}
 use Rattle.words.proofs.ListLaws.{link, first-inside}
-use Rattle.fst.specs.Meaning.{onOf}
+use Rattle.words.specs.Ignored.{Ignored, wordsRead}
+use Rattle.words.proofs.ReplacedLaws.{read-first, read-next}
+use Rattle.fst.specs.Meaning.{onOf, ignoredUnder}
 use Rattle.matchers.specs.declared.Cursor.{Cursor}
 use Rattle.matchers.specs.declared.IterItemMatcher.{IterItemMatcher}
 use Rattle.matchers.specs.declared.Step.{Step as Answer}
 use Rattle.matchers.specs.declared.Step.the-variants.{Match as AMatch, End}
 use Rattle.matchers.specs.Meaning.{Item, whole, matchMeans}
-use Rattle.matchers.specs.Cursors.{itemsLeft, stepMeans, asked as askedItem}
+use Rattle.matchers.specs.Cursors.{heldWords, itemsLeft, stepMeans, asked as askedItem}
 use Rattle.compose_moves.specs.Moves.{presentOf, pairSteps, madeMeans}
-use Rattle.compose_moves.specs.Walks.{walkMeans, edgeItem, edgeAfter, nextEdge, edgeSteps, trsSteps, walkLeft, gives, refuses, asked}
+use Rattle.compose_moves.specs.Walks.{Walk, walkMeans, walkedSide, edgeItem, edgeAfter, nextEdge, edgeSteps, trsSteps, walkLeft, gives, refuses, asked}
 use Rattle.compose_moves.specs.declared.moves.Made.{Made}
 use Rattle.compose_moves.specs.declared.moves.Walk.{Walk as Fixed}
 
@@ -29,6 +31,11 @@ edge-taken m (suc t) n = refl
 pub after-taken : (m : List ℕ) (s t : ℕ) → (t ≡ 0 → ⊥) → edgeAfter m s t ≡ nextOf m t
 after-taken m s zero n = absurd (n refl)
 after-taken m s (suc t) n = refl
+
+-- the words as they are read lead along the same edges
+pub read-after : (on : MatchType) (g : Ignored) (m : List ℕ) (s t : ℕ) → edgeAfter (wordsRead on g m) s t ≡ edgeAfter m s t
+read-after on g m s zero = read-first on g m s
+read-after on g m s (suc t) = read-next on g m (suc t)
 
 -- the edge after is none, or a record
 pub after-inside : (m : List ℕ) (s t : ℕ) → edgeAfter m s t ≤ trCount m
@@ -57,6 +64,7 @@ none-is m [] c e = refl
 none-is m (x ∷ xs) c e = absurd (true≢false (sym (ap (λ a. isSome (a .given)) e)))
 
 -- a match of the edge: what it makes, and then what the others make. r answers the cursor `left`.
+-- mm are the words as the cursor reads them.
 pub made-turn : (mw mm : List ℕ) (w : Fixed) (t : ℕ) (left rest : Cursor) (edge found : IterItemMatcher) (made : Made) (r : Answer) → r ≡ AMatch found rest
     → stepMeans mm r ≡ askedItem (itemsLeft mm left) → matchMeans edge ≡ edgeItem mw t → madeMeans made ≡ pairSteps (onOf (w .on)) (presentOf w) (matchMeans edge) (matchMeans found)
     → edgeMade mw w t (itemsLeft mm left) ≡ madeMeans made ++ edgeMade mw w t (itemsLeft mm rest)
@@ -67,18 +75,27 @@ pub made-end : (mw : List ℕ) (w : Fixed) (t : ℕ) (l : List Item) → l ≡ [
 unfolding edgeMade flatMap
 made-end mw w t l e = rw e
 
+-- the words of the walked machine as they are read
+abbrev pub walkedWords : Fixed → (ignored mw : List ℕ) → List ℕ
+walkedWords w ignored mw = wordsRead (walkedSide (onOf (w .on))) (ignoredUnder (w .labels) ignored) mw
+
 -- by the head of what the edge c has to make
-pub edge-gives : (mw mm am : List ℕ) (w : Fixed) (t : ℕ) (c d : Cursor) (st : Step) → edgeMade mw w t (itemsLeft mm c) ≡ good st ∷ edgeMade mw w t (itemsLeft mm d)
-    → gives st (walkLeft (walkMeans w mw mm am) t d) ≡ asked (walkLeft (walkMeans w mw mm am) t c)
-unfolding walkLeft edgeSteps edgeMade
-edge-gives mw mm am w t c d st e = rw e
+module _ (mw mm am ignored : List ℕ) (w : Fixed) (t : ℕ) where
+  abbrev W : Walk
+  W = walkMeans w mw mm am ignored
 
-pub edge-refuses : (mw mm am : List ℕ) (w : Fixed) (t : ℕ) (c : Cursor) (n : ℕ) (l : List (Checked Step)) → edgeMade mw w t (itemsLeft mm c) ≡ refused n ∷ l
-    → refuses n ≡ asked (walkLeft (walkMeans w mw mm am) t c)
-unfolding walkLeft edgeSteps edgeMade
-edge-refuses mw mm am w t c n l e = rw e
+  -- what the edge has to make with the matches of a cursor
+  abbrev pub edgeLeft : Cursor → List (Checked Step)
+  edgeLeft c = edgeMade (walkedWords w ignored mw) w t (itemsLeft (heldWords c ignored mm) c)
 
-pub edge-ends : (mw mm am : List ℕ) (w : Fixed) (t : ℕ) (c : Cursor) → edgeMade mw w t (itemsLeft mm c) ≡ []
-    → asked (trsSteps (walkMeans w mw mm am) (nextEdge (walkMeans w mw mm am) t)) ≡ asked (walkLeft (walkMeans w mw mm am) t c)
-unfolding walkLeft edgeSteps edgeMade
-edge-ends mw mm am w t c e = rw e
+  pub edge-gives : (c d : Cursor) (st : Step) → edgeLeft c ≡ good st ∷ edgeLeft d → gives st (walkLeft W t d) ≡ asked (walkLeft W t c)
+  unfolding walkLeft edgeSteps edgeMade
+  edge-gives c d st e = rw e
+
+  pub edge-refuses : (c : Cursor) (n : ℕ) (l : List (Checked Step)) → edgeLeft c ≡ refused n ∷ l → refuses n ≡ asked (walkLeft W t c)
+  unfolding walkLeft edgeSteps edgeMade
+  edge-refuses c n l e = rw e
+
+  pub edge-ends : (c : Cursor) → edgeLeft c ≡ [] → asked (trsSteps W (nextEdge W t)) ≡ asked (walkLeft W t c)
+  unfolding walkLeft edgeSteps edgeMade
+  edge-ends c e = rw e

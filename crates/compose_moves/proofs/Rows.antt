@@ -9,19 +9,22 @@ use Prim.Native.Nat.{ℕ, zero, suc}
 use lib.Dec.{eqb}
 use borrow.Author.Tests.{eq-eqb, ne-eqb}
 use Rattle.words.specs.Labels.{epsLabel, Checked, good, andThen}
-use Rattle.words.specs.Weights.{Kind}
+use Rattle.words.specs.Weights.{Kind, kindOf}
 use Rattle.words.specs.Matches.{MatchType, inputs, outputs, Match, loop, own, viaSigma, trOf}
 use Rattle.words.specs.Sigmas.{Operand, inner, lookup, rewrite, given}
-use Rattle.words.specs.Sides.{Side}
-use Rattle.words.specs.Filters.{factsAt}
-use Rattle.words.specs.Settings.{Settings, Lent, operandOf, operand1, operand2, compositionOf}
+use Rattle.words.specs.Filters.{filterOf, factsAt}
+use Rattle.words.specs.Settings.{Lent}
 use Rattle.words.specs.Steps.{Composition, Triple, Move, Step, asks, moveOf, moveKind, keptBy, keep, stepOf}
 use Rattle.words.proofs.CheckedLaws.{good-is, past-check}
 use Rattle.words.proofs.PapersLookup.{lookup-label, found}
-use Rattle.matchers.specs.Meaning.{Item, itemOf}
+use Rattle.match_type.specs.Chosen.{sideMeans}
+use Rattle.matchers.specs.declared.sigma_matcher.Sigma.{Sigma}
+use Rattle.matchers.specs.Meaning.{Item, itemOf, operandIn}
+use Rattle.compose_fst_op.specs.declared.ComposeFstOpOptions.{ComposeFstOpOptions}
 use Rattle.matchers.proofs.Items.{sigma-label}
 use Rattle.compose_moves.specs.Moves.{Present, asTr, rowOf, stepIf, stepsOf, pairSteps}
 use Rattle.compose_moves.specs.Walks.{edgeItem}
+use Rattle.compose_moves.specs.Cursors.{words1, words2, read1, read2}
 
 -- a walked edge as a match
 abbrev pub edgeMatch : ℕ → Match
@@ -55,10 +58,10 @@ fits o s x ms e (viaSigma t) i =
     same u h k = let z : u ≡ t = cc in rw z at k
 
 -- what a walked edge and a match are as transitions
-given-edge : (k : Kind) (on : MatchType) (m : List ℕ) (sigma mode : ℕ) (allowed : Option (List ℕ)) (s x e : ℕ) → asTr k s (edgeItem m e) ≡ given k (operandOf on m sigma mode allowed) s x (edgeMatch e)
+given-edge : (k : Kind) (on : MatchType) (m : List ℕ) (σ : Sigma) (allowed : Option (List ℕ)) (s x e : ℕ) → asTr k s (edgeItem m e) ≡ given k (operandIn on m σ allowed) s x (edgeMatch e)
 unfolding given
-given-edge k on m sigma mode allowed s x zero = refl
-given-edge k on m sigma mode allowed s x (suc e) = refl
+given-edge k on m σ allowed s x zero = refl
+given-edge k on m σ allowed s x (suc e) = refl
 
 given-match : (k : Kind) (o : Operand) (s x : ℕ) (m : Match) → asTr k s (itemIn o x m) ≡ given k o s x m
 unfolding given
@@ -66,41 +69,44 @@ given-match k o s x loop = refl
 given-match k o s x (own u) = refl
 given-match k o s x (viaSigma u) = refl
 
-module _ (s : Settings) (l : Lent) (side : Side) (t : Triple) where
-  abbrev pub A : Operand
-  A = operand1 s l
-
-  abbrev pub B : Operand
-  B = operand2 s l
-
-  abbrev pub C : Composition
-  C = compositionOf s l side
-
+-- a composed state of a composition
+module _ (c : Composition) (t : Triple) where
   -- the present composed state
   abbrev pub here : Present
-  here = record { kind = C .kind; filter = C .filter; facts = factsAt A B (t .s1) (t .s2); triple = t }
+  here = record { kind = c .kind; filter = c .filter; facts = factsAt (c .operand1) (c .operand2) (t .s1) (t .s2); triple = t }
 
   -- what `words` makes of a move
   abbrev pub made : Checked Move → List (Checked Step)
-  made v = map (λ k. andThen k (stepOf C t)) (keep (C .filter) A (here .facts) (t .f) v)
+  made v = map (λ k. andThen k (stepOf c t)) (keep (c .filter) (c .operand1) (here .facts) (t .f) v)
 
   -- a kept move makes its step, by what its two matches give
   pub kept-one : (v : Move) (o : Option ℕ)
-      → stepIf (C .kind) (given (C .kind) A (t .s1) (asks B (v .second)) (v .first)) (given (C .kind) B (t .s2) (asks A (v .first)) (v .second)) o
-      ≡ map (λ k. andThen k (stepOf C t)) (keptBy v o)
+      → stepIf (c .kind) (given (c .kind) (c .operand1) (t .s1) (asks (c .operand2) (v .second)) (v .first)) (given (c .kind) (c .operand2) (t .s2) (asks (c .operand1) (v .first)) (v .second)) o
+      ≡ map (λ k. andThen k (stepOf c t)) (keptBy v o)
   unfolding stepOf
   kept-one v none = refl
   kept-one v (some g) = refl
 
   -- two items make what the two matches make, where they give the same transitions and stand in the same row
   same-steps : (v : Move) (a b : Item)
-      → asTr (C .kind) (t .s1) a ≡ given (C .kind) A (t .s1) (asks B (v .second)) (v .first)
-      → asTr (C .kind) (t .s2) b ≡ given (C .kind) B (t .s2) (asks A (v .first)) (v .second)
-      → rowOf a b ≡ moveKind A (v .first) (v .second) → stepsOf here a b ≡ made (good v)
+      → asTr (c .kind) (t .s1) a ≡ given (c .kind) (c .operand1) (t .s1) (asks (c .operand2) (v .second)) (v .first)
+      → asTr (c .kind) (t .s2) b ≡ given (c .kind) (c .operand2) (t .s2) (asks (c .operand1) (v .first)) (v .second)
+      → rowOf a b ≡ moveKind (c .operand1) (v .first) (v .second) → stepsOf here a b ≡ made (good v)
   unfolding stepsOf
-  same-steps v a b p q r = rw (p, q, r) (kept-one v (C .filter (moveKind A (v .first) (v .second)) (here .facts) (t .f)))
+  same-steps v a b p q r = rw (p, q, r) (kept-one v (c .filter (moveKind (c .operand1) (v .first) (v .second)) (here .facts) (t .f)))
 
-  row-inputs : (e : ℕ) (m : Match) → Fits B (asks A (edgeMatch e)) m → rowOf (edgeItem (l .m1) e) (itemIn B (asks A (edgeMatch e)) m) ≡ moveKind A (edgeMatch e) m
+module _ (o : ComposeFstOpOptions) (l : Lent) (t : Triple) where
+  abbrev pub A : Operand
+  A = read1 o l
+
+  abbrev pub B : Operand
+  B = read2 o l
+
+  -- the composition of the words that are read
+  abbrev pub C : Composition
+  C = record { kind = kindOf (o .kind); filter = filterOf (o .filter); side = sideMeans (o .side); operand1 = A; operand2 = B }
+
+  row-inputs : (e : ℕ) (m : Match) → Fits B (asks A (edgeMatch e)) m → rowOf (edgeItem (words1 o l) e) (itemIn B (asks A (edgeMatch e)) m) ≡ moveKind A (edgeMatch e) m
   row-inputs e loop h = refl
   row-inputs zero (own u) h = refl
   row-inputs zero (viaSigma u) h = refl
@@ -112,14 +118,14 @@ module _ (s : Settings) (l : Lent) (side : Side) (t : Triple) where
   rewritten true x u e = rw (eq-eqb (inner A u) (A .sigma .label) e)
   rewritten false x u e = refl
 
-  row-outputs : (e : ℕ) (m : Match) → Fits A (asks B (edgeMatch e)) m → rowOf (itemIn A (asks B (edgeMatch e)) m) (edgeItem (l .m2) e) ≡ moveKind A m (edgeMatch e)
+  row-outputs : (e : ℕ) (m : Match) → Fits A (asks B (edgeMatch e)) m → rowOf (itemIn A (asks B (edgeMatch e)) m) (edgeItem (words2 o l) e) ≡ moveKind A m (edgeMatch e)
   row-outputs zero m h = refl
   row-outputs (suc e) loop h = refl
   row-outputs (suc e) (own u) h = refl
   row-outputs (suc e) (viaSigma u) h = rw (rewritten (A .sigma .rewriteBoth) (inner B (suc e)) u (h .1), ne-eqb (inner B (suc e)) epsLabel (h .0))
 
-  pub pair-inputs : (e : ℕ) (m : Match) → Fits B (asks A (edgeMatch e)) m → pairSteps inputs here (edgeItem (l .m1) e) (itemIn B (asks A (edgeMatch e)) m) ≡ made (good (moveOf inputs (edgeMatch e) m))
-  pair-inputs e m h = same-steps (moveOf inputs (edgeMatch e) m) _ _ (given-edge (C .kind) outputs (l .m1) (s .sigma1) (s .mode1) (l .allowed1) (t .s1) _ e) (given-match (C .kind) B (t .s2) _ m) (row-inputs e m h)
+  pub pair-inputs : (e : ℕ) (m : Match) → Fits B (asks A (edgeMatch e)) m → pairSteps inputs (here C t) (edgeItem (words1 o l) e) (itemIn B (asks A (edgeMatch e)) m) ≡ made C t (good (moveOf inputs (edgeMatch e) m))
+  pair-inputs e m h = same-steps C t (moveOf inputs (edgeMatch e) m) _ _ (given-edge (C .kind) outputs (words1 o l) (o .sigma1) (l .allowed1) (t .s1) _ e) (given-match (C .kind) B (t .s2) _ m) (row-inputs e m h)
 
-  pub pair-outputs : (e : ℕ) (m : Match) → Fits A (asks B (edgeMatch e)) m → pairSteps outputs here (edgeItem (l .m2) e) (itemIn A (asks B (edgeMatch e)) m) ≡ made (good (moveOf outputs (edgeMatch e) m))
-  pair-outputs e m h = same-steps (moveOf outputs (edgeMatch e) m) _ _ (given-match (C .kind) A (t .s1) _ m) (given-edge (C .kind) inputs (l .m2) (s .sigma2) (s .mode2) (l .allowed2) (t .s2) _ e) (row-outputs e m h)
+  pub pair-outputs : (e : ℕ) (m : Match) → Fits A (asks B (edgeMatch e)) m → pairSteps outputs (here C t) (edgeItem (words2 o l) e) (itemIn A (asks B (edgeMatch e)) m) ≡ made C t (good (moveOf outputs (edgeMatch e) m))
+  pair-outputs e m h = same-steps C t (moveOf outputs (edgeMatch e) m) _ _ (given-match (C .kind) A (t .s1) _ m) (given-edge (C .kind) inputs (words2 o l) (o .sigma2) (l .allowed2) (t .s2) _ e) (row-outputs e m h)

@@ -8,25 +8,27 @@ use Rattle.words.specs.Labels.{noLabel, Checked, good, refused}
 use Rattle.words.specs.Matches.{MatchType, inputs, outputs, Match, own, sortedMatches}
 use Rattle.words.specs.Machines.{listOf, firstOf}
 use Rattle.words.specs.Sigmas.{Operand, lookup}
-use Rattle.words.specs.Sides.{Side, directionAt}
-use Rattle.words.specs.Settings.{Settings, Lent, operandOf, operand1, operand2, compositionOf}
-use Rattle.words.specs.Steps.{Triple, Move, Step, walked as walkedEdges, asks, moveOf, movesOf, walk, movesAt, keptAlong, keptAt, stepsAt}
+use Rattle.words.specs.Sides.{directionAt}
+use Rattle.words.specs.Settings.{Lent}
+use Rattle.words.specs.Steps.{Composition, Triple, Move, Step, walked as walkedEdges, asks, moveOf, movesOf, walk, movesAt, keptAlong, keptAt, stepsAt}
 use Rattle.words.proofs.ListLaws.{list-member}
 use Rattle.words.proofs.WalkLaws.{lookup-none}
 use Rattle.matchers.specs.declared.Cursor.{Cursor}
-use Rattle.matchers.specs.Meaning.{sortedItems, lookupItems}
+use Rattle.matchers.specs.declared.sigma_matcher.Sigma.{Sigma}
+use Rattle.matchers.specs.Meaning.{operandIn, sortedItems, lookupItems}
+use Rattle.compose_fst_op.specs.declared.ComposeFstOpOptions.{ComposeFstOpOptions}
 use Rattle.matchers.specs.Cursors.{itemsLeft}
 use Rattle.matchers.proofs.Starts.{sorted-items}
 use Rattle.compose_moves.specs.Moves.{pairSteps}
 use Rattle.compose_moves.specs.Walks.{Walk, walkedState, lookedState, lookedWords, walkedSide, edgeItem, edgeSteps, orRefused, trSteps, trsSteps, walkLeft}
-use Rattle.compose_moves.specs.Cursors.{walkIn}
+use Rattle.compose_moves.specs.Cursors.{words1, words2, walkIn}
 use Rattle.compose_moves.proofs.Flat.{flat-same, flat-map, flat-flat, map-flat}
-use Rattle.compose_moves.proofs.Rows.{edgeMatch, itemIn, Fits, fits, here, made, pair-inputs, pair-outputs}
+use Rattle.compose_moves.proofs.Rows.{edgeMatch, itemIn, Fits, fits, C, here, made, pair-inputs, pair-outputs}
 
 -- A walk K, and what `words` makes of a move, F: they agree at each walked edge and match.
-module _ (K : Walk) (F : Checked Move → List (Checked Step)) (refuses : (n : ℕ) → F (refused n) ≡ refused n ∷ []) (sigma mode : ℕ) (allowed : Option (List ℕ)) where
+module _ (K : Walk) (F : Checked Move → List (Checked Step)) (refuses : (n : ℕ) → F (refused n) ≡ refused n ∷ []) (σ : Sigma) (allowed : Option (List ℕ)) where
   abbrev W : Operand
-  W = operandOf (walkedSide (K .on)) (K .walked) sigma mode allowed
+  W = operandIn (walkedSide (K .on)) (K .walked) σ allowed
 
   abbrev pub Agree : Type 0
   Agree = (e : ℕ) (m : Match) → Fits (K .operand) (asks W (edgeMatch e)) m
@@ -67,38 +69,41 @@ module _ (K : Walk) (F : Checked Move → List (Checked Step)) (refuses : (n : �
       ∙ sym (flat-flat F moves (walkedEdges W sw))
 
 -- asked for MAX: the sorted look-up, and no refusal
-rest-items : (on : MatchType) (m : List ℕ) (sigma mode : ℕ) (allowed : Option (List ℕ)) (s : ℕ) → lookupItems (operandOf on m sigma mode allowed) s noLabel ≡ good (sortedItems on m s noLabel)
+rest-items : (on : MatchType) (m : List ℕ) (σ : Sigma) (allowed : Option (List ℕ)) (s : ℕ) → lookupItems (operandIn on m σ allowed) s noLabel ≡ good (sortedItems on m s noLabel)
 unfolding lookupItems sortedMatches
-rest-items on m sigma mode allowed s = rw (lookup-none (operandOf on m sigma mode allowed) s) (ap good (sorted-items on m s noLabel _))
+rest-items on m σ allowed s = rw (lookup-none (operandIn on m σ allowed) s) (ap good (sorted-items on m s noLabel _))
 
 -- a walk whose walked machine rests, with all its matches
-pub at-rest : (K : Walk) (sigma mode : ℕ) (allowed : Option (List ℕ)) (c : Cursor) → K .operand ≡ operandOf (K .on) (K .looked) sigma mode allowed
-    → itemsLeft (K .looked) c ≡ sortedItems (K .on) (K .looked) (lookedState (K .on) (K .present .triple)) noLabel
+pub at-rest : (K : Walk) (σ : Sigma) (allowed : Option (List ℕ)) (c : Cursor) → K .operand ≡ operandIn (K .on) (K .looked) σ allowed
+    → itemsLeft (K .held c) c ≡ sortedItems (K .on) (K .looked) (lookedState (K .on) (K .present .triple)) noLabel
     → walkLeft K 0 c ≡ orRefused K 0 (lookupItems (K .operand) (lookedState (K .on) (K .present .triple)) noLabel) ++ trsSteps K (firstOf (K .walked) (walkedState (K .on) (K .present .triple)))
 unfolding walkLeft
-at-rest K sigma mode allowed c o e = rw (e, o, rest-items (K .on) (K .looked) sigma mode allowed (lookedState (K .on) (K .present .triple)))
+at-rest K σ allowed c o e = rw (e, o, rest-items (K .on) (K .looked) σ allowed (lookedState (K .on) (K .present .triple)))
 
-module _ (s : Settings) (l : Lent) (side : Side) (t : Triple) where
-  -- `words`' steps in a direction
-  pub steps-along : (d : MatchType) → directionAt side (operand1 s l) (operand2 s l) (t .s1) (t .s2) ≡ good d
-      → stepsAt (compositionOf s l side) t ≡ flatMap (made s l side t) (movesAt d (operand1 s l) (operand2 s l) (t .s1) (t .s2))
-  unfolding stepsAt keptAt keptAlong
-  steps-along d e = rw e (map-flat _ _ (movesAt d (operand1 s l) (operand2 s l) (t .s1) (t .s2)))
+-- the direction of a composition at a state
+abbrev directed : Composition → Triple → Checked MatchType
+directed c t = directionAt (c .side) (c .operand1) (c .operand2) (t .s1) (t .s2)
 
+-- `words`' steps in a direction
+pub steps-along : (c : Composition) (t : Triple) (d : MatchType) → directed c t ≡ good d → stepsAt c t ≡ flatMap (made c t) (movesAt d (c .operand1) (c .operand2) (t .s1) (t .s2))
+unfolding stepsAt keptAt keptAlong
+steps-along c t d e = rw e (map-flat _ _ (movesAt d (c .operand1) (c .operand2) (t .s1) (t .s2)))
+
+module _ (o : ComposeFstOpOptions) (l : Lent) (t : Triple) where
   -- refusal 10 alone
-  pub no-steps : (n : ℕ) → directionAt side (operand1 s l) (operand2 s l) (t .s1) (t .s2) ≡ refused n → refused n ∷ [] ≡ stepsAt (compositionOf s l side) t
+  pub no-steps : (n : ℕ) → directed (C o l t) t ≡ refused n → refused n ∷ [] ≡ stepsAt (C o l t) t
   unfolding stepsAt keptAt
   no-steps n e = rw e
 
   -- the walk from the start on, in either direction
-  pub all-steps : (d : MatchType) (c : Cursor) → directionAt side (operand1 s l) (operand2 s l) (t .s1) (t .s2) ≡ good d
-      → itemsLeft (lookedWords d (l .m1) (l .m2)) c ≡ sortedItems d (lookedWords d (l .m1) (l .m2)) (lookedState d t) noLabel
-      → walkLeft (walkIn s l (here s l side t) d) 0 c ≡ stepsAt (compositionOf s l side) t
+  pub all-steps : (d : MatchType) (c : Cursor) → directed (C o l t) t ≡ good d
+      → itemsLeft (walkIn o l (here (C o l t) t) d .held c) c ≡ sortedItems d (lookedWords d (words1 o l) (words2 o l)) (lookedState d t) noLabel
+      → walkLeft (walkIn o l (here (C o l t) t) d) 0 c ≡ stepsAt (C o l t) t
   all-steps inputs c e i =
-      at-rest (walkIn s l (here s l side t) inputs) (s .sigma2) (s .mode2) (l .allowed2) c refl i
-      ∙ walk-made (walkIn s l (here s l side t) inputs) (made s l side t) (λ n. refl) (s .sigma1) (s .mode1) (l .allowed1) (pair-inputs s l side t) (t .s1)
-      ∙ sym (steps-along inputs e)
+      at-rest (walkIn o l (here (C o l t) t) inputs) (o .sigma2) (l .allowed2) c refl i
+      ∙ walk-made (walkIn o l (here (C o l t) t) inputs) (made (C o l t) t) (λ n. refl) (o .sigma1) (l .allowed1) (pair-inputs o l t) (t .s1)
+      ∙ sym (steps-along (C o l t) t inputs e)
   all-steps outputs c e i =
-      at-rest (walkIn s l (here s l side t) outputs) (s .sigma1) (s .mode1) (l .allowed1) c refl i
-      ∙ walk-made (walkIn s l (here s l side t) outputs) (made s l side t) (λ n. refl) (s .sigma2) (s .mode2) (l .allowed2) (pair-outputs s l side t) (t .s2)
-      ∙ sym (steps-along outputs e)
+      at-rest (walkIn o l (here (C o l t) t) outputs) (o .sigma1) (l .allowed1) c refl i
+      ∙ walk-made (walkIn o l (here (C o l t) t) outputs) (made (C o l t) t) (λ n. refl) (o .sigma2) (l .allowed2) (pair-outputs o l t) (t .s2)
+      ∙ sym (steps-along (C o l t) t outputs e)

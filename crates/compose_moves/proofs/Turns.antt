@@ -6,14 +6,14 @@ use Prim.Native.Nat.{ℕ, _≤_}
 use Rattle.words.specs.Labels.{Checked, good, refused}
 use Rattle.words.specs.Matches.{labelOn}
 use Rattle.words.specs.Machines.{trCount, nextOf, machineOf}
-use Rattle.words.specs.Settings.{Settings, Lent}
+use Rattle.words.specs.Settings.{Lent}
 use Rattle.words.specs.Steps.{Step}
 use Rattle.words.proofs.ListLaws.{list-end, list-turn}
 use Rattle.fst.specs.declared.MatchType.the-variants.{MatchInput, MatchOutput}
 use Rattle.matchers.specs.declared.Cursor.{Cursor}
 use Rattle.matchers.specs.Meaning.{Item, lookupItems}
 use Rattle.matchers.specs.Cursors.{itemsLeft}
-use Rattle.compose_fst_op.specs.Composing.{optionSettings, lentOf}
+use Rattle.compose_fst_op.specs.Composing.{lentOf}
 use Rattle.compose_moves.specs.Walks.{Walk, walkMeans, walkedState, lookedState, walkedSide, nextEdge, trSteps, trsSteps, walkLeft, Asked, ends, refuses, asked, isDone, alongMeans, Placed, PlacedBy}
 use Rattle.compose_moves.specs.Cursors.{cursorWalk, stepsLeft, nextMeans, fixedBy, resumed, StaysPlaced}
 use Rattle.compose_moves.proofs.Edges.{after-taken}
@@ -28,7 +28,7 @@ abbrev pub lookedUp : Walk → ℕ → Checked (List Item)
 lookedUp W t = lookupItems (W .operand) (lookedState (W .on) (W .present .triple)) (labelOn (walkedSide (W .on)) (machineOf (W .walked)) t)
 
 -- it gave the cursor c, or refused
-pub tr-found : (W : Walk) (t : ℕ) (c : Cursor) → good (itemsLeft (W .looked) c) ≡ lookedUp W t → walkLeft W t c ≡ trSteps W t ++ trsSteps W (nextEdge W t)
+pub tr-found : (W : Walk) (t : ℕ) (c : Cursor) → good (itemsLeft (W .held c) c) ≡ lookedUp W t → walkLeft W t c ≡ trSteps W t ++ trsSteps W (nextEdge W t)
 unfolding walkLeft trSteps
 tr-found W t c e = rw (← e)
 
@@ -68,18 +68,18 @@ walk-turn W t u a b n h e d p =
     ∙ sym (done-is W (asked (trsSteps W t)) a d)
 
 -- the walk's answer as the cursor's
-pub resumed-is : (s : Settings) (l : Lent) (c : MoveCursor) (a : Along) → nextMeans s l (resumed c a) ≡ alongMeans (cursorWalk s l c) ends a
+pub resumed-is : (o : ComposeFstOpOptions) (l : Lent) (c : MoveCursor) (a : Along) → nextMeans o l (resumed c a) ≡ alongMeans (cursorWalk o l c) ends a
 unfolding stepsLeft
-resumed-is s l c (Onward r t m) = refl
-resumed-is s l c Done = refl
-resumed-is s l c (Refused n) = refl
+resumed-is o l c (Onward r t m) = refl
+resumed-is o l c Done = refl
+resumed-is o l c (Refused n) = refl
 
 -- direction input walks machine 1, direction output machine 2
-module _ (o : ComposeFstOpOptions) (m1 m2 a1 a2 : List ℕ) (c : MoveCursor) where
-  walk-input : c .on ≡ MatchInput → walkMeans (fixedBy o (o .sigma2) c) m1 m2 a2 ≡ cursorWalk (optionSettings o) (lentOf o m1 m2 a1 a2) c
+module _ (o : ComposeFstOpOptions) (m1 m2 a1 a2 ignored : List ℕ) (c : MoveCursor) where
+  walk-input : c .on ≡ MatchInput → walkMeans (fixedBy o (o .sigma2) c) m1 m2 a2 ignored ≡ cursorWalk o (lentOf o m1 m2 a1 a2 ignored) c
   walk-input e = rw e
 
-  walk-output : c .on ≡ MatchOutput → walkMeans (fixedBy o (o .sigma1) c) m2 m1 a1 ≡ cursorWalk (optionSettings o) (lentOf o m1 m2 a1 a2) c
+  walk-output : c .on ≡ MatchOutput → walkMeans (fixedBy o (o .sigma1) c) m2 m1 a1 ignored ≡ cursorWalk o (lentOf o m1 m2 a1 a2 ignored) c
   walk-output e = rw e
 
   -- the two clauses of `ordered_expand`, and those of `next_step`
@@ -88,19 +88,17 @@ module _ (o : ComposeFstOpOptions) (m1 m2 a1 a2 : List ℕ) (c : MoveCursor) whe
 
   abbrev Answered : Along → Type 0
   Answered a =
-      let s = optionSettings o in
-      let l = lentOf o m1 m2 a1 a2 in
-      (nextMeans s l (resumed c a) ≡ asked (stepsLeft s l c)) × StaysPlaced s l c (resumed c a)
+      let l = lentOf o m1 m2 a1 a2 ignored in
+      (nextMeans o l (resumed c a) ≡ asked (stepsLeft o l c)) × StaysPlaced o l c (resumed c a)
 
-  answer : (W : Walk) (a : Along) → W ≡ cursorWalk (optionSettings o) (lentOf o m1 m2 a1 a2) c → Walked W a → Answered a
+  answer : (W : Walk) (a : Along) → W ≡ cursorWalk o (lentOf o m1 m2 a1 a2 ignored) c → Walked W a → Answered a
   unfolding stepsLeft
   answer W a e h =
-      let s = optionSettings o in
-      let l = lentOf o m1 m2 a1 a2 in
-      (rw (resumed-is s l c a) (rw e at (h .0)), resumed-placed s l c a (rw e at (h .1)))
+      let l = lentOf o m1 m2 a1 a2 ignored in
+      (rw (resumed-is o l c a) (rw e at (h .0)), resumed-placed o l c a (rw e at (h .1)))
 
-  pub answer-input : (a : Along) → c .on ≡ MatchInput → Walked (walkMeans (fixedBy o (o .sigma2) c) m1 m2 a2) a → Answered a
-  answer-input a e h = answer (walkMeans (fixedBy o (o .sigma2) c) m1 m2 a2) a (walk-input e) h
+  pub answer-input : (a : Along) → c .on ≡ MatchInput → Walked (walkMeans (fixedBy o (o .sigma2) c) m1 m2 a2 ignored) a → Answered a
+  answer-input a e h = answer (walkMeans (fixedBy o (o .sigma2) c) m1 m2 a2 ignored) a (walk-input e) h
 
-  pub answer-output : (a : Along) → c .on ≡ MatchOutput → Walked (walkMeans (fixedBy o (o .sigma1) c) m2 m1 a1) a → Answered a
-  answer-output a e h = answer (walkMeans (fixedBy o (o .sigma1) c) m2 m1 a1) a (walk-output e) h
+  pub answer-output : (a : Along) → c .on ≡ MatchOutput → Walked (walkMeans (fixedBy o (o .sigma1) c) m2 m1 a1 ignored) a → Answered a
+  answer-output a e h = answer (walkMeans (fixedBy o (o .sigma1) c) m2 m1 a1 ignored) a (walk-output e) h

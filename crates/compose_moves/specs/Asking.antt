@@ -6,9 +6,9 @@ use Prim.Native.Nat.{ℕ, zero, suc}
 use Rattle.lists.specs.Asking.{AskedOn}
 use Rattle.words.specs.Labels.{Checked, good, refused}
 use Rattle.words.specs.Matches.{MatchType}
-use Rattle.words.specs.Settings.{Settings, Lent}
-use Rattle.words.specs.Sides.{Side}
+use Rattle.words.specs.Settings.{Lent}
 use Rattle.words.specs.Steps.{Step}
+use Rattle.compose_fst_op.specs.declared.ComposeFstOpOptions.{ComposeFstOpOptions}
 use Rattle.compose_state_tuple.specs.declared.ComposeStateTuple.{ComposeStateTuple}
 use Rattle.compose_moves.specs.Moves.{composeTrMeans}
 use Rattle.compose_moves.specs.Cursors.{SameState, MovesPlaced, directionFor, Begins}
@@ -39,14 +39,14 @@ answerAt (good st ∷ l) (suc k) = answerAt l k
 answerAt (refused n ∷ l) k = some (refused n)
 
 -- From the cursor c on, the steps of a composed state are given. `Answers c r` is what the function that is asked for the next step promises of its reply r.
-pub record GivesSteps (Answers : MoveCursor → NextStep → Type 0) (s : Settings) (l : Lent) (side : Side) (tuple : ComposeStateTuple) (steps : List (Checked Step)) (c : MoveCursor) : Type 0 where
+pub record GivesSteps (Answers : MoveCursor → NextStep → Type 0) (o : ComposeFstOpOptions) (l : Lent) (tuple : ComposeStateTuple) (steps : List (Checked Step)) (c : MoveCursor) : Type 0 where
   -- asking number k gives what is to be given at k
   pub inOrder : (k : ℕ) (r : NextStep) → AskedOn Answers onward c k r → givenBy r ≡ answerAt steps k
   -- the first cursor, and each that an asking hands back, holds the composed state, and a place of its walk
-  pub begins : Begins s l side tuple c
-  pub holds : (k : ℕ) (t : ComposeTr) (d : MoveCursor) → AskedOn Answers onward c k (AStep t d) → SameState c d × MovesPlaced s l d
+  pub begins : Begins o l tuple c
+  pub holds : (k : ℕ) (t : ComposeTr) (d : MoveCursor) → AskedOn Answers onward c k (AStep t d) → SameState c d × MovesPlaced o l d
 
 -- The start b of a composed state: where the direction is refused, that refusal by its number, which is then all that the state has; else a cursor that gives the steps.
-pub record StartGivesSteps (Answers : MoveCursor → NextStep → Type 0) (s : Settings) (l : Lent) (side : Side) (tuple : ComposeStateTuple) (steps : List (Checked Step)) (b : MovesStart) : Type 0 where
-  pub refuses : (n : ℕ) → directionFor s l side tuple ≡ refused n → (b ≡ NoStart n) × (steps ≡ refused n ∷ [])
-  pub gives : (d : MatchType) → directionFor s l side tuple ≡ good d → (c : MoveCursor) × (b ≡ At c) × GivesSteps Answers s l side tuple steps c
+pub record StartGivesSteps (Answers : MoveCursor → NextStep → Type 0) (o : ComposeFstOpOptions) (l : Lent) (tuple : ComposeStateTuple) (steps : List (Checked Step)) (b : MovesStart) : Type 0 where
+  pub refuses : (n : ℕ) → directionFor o l tuple ≡ refused n → (b ≡ NoStart n) × (steps ≡ refused n ∷ [])
+  pub gives : (d : MatchType) → directionFor o l tuple ≡ good d → (c : MoveCursor) × (b ≡ At c) × GivesSteps Answers o l tuple steps c

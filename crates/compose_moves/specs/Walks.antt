@@ -6,12 +6,13 @@ use Rattle.words.specs.Labels.{noLabel, Checked, good, refused}
 use Rattle.words.specs.Matches.{MatchType, inputs, outputs, labelOn, trOf}
 use Rattle.words.specs.Machines.{firstOf, nextOf, listFrom, machineOf}
 use Rattle.words.specs.Sigmas.{Operand}
-use Rattle.words.specs.Settings.{operandOf}
 use Rattle.words.specs.Steps.{Triple, Step}
-use Rattle.fst.specs.Meaning.{onOf}
+use Rattle.words.specs.Ignored.{wordsRead}
+use Rattle.fst.specs.Meaning.{onOf, ignoredUnder, readAs}
+use Rattle.fst.specs.declared.Sigmas.{Sigmas}
 use Rattle.matchers.specs.declared.Cursor.{Cursor}
-use Rattle.matchers.specs.Meaning.{Item, theLoop, whole, allowedOf, lookupItems}
-use Rattle.matchers.specs.Cursors.{itemsLeft}
+use Rattle.matchers.specs.Meaning.{Item, theLoop, whole, allowedOf, operandIn, lookupItems}
+use Rattle.matchers.specs.Cursors.{heldWords, itemsLeft}
 use Rattle.matchers.specs.Asking.{LookUp, sortedLookUp, sigmaLookUp, PlaceIn, Holds}
 use Rattle.compose_moves.specs.Moves.{Present, presentOf, pairSteps, composeTrMeans}
 use Rattle.compose_moves.specs.declared.moves.Walk.{Walk as Fixed}
@@ -22,22 +23,16 @@ use Rattle.compose_moves.specs.declared.walks.Along.the-variants.{Step a
 pub record Walk : Type 0 where
   -- the direction: the side on which the machine that is looked up is matched
   pub on : MatchType
-  -- the words of the machine that is walked, and of the one that is looked up
+  -- the words of the machine that is walked, and of the one that is looked up, as they are read
   pub walked : List ℕ
   pub looked : List ℕ
+  -- those of the one that is looked up as a cursor reads them
+  pub held : Cursor → List ℕ
+  -- the sigma labels of both machines
+  pub labels : Sigmas
   -- that one with its sigma
   pub operand : Operand
   pub present : Present
-
--- the walk of the code: what is fixed, the words walked, the words looked up, and their allowed list
-abbrev pub walkMeans : Fixed → (mw mm am : List ℕ) → Walk
-walkMeans w mw mm am = record {
-  on = onOf (w .on);
-  walked = mw;
-  looked = mm;
-  operand = operandOf (onOf (w .on)) mm (w .sigma .label .0) (w .sigma .mode) (allowedOf (w .sigma .listed) am);
-  present = presentOf w;
-}
 
 -- "Direction input .. along s1's list"; "Direction output mirrors this, walking s2."
 abbrev pub walkedState : MatchType → Triple → ℕ
@@ -57,6 +52,18 @@ lookedWords outputs m1 m2 = m1
 abbrev pub walkedSide : MatchType → MatchType
 walkedSide inputs = outputs
 walkedSide outputs = inputs
+
+-- the walk of the code: what is fixed, the words walked, the words looked up, their allowed list, and the ignored labels
+abbrev pub walkMeans : Fixed → (mw mm am ignored : List ℕ) → Walk
+walkMeans w mw mm am ignored = record {
+  on = onOf (w .on);
+  walked = wordsRead (walkedSide (onOf (w .on))) (ignoredUnder (w .labels) ignored) mw;
+  looked = readAs (w .on) (w .labels) ignored mm;
+  held = λ c. heldWords c ignored mm;
+  labels = w .labels;
+  operand = operandIn (onOf (w .on)) (readAs (w .on) (w .labels) ignored mm) (w .sigma) (allowedOf (w .sigma .listed) am);
+  present = presentOf w;
+}
 
 -- The walked edge: 0, while the machine rests; else a transition of its list.
 abbrev pub edgeItem : List ℕ → ℕ → Item
@@ -90,7 +97,7 @@ trsSteps W t = flatMap (trSteps W) (listFrom (W .walked) t)
 
 -- all that is left where edge t is walked and the matches of the cursor c are left of it
 unfoldable pub walkLeft : Walk → ℕ → Cursor → List (Checked Step)
-walkLeft W t c = edgeSteps W t (itemsLeft (W .looked) c) ++ trsSteps W (nextEdge W t)
+walkLeft W t c = edgeSteps W t (itemsLeft (W .held c) c) ++ trsSteps W (nextEdge W t)
 
 -- all that is left where transition t of the list comes next
 abbrev pub fromTr : Walk → ℕ → List (Checked Step)
@@ -125,8 +132,8 @@ edgeAnswer W t a = alongMeans W (asked (trsSteps W (nextEdge W t))) a
 
 -- the settings of a walked edge's look-up in the other machine: asked for MAX while the machine rests, else for its inner label, with that machine's sigma
 abbrev pub lookUpFor : Walk → ℕ → LookUp
-lookUpFor W zero = sortedLookUp (W .on) noLabel
-lookUpFor W (suc t) = sigmaLookUp (W .operand) (labelOn (walkedSide (W .on)) (machineOf (W .walked)) (suc t))
+lookUpFor W zero = sortedLookUp (W .on) (W .labels) noLabel
+lookUpFor W (suc t) = sigmaLookUp (W .operand) (W .labels) (labelOn (walkedSide (W .on)) (machineOf (W .walked)) (suc t))
 
 -- The place of a walk: the walked record, in the list of the walked state (0 while the machine rests); and what is left of its matches, a cursor of its look-up, with places in the list of the other machine's
 -- state.

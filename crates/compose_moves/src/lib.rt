@@ -7,21 +7,23 @@ ghost use mathlib.Core.List.{List};
 ghost use Prim.Native.Nat.{ℕ};
 ghost use Rattle.words.specs.Labels.{noLabel};
 ghost use Rattle.words.specs.Steps.{stepsAt};
-ghost use Rattle.fst.specs.Meaning.{onOf};
+ghost use Rattle.fst.specs.Meaning.{onOf, readAs};
+ghost use Rattle.fst.specs.declared.MatchType.the-variants.{MatchInput, MatchOutput};
 ghost use Rattle.compose_state_tuple.specs.Meaning.{tupleMeans};
 ghost use Rattle.matchers.specs.Meaning.{sortedItems};
 ghost use Rattle.matchers.specs.Cursors.{itemsLeft};
 ghost use Rattle.matchers.specs.Asking.{sortedLookUp, Holds};
-ghost use Rattle.match_type.specs.Chosen.{sideMeans};
-ghost use Rattle.compose_fst_op.specs.Composing.{optionSettings, lentOf, composing};
+ghost use Rattle.compose_fst_op.specs.Composing.{lentOf, composing};
 ghost use Rattle.compose_moves.specs.Walks.{lookedState, lookedWords, asked};
 ghost use Rattle.compose_moves.specs.Cursors.{fixedBy, resumed, stepsLeft, movesStartMeans, nextMeans, StaysPlaced, StartsPlaced};
 use compose_filters::Facts;
 use compose_filters::facts_at;
 use compose_fst_op::ComposeFstOpOptions;
+use compose_fst_op::sigmas_of;
 use compose_state_tuple::ComposeStateTuple;
 use fst::MatchType;
 use fst::NO_LABEL;
+use fst::Sigmas;
 use match_input::Direction;
 use match_input::direction_at;
 use matchers::Cursor;
@@ -59,18 +61,45 @@ pub enum NextStep {
 }
 
 // The matches of a walked machine that rests: the epsilon transitions of the other.
-fn rest_matches(m1: &[u32], m2: &[u32], on: MatchType, tuple: ComposeStateTuple) -> Cursor
+fn rest_matches(
+    m1: &[u32],
+    m2: &[u32],
+    sigmas: Sigmas,
+    ignored: &[u32],
+    on: MatchType,
+    tuple: ComposeStateTuple,
+) -> Cursor
     ensures { λ r. ⌜ (
-        let words = lookedWords (onOf on) (now (m1 .entry)) (now (m2 .entry)) in
+        let words1 = readAs MatchOutput sigmas (now (ignored .entry)) (now (m1 .entry)) in
+        let words2 = readAs MatchInput sigmas (now (ignored .entry)) (now (m2 .entry)) in
+        let words = lookedWords (onOf on) words1 words2 in
         itemsLeft words r ≡ sortedItems (onOf on) words (lookedState (onOf on) (tupleMeans tuple)) noLabel
         ) ⌝ }
-    ensures place { λ r. ⌜ Holds (lookedWords (onOf on) (now (m1 .entry)) (now (m2 .entry))) (lookedState (onOf on) (tupleMeans tuple)) (sortedLookUp (onOf on) noLabel) r ⌝ }
+    ensures place { λ r. ⌜ (
+        let words1 = readAs MatchOutput sigmas (now (ignored .entry)) (now (m1 .entry)) in
+        let words2 = readAs MatchInput sigmas (now (ignored .entry)) (now (m2 .entry)) in
+        Holds (lookedWords (onOf on) words1 words2) (lookedState (onOf on) (tupleMeans tuple)) (sortedLookUp (onOf on) sigmas noLabel) r
+        ) ⌝ }
 {
     let s1 = tuple.s1;
     let s2 = tuple.s2;
     match on {
-        MatchType::MatchInput => sorted_iter(m2, MatchType::MatchInput, s2, NO_LABEL),
-        MatchType::MatchOutput => sorted_iter(m1, MatchType::MatchOutput, s1, NO_LABEL),
+        MatchType::MatchInput => sorted_iter(
+            m2,
+            MatchType::MatchInput,
+            sigmas,
+            ignored,
+            s2,
+            NO_LABEL,
+        ),
+        MatchType::MatchOutput => sorted_iter(
+            m1,
+            MatchType::MatchOutput,
+            sigmas,
+            ignored,
+            s1,
+            NO_LABEL,
+        ),
     }
 }
 
@@ -78,31 +107,32 @@ fn rest_matches(m1: &[u32], m2: &[u32], on: MatchType, tuple: ComposeStateTuple)
 pub fn moves_start(
     m1: &[u32],
     m2: &[u32],
+    ignored: &[u32],
     options: ComposeFstOpOptions,
     tuple: ComposeStateTuple,
 ) -> MovesStart
     ensures { λ r. ⌜ (
         (a1 a2 : List ℕ) →
-        let l = lentOf options (now (m1 .entry)) (now (m2 .entry)) a1 a2 in
-        let c = composing options (now (m1 .entry)) (now (m2 .entry)) a1 a2 in
-        movesStartMeans (optionSettings options) l r ≡ stepsAt c (tupleMeans tuple)
+        let l = lentOf options (now (m1 .entry)) (now (m2 .entry)) a1 a2 (now (ignored .entry)) in
+        let c = composing options (now (m1 .entry)) (now (m2 .entry)) a1 a2 (now (ignored .entry)) in
+        movesStartMeans options l r ≡ stepsAt c (tupleMeans tuple)
         ) ⌝ }
     ensures place { λ r. ⌜ (
         (a1 a2 : List ℕ) →
-        StartsPlaced (optionSettings options) (lentOf options (now (m1 .entry)) (now (m2 .entry)) a1 a2) (sideMeans (options .side)) tuple r
+        let l = lentOf options (now (m1 .entry)) (now (m2 .entry)) a1 a2 (now (ignored .entry)) in
+        StartsPlaced options l tuple r
         ) ⌝ }
 {
     let side = options.side;
-    let sigma1 = options.sigma1;
-    let sigma2 = options.sigma2;
+    let sigmas = sigmas_of(options);
     let s1 = tuple.s1;
     let s2 = tuple.s2;
-    let direction = direction_at(side, m1, m2, sigma1.label, sigma2.label, s1, s2);
+    let direction = direction_at(side, m1, m2, sigmas, ignored, s1, s2);
     match direction {
         Direction::Refused(n) => MovesStart::Refused(n),
         Direction::Match(on) => {
-            let facts = facts_at(m1, m2, s1, s2);
-            let matches = rest_matches(m1, m2, on, tuple);
+            let facts = facts_at(m1, m2, sigmas, ignored, s1, s2);
+            let matches = rest_matches(m1, m2, sigmas, ignored, on, tuple);
             MovesStart::At(MoveCursor {
                 tuple,
                 facts,
@@ -128,6 +158,7 @@ fn walk_of(options: ComposeFstOpOptions, sigma: Sigma, cursor: MoveCursor) -> Wa
         tuple,
         on,
         sigma,
+        labels: sigmas_of(options),
     }
 }
 
@@ -161,16 +192,17 @@ pub fn next_step(
     m2: &[u32],
     a1: &[u32],
     a2: &[u32],
+    ignored: &[u32],
     options: ComposeFstOpOptions,
     cursor: MoveCursor,
 ) -> NextStep
     ensures { λ r. ⌜ (
-        let l = lentOf options (now (m1 .entry)) (now (m2 .entry)) (now (a1 .entry)) (now (a2 .entry)) in
-        nextMeans (optionSettings options) l r ≡ asked (stepsLeft (optionSettings options) l cursor)
+        let l = lentOf options (now (m1 .entry)) (now (m2 .entry)) (now (a1 .entry)) (now (a2 .entry)) (now (ignored .entry)) in
+        nextMeans options l r ≡ asked (stepsLeft options l cursor)
         ) ⌝ }
     ensures place { λ r. ⌜ (
-        let l = lentOf options (now (m1 .entry)) (now (m2 .entry)) (now (a1 .entry)) (now (a2 .entry)) in
-        StaysPlaced (optionSettings options) l cursor r
+        let l = lentOf options (now (m1 .entry)) (now (m2 .entry)) (now (a1 .entry)) (now (a2 .entry)) (now (ignored .entry)) in
+        StaysPlaced options l cursor r
         ) ⌝ }
 {
     let on = cursor.on;
@@ -184,6 +216,7 @@ pub fn next_step(
                 m1,
                 m2,
                 a2,
+                ignored,
                 walk_of(options, sigma2, cursor),
                 cursor.walked,
                 matches,
@@ -195,6 +228,7 @@ pub fn next_step(
                 m2,
                 m1,
                 a1,
+                ignored,
                 walk_of(options, sigma1, cursor),
                 cursor.walked,
                 matches,

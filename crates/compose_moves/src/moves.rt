@@ -15,6 +15,7 @@ use fst::EPS_LABEL;
 use fst::Label;
 use fst::MatchType;
 use fst::REFUSED_TOO_LARGE;
+use fst::Sigmas;
 use fst::StateId;
 use fst::Tr;
 use matchers::IterItemMatcher;
@@ -41,6 +42,8 @@ pub struct Walk {
     pub on: MatchType,
     // The sigma settings of that machine.
     pub sigma: Sigma,
+    // The sigma labels of both machines: with the list of ignored labels they say which labels are replaced.
+    pub labels: Sigmas,
 }
 
 // A move makes a transition, is dropped by the filter, or is refused by a number.

@@ -19,7 +19,7 @@ use Rattle.calls.specs.Store.{Store, stateRoom, trRoom}
 use Rattle.stored_steps.specs.Storing.{AllGood, Fits}
 use Rattle.compose_bounds.specs.Serving.{Light, weightsFit, Bounded, Walks, plainDirection}
 use Rattle.compose_bounds.proofs.Serves.{serves-steps, serves-fit}
-use Rattle.compose_fst_op.specs.Composing.{optionSettings, composing}
+use Rattle.compose_fst_op.specs.Composing.{optionSettings, composingWords}
 use Rattle.compose_fst_op.specs.declared.ComposeFstOpOptions.{ComposeFstOpOptions}
 use Rattle.compose_moves.specs.Walks.{lookedWords}
 use Rattle.list_facts.specs.Facts.{TrueOf}
@@ -73,20 +73,20 @@ bounded side on mw mm sw sm fw fm σw σm tw tm e h z = record {
 module _ {o : ComposeFstOpOptions} {m1 m2 a1 a2 : List ℕ} {t : Triple} {f1 f2 : ListFacts} (p : Present o m1 m2 a1 a2 t f1 f2) where
   -- in either direction: machine 1 is walked, or machine 2
   walks : noSigma (optionSettings o) ≡ true → (d : MatchType) → sorted d (machineOf (lookedWords d m1 m2)) ≡ true
-      → (run : ℕ) × Walks d (composing o m1 m2 a1 a2 .operand1) (composing o m1 m2 a1 a2 .operand2) (t .s1) (t .s2) run (mostBy d f1 f2)
+      → (run : ℕ) × Walks d (composingWords o m1 m2 a1 a2 .operand1) (composingWords o m1 m2 a1 a2 .operand2) (t .s1) (t .s2) run (mostBy d f1 f2)
   walks n inputs e = (f2 .run, bounded outputs inputs m1 m2 (t .s1) (t .s2) f1 f2 _ _ (p .facts1) (p .facts2) e (p .inside2) (unset (optionSettings o) n .1))
   walks n outputs e = (f1 .run, bounded inputs outputs m2 m1 (t .s2) (t .s1) f2 f1 _ _ (p .facts2) (p .facts1) e (p .inside1) (unset (optionSettings o) n .0))
 
   -- no step is a refusal, by the weights alone
-  pub good-steps : noSigma (optionSettings o) ≡ true → weightsFit (kindOf (o .kind)) (f1 .most) (f2 .most) ≡ true → f1 .most ≤ MAX → f2 .most ≤ MAX → AllGood (stepsAt (composing o m1 m2 a1 a2) t)
+  pub good-steps : noSigma (optionSettings o) ≡ true → weightsFit (kindOf (o .kind)) (f1 .most) (f2 .most) ≡ true → f1 .most ≤ MAX → f2 .most ≤ MAX → AllGood (stepsAt (composingWords o m1 m2 a1 a2) t)
   good-steps n fit h1 h2 =
       let d = plainDirection (sideMeans (o .side)) (f1 .len) (f2 .len) in
       let w = walks n d (looked-sorted p) in
-      serves-steps (composing o m1 m2 a1 a2) t (f1 .most) (f2 .most) (light _ (p .facts1) h1) (light _ (p .facts2) h2) fit d (w .0) (mostBy d f1 f2) (direction-plain p n) (w .1) .0
+      serves-steps (composingWords o m1 m2 a1 a2) t (f1 .most) (f2 .most) (light _ (p .facts1) h1) (light _ (p .facts2) h2) fit d (w .0) (mostBy d f1 f2) (direction-plain p n) (w .1) .0
 
   -- no refusal stands, and there is a record for each step
   pub serves-fits : (D : Store) → servesOf (optionSettings o) (plainDirection (sideMeans (o .side)) (f1 .len) (f2 .len)) D f1 f2 ≡ true → f1 .most ≤ MAX → f2 .most ≤ MAX
-      → Fits D (stepsAt (composing o m1 m2 a1 a2) t)
+      → Fits D (stepsAt (composingWords o m1 m2 a1 a2) t)
   unfolding servesOf
   serves-fits D e h1 h2 =
       let d = plainDirection (sideMeans (o .side)) (f1 .len) (f2 .len) in
@@ -95,5 +95,5 @@ module _ {o : ComposeFstOpOptions} {m1 m2 a1 a2 : List ℕ} {t : Triple} {f1 f2 
       let fit = and-left (weightsFit (kindOf (o .kind)) (f1 .most) (f2 .most)) _ r in
       let room = room-for D (mostBy d f1 f2) (and-right (weightsFit (kindOf (o .kind)) (f1 .most) (f2 .most)) _ r) in
       let w = walks n d (looked-sorted p) in
-      serves-fit (composing o m1 m2 a1 a2) t (f1 .most) (f2 .most) (light _ (p .facts1) h1) (light _ (p .facts2) h2) fit
+      serves-fit (composingWords o m1 m2 a1 a2) t (f1 .most) (f2 .most) (light _ (p .facts1) h1) (light _ (p .facts2) h2) fit
       d (w .0) (mostBy d f1 f2) (direction-plain p n) (w .1) D (room .0) (room .1)

@@ -12,14 +12,14 @@ use Rattle.words.specs.Matches.{MatchType, inputs, outputs, labelOn, own, sorte
 use Rattle.words.specs.Machines.{sideMark, listOf, machineOf, wellFormed}
 use Rattle.words.specs.Sigmas.{Sigma, Operand, lookup}
 use Rattle.words.specs.Sides.{directionAt}
-use Rattle.words.specs.Settings.{Settings, operand1, operand2}
+use Rattle.words.specs.Settings.{Settings}
 use Rattle.words.specs.Steps.{Triple}
 use Rattle.words.proofs.PapersOpened.{listed-form}
 use Rattle.words.proofs.PapersLookup.{owns}
 use Rattle.words.proofs.WalkLaws.{lookup-unset}
 use Rattle.compose_bounds.specs.Serving.{plainDirection}
 use Rattle.compose_bounds.proofs.Plain.{plain-direction}
-use Rattle.compose_fst_op.specs.Composing.{optionSettings, lentOf, composing}
+use Rattle.compose_fst_op.specs.Composing.{optionSettings, composingWords}
 use Rattle.compose_fst_op.specs.declared.ComposeFstOpOptions.{ComposeFstOpOptions}
 use Rattle.list_facts.specs.declared.ListFacts.{ListFacts}
 use Rattle.list_facts.proofs.FactLaws.{len-is}
@@ -42,11 +42,11 @@ unset s e = (eqb-true _ _ (and-left (eqb (s .sigma1) noLabel) _ e), eqb-true _ _
 
 -- so the direction is that of the facts
 pub direction-plain : {o : ComposeFstOpOptions} {m1 m2 a1 a2 : List ℕ} {t : Triple} {f1 f2 : ListFacts} → Present o m1 m2 a1 a2 t f1 f2 → noSigma (optionSettings o) ≡ true
-    → directionAt (sideMeans (o .side)) (operand1 (optionSettings o) (lentOf o m1 m2 a1 a2)) (operand2 (optionSettings o) (lentOf o m1 m2 a1 a2)) (t .s1) (t .s2)
+    → directionAt (sideMeans (o .side)) (composingWords o m1 m2 a1 a2 .operand1) (composingWords o m1 m2 a1 a2 .operand2) (t .s1) (t .s2)
     ≡ good (plainDirection (sideMeans (o .side)) (f1 .len) (f2 .len))
 direction-plain {o} {m1} {m2} {a1} {a2} {t} p e =
     let n = unset (optionSettings o) e in
-    plain-direction (composing o m1 m2 a1 a2) t (n .0) (n .1) ∙ ap₂ (λ (i j : ℕ). good (plainDirection (sideMeans (o .side)) i j)) (sym (len-is (p .facts1))) (sym (len-is (p .facts2)))
+    plain-direction (composingWords o m1 m2 a1 a2) t (n .0) (n .1) ∙ ap₂ (λ (i j : ℕ). good (plainDirection (sideMeans (o .side)) i j)) (sym (len-is (p .facts1))) (sym (len-is (p .facts2)))
 
 -- the look-up of a label gives its own transitions alone
 pub lookup-plain : (o : Operand) (s x : ℕ) → o .sigma .label ≡ noLabel → x ≢ epsLabel → x ≢ noLabel → lookup o s x ≡ good (map own (owns o s x))

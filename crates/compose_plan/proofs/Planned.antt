@@ -14,14 +14,14 @@ use Rattle.words.specs.Sigmas.{Operand, inner, given}
 use Rattle.words.specs.Sides.{directionAt}
 use Rattle.words.specs.Filters.{noneAt, allAt, factsAt, filterOf}
 use Rattle.words.proofs.TableLaws.{label-kept}
-use Rattle.words.specs.Settings.{Settings, Lent, operand1, operand2}
-use Rattle.words.specs.Steps.{Triple, Move, Step, asks, moveOf, walk, moveKind, stepsAt}
+use Rattle.words.specs.Settings.{Settings}
+use Rattle.words.specs.Steps.{Composition, Triple, Move, Step, asks, moveOf, walk, moveKind, stepsAt}
 use Rattle.fst.specs.Meaning.{onOf, asOperand}
 use Rattle.matchers.specs.Meaning.{theLoop}
 use Rattle.match_type.specs.Chosen.{sideMeans}
 use Rattle.compose_bounds.specs.Serving.{plainDirection}
 use Rattle.compose_filters.specs.Meaning.{filteredMeans}
-use Rattle.compose_fst_op.specs.Composing.{optionSettings, lentOf, composing}
+use Rattle.compose_fst_op.specs.Composing.{optionSettings, composingWords}
 use Rattle.compose_fst_op.specs.declared.ComposeFstOpOptions.{ComposeFstOpOptions}
 use Rattle.compose_moves.specs.Moves.{asTr, stepIf}
 use Rattle.compose_moves.specs.Walks.{walkedState, lookedState, lookedWords}
@@ -54,17 +54,17 @@ module _ (o : ComposeFstOpOptions) (m1 m2 a1 a2 : List ℕ) (t : Triple) where
   abbrev set : Settings
   set = optionSettings o
 
-  abbrev lent : Lent
-  lent = lentOf o m1 m2 a1 a2
+  abbrev C : Composition
+  C = composingWords o m1 m2 a1 a2
 
   abbrev A : Operand
-  A = operand1 set lent
+  A = C .operand1
 
   abbrev B : Operand
-  B = operand2 set lent
+  B = C .operand2
 
   abbrev F : Checked Move → List (Checked Step)
-  F = made set lent (sideMeans (o .side)) t
+  F = made C t
 
   -- what the filter sees
   abbrev φ : Facts
@@ -74,7 +74,7 @@ module _ (o : ComposeFstOpOptions) (m1 m2 a1 a2 : List ℕ) (t : Triple) where
   made-is : (w : Move) (k : Kind) (a b : Transition) (cell : Option ℕ) → k ≡ kindOf (o .kind) → a ≡ given (kindOf (o .kind)) A (t .s1) (asks B (w .second)) (w .first)
       → b ≡ given (kindOf (o .kind)) B (t .s2) (asks A (w .first)) (w .second) → cell ≡ filterOf (o .filter) (moveKind A (w .first) (w .second)) φ (t .f) → F (good w) ≡ stepIf k a b cell
   unfolding noneAt allAt
-  made-is w k a b cell p q r c = rw (p, q, r, c) (sym (kept-one set lent (sideMeans (o .side)) t w (filterOf (o .filter) (moveKind A (w .first) (w .second)) φ (t .f))))
+  made-is w k a b cell p q r c = rw (p, q, r, c) (sym (kept-one C t w (filterOf (o .filter) (moveKind A (w .first) (w .second)) φ (t .f))))
 
   -- the values of a plan in a direction
   record Values (v : Plan) (d : MatchType) : Type 0 where
@@ -108,13 +108,13 @@ module _ (o : ComposeFstOpOptions) (m1 m2 a1 a2 : List ℕ) (t : Triple) where
 
   -- in a direction
   planned : (d : MatchType) (v : Plan) → Values v d → noSigma set ≡ true → wellFormed m1 ≡ true → wellFormed m2 ≡ true → directionAt (sideMeans (o .side)) A B (t .s1) (t .s2) ≡ good d
-      → stepsAt (composing o m1 m2 a1 a2) t ≡ planSteps v (walkedWords d m1 m2) (lookedWords d m1 m2)
+      → stepsAt (composingWords o m1 m2 a1 a2) t ≡ planSteps v (walkedWords d m1 m2) (lookedWords d m1 m2)
   planned inputs v h n w1 w2 e =
-      steps-along set lent (sideMeans (o .side)) t inputs e
+      steps-along C t inputs e
       ∙ ap₂ (λ (i j : ℕ). flatMap F (walk inputs A i B j)) (sym (h .walked)) (sym (h .looked))
       ∙ walk-planned v m1 m2 (A .sigma) (B .sigma) F w1 (unset set n .1) (h .first ∙ ap (firstOf m2) (sym (h .looked))) inputs (h .side) (joins-inputs v h)
   planned outputs v h n w1 w2 e =
-      steps-along set lent (sideMeans (o .side)) t outputs e
+      steps-along C t outputs e
       ∙ ap₂ (λ (i j : ℕ). flatMap F (walk outputs B i A j)) (sym (h .walked)) (sym (h .looked))
       ∙ walk-planned v m2 m1 (B .sigma) (A .sigma) F w2 (unset set n .0) (h .first ∙ ap (firstOf m1) (sym (h .looked))) outputs (h .side) (joins-outputs v h)
 
@@ -124,7 +124,7 @@ pub plan-steps : {o : ComposeFstOpOptions} {m1 m2 a1 a2 : List ℕ} {t : Triple}
     → onOf (l .on) ≡ plainDirection (sideMeans (o .side)) (f1 .len) (f2 .len)
     → l .first ≡ firstOf (lookedWords (onOf (l .on)) m1 m2) (lookedState (onOf (l .on)) t)
     → PlanOf o (factsAt (asOperand outputs m1 noLabel) (asOperand inputs m2 noLabel) (t .s1) (t .s2)) t l v
-    → stepsAt (composing o m1 m2 a1 a2) t ≡ planSteps v (walkedWords (onOf (l .on)) m1 m2) (lookedWords (onOf (l .on)) m1 m2)
+    → stepsAt (composingWords o m1 m2 a1 a2) t ≡ planSteps v (walkedWords (onOf (l .on)) m1 m2) (lookedWords (onOf (l .on)) m1 m2)
 plan-steps {o} {m1} {m2} {a1} {a2} {t} p n l v e first plan =
     let h : Values o m1 m2 a1 a2 t v (onOf (l .on)) = record {
       kind = plan .kind;

@@ -12,7 +12,7 @@ use Rattle.words.specs.Steps.{Triple, stepsAt}
 use Rattle.fst.specs.Meaning.{onOf, asOperand}
 use Rattle.fst.specs.declared.MatchType.{MatchType as Side}
 use Rattle.match_type.specs.Chosen.{sideMeans}
-use Rattle.compose_fst_op.specs.Composing.{optionSettings, composing}
+use Rattle.compose_fst_op.specs.Composing.{optionSettings, composingWords}
 use Rattle.compose_fst_op.specs.declared.ComposeFstOpOptions.{ComposeFstOpOptions}
 use Rattle.compose_moves.specs.Walks.{walkedState, lookedState, lookedWords}
 use Rattle.compose_bounds.specs.Serving.{plainDirection}
@@ -42,9 +42,9 @@ module _ {o : ComposeFstOpOptions} {m1 m2 : List ℕ} {t : Triple} {f1 f2 : List
         go inputs e k = record { form = p [] [] .formed1; walked = subst (λ (s : ℕ). s < stateCount m1) (sym e) (p [] [] .inside1); known = k }
         go outputs e k = record { form = p [] [] .formed2; walked = subst (λ (s : ℕ). s < stateCount m2) (sym e) (p [] [] .inside2); known = k }
 
-    pub planned-steps : (a1 a2 : List ℕ) → stepsAt (composing o m1 m2 a1 a2) t ≡ planSteps v (walkedWords (onOf on) m1 m2) (lookedWords (onOf on) m1 m2)
+    pub planned-steps : (a1 a2 : List ℕ) → stepsAt (composingWords o m1 m2 a1 a2) t ≡ planSteps v (walkedWords (onOf on) m1 m2) (lookedWords (onOf on) m1 m2)
     planned-steps a1 a2 =
-        subst (λ (s : Side). stepsAt (composing o m1 m2 a1 a2) t ≡ planSteps v (walkedWords (onOf s) m1 m2) (lookedWords (onOf s) m1 m2)) side
+        subst (λ (s : Side). stepsAt (composingWords o m1 m2 a1 a2) t ≡ planSteps v (walkedWords (onOf s) m1 m2) (lookedWords (onOf s) m1 m2)) side
         (plan-steps (p a1 a2) plain l v (ap onOf side ∙ way)
         (subst (λ (s : Side). l .first ≡ firstOf (lookedWords (onOf s) m1 m2) (lookedState (onOf s) t)) (sym side) first)
         (subst (λ (f : Facts). PlanOf o f t l v) seen is))

@@ -10,12 +10,11 @@ use Rattle.words.specs.Matches.{MatchType, inputs, outputs}
 use Rattle.words.specs.Machines.{sideMark, machineOf, sorted, sideMarkOk, wellFormed}
 use Rattle.words.specs.Sigmas.{Operand, isSet}
 use Rattle.words.specs.Sides.{Side, sideBy, inOrder, sideOf}
-use Rattle.words.specs.Settings.{operand1, operand2}
 use Rattle.words.specs.Steps.{Triple}
 use Rattle.words.proofs.CheckedLaws.{good-is, good≢refused, past-check}
 use Rattle.words.proofs.FormLaws.{form}
 use Rattle.compose_bounds.specs.Serving.{plainDirection}
-use Rattle.compose_fst_op.specs.Composing.{optionSettings, lentOf}
+use Rattle.compose_fst_op.specs.Composing.{composingWords}
 use Rattle.compose_fst_op.specs.declared.ComposeFstOpOptions.{ComposeFstOpOptions}
 use Rattle.compose_moves.specs.Walks.{lookedWords}
 use Rattle.list_facts.specs.declared.ListFacts.{ListFacts}
@@ -56,4 +55,4 @@ pub looked-sorted : {o : ComposeFstOpOptions} {m1 m2 a1 a2 : List ℕ} {t : Trip
 looked-sorted {o} {m1} {m2} {a1} {a2} {f1 = f1} {f2 = f2} p =
     chosen (λ d. sorted d (machineOf (lookedWords d m1 m2)) ≡ true) (sideMeans (o .side)) (f1 .len) (f2 .len) (eqb (sideMark outputs m1) 1) (eqb (sideMark inputs m2) 1)
     (sorted outputs (machineOf m1)) (sorted inputs (machineOf m2)) (mark-sorted outputs m1 (p .formed1)) (mark-sorted inputs m2 (p .formed2)) (λ e. e) (λ e. e)
-    (past-sigma (operand1 (optionSettings o) (lentOf o m1 m2 a1 a2)) (operand2 (optionSettings o) (lentOf o m1 m2 a1 a2)) (sideMeans (o .side)) (p .rule))
+    (past-sigma (composingWords o m1 m2 a1 a2 .operand1) (composingWords o m1 m2 a1 a2 .operand2) (sideMeans (o .side)) (p .rule))

@@ -11,11 +11,10 @@ use Rattle.words.specs.Matches.{MatchType, inputs, outputs}
 use Rattle.words.specs.Machines.{stateCount, wellFormed}
 use Rattle.words.specs.Sides.{sideOf}
 use Rattle.words.specs.Filters.{filterOf}
-use Rattle.words.specs.Settings.{operand1, operand2}
 use Rattle.words.specs.Steps.{Triple}
 use Rattle.fst.specs.Meaning.{onOf}
 use Rattle.compose_filters.specs.Meaning.{filteredMeans}
-use Rattle.compose_fst_op.specs.Composing.{optionSettings, lentOf}
+use Rattle.compose_fst_op.specs.Composing.{composingWords}
 use Rattle.compose_fst_op.specs.declared.ComposeFstOpOptions.{ComposeFstOpOptions}
 use Rattle.compose_moves.specs.Walks.{walkedState, lookedState}
 use Rattle.compose_walk.specs.declared.Plan.{Plan}
@@ -28,7 +27,7 @@ use Rattle.sorted_lists.specs.declared.SortedList.{SortedList}
 pub record Present (o : ComposeFstOpOptions) (m1 m2 a1 a2 : List ℕ) (t : Triple) (f1 f2 : ListFacts) : Type 0 where
   pub formed1 : wellFormed m1 ≡ true
   pub formed2 : wellFormed m2 ≡ true
-  pub rule : sideOf (operand1 (optionSettings o) (lentOf o m1 m2 a1 a2)) (operand2 (optionSettings o) (lentOf o m1 m2 a1 a2)) ≡ good (sideMeans (o .side))
+  pub rule : sideOf (composingWords o m1 m2 a1 a2 .operand1) (composingWords o m1 m2 a1 a2 .operand2) ≡ good (sideMeans (o .side))
   pub inside1 : t .s1 < stateCount m1
   pub inside2 : t .s2 < stateCount m2
   pub facts1 : TrueOf outputs (kindOf (o .kind)) m1 (t .s1) f1

@@ -16,7 +16,7 @@ ghost use Rattle.match_type.specs.Chosen.{sideMeans};
 ghost use Rattle.compose_state_tuple.specs.Meaning.{tupleMeans};
 ghost use Rattle.compose_filters.specs.Meaning.{factsMean};
 ghost use Rattle.store_records.specs.Meaning.{storeIn};
-ghost use Rattle.compose_fst_op.specs.Composing.{optionSettings, composing};
+ghost use Rattle.compose_fst_op.specs.Composing.{optionSettings, composingWords};
 ghost use Rattle.stored_steps.specs.Storing.{storeAll, Fits};
 ghost use Rattle.stored_steps.specs.Chains.{Chained};
 ghost use Rattle.compose_bounds.specs.Serving.{plainDirection};
@@ -168,13 +168,13 @@ pub fn store_plain(
         let d = storeIn (now heads) (now states) (now trs) used in
         (noSigma (optionSettings options) ≡ true) × (onOf on ≡ plainDirection (sideMeans (options .side)) (facts1 .len) (facts2 .len))
         × ((a1 a2 : List ℕ) → Present options (now m1) (now m2) a1 a2 (tupleMeans tuple) facts1 facts2)
-        × ((a1 a2 : List ℕ) → Fits d (stepsAt (composing options (now m1) (now m2) a1 a2) (tupleMeans tuple))) × Chained d
+        × ((a1 a2 : List ℕ) → Fits d (stepsAt (composingWords options (now m1) (now m2) a1 a2) (tupleMeans tuple))) × Chained d
         ) ⌝ }
     ensures { λ r. ⌜ (
         (a1 a2 : List ℕ) →
         let d = storeIn (now (heads .entry)) (now (states .entry)) (now (trs .entry)) used in
         storeIn (now (heads .exit)) (now (states .exit)) (now (trs .exit)) r
-        ≡ storeAll d (stepsAt (composing options (now (m1 .entry)) (now (m2 .entry)) a1 a2) (tupleMeans tuple))
+        ≡ storeAll d (stepsAt (composingWords options (now (m1 .entry)) (now (m2 .entry)) a1 a2) (tupleMeans tuple))
         ) ⌝ }
 {
     let s1 = tuple.s1;
@@ -252,12 +252,12 @@ pub fn store_tight(
         let d = storeIn (now heads) (now states) (now trs) used in
         (noSigma (optionSettings options) ≡ true) × (onOf on ≡ plainDirection (sideMeans (options .side)) (facts1 .len) (facts2 .len))
         × ((a1 a2 : List ℕ) → Present options (now m1) (now m2) a1 a2 (tupleMeans tuple) facts1 facts2)
-        × ((a1 : List ℕ) × (a2 : List ℕ) × Weighable d sure (stepsAt (composing options (now m1) (now m2) a1 a2) (tupleMeans tuple)))
+        × ((a1 : List ℕ) × (a2 : List ℕ) × Weighable d sure (stepsAt (composingWords options (now m1) (now m2) a1 a2) (tupleMeans tuple)))
         ) ⌝ }
     ensures { λ r. ⌜ (
         (a1 a2 : List ℕ) →
         let d = storeIn (now (heads .entry)) (now (states .entry)) (now (trs .entry)) used in
-        let steps = stepsAt (composing options (now (m1 .entry)) (now (m2 .entry)) a1 a2) (tupleMeans tuple) in
+        let steps = stepsAt (composingWords options (now (m1 .entry)) (now (m2 .entry)) a1 a2) (tupleMeans tuple) in
         StoredIs d used steps (now (heads .exit)) (now (states .exit)) (now (trs .exit)) r
         ) ⌝ }
 {

@@ -15,8 +15,8 @@ ghost use Rattle.compose_run.specs.Meaning.{ranLeft, turnOf};
 ghost use Rattle.compose_run.specs.Memos.{memoAt, memoFrom};
 use compose_expand::expand_state;
 use compose_expand::expand_tight;
+use compose_expand::plain_labels;
 use compose_fst_op::ComposeFstOpOptions;
-use compose_plan::no_sigma;
 use compose_store::Expansion;
 use compose_store::expand_weighed;
 use compose_store::new_part;
@@ -49,6 +49,7 @@ fn compute_state(
     m2: &[u32],
     a1: &[u32],
     a2: &[u32],
+    ignored: &[u32],
     options: ComposeFstOpOptions,
     heads: &mut [u32],
     states: &mut [u32],
@@ -59,26 +60,26 @@ fn compute_state(
     n: StateId,
 ) -> Ran
     requires { ⌜ (
-        let l = lentOf options (now m1) (now m2) (now a1) (now a2) in
+        let l = lentOf options (now m1) (now m2) (now a1) (now a2) (now ignored) in
         let m = memoryOf (now heads) (now states) (now trs) in
-        let c = composing options (now m1) (now m2) (now a1) (now a2) in
+        let c = composing options (now m1) (now m2) (now a1) (now a2) (now ignored) in
         let s = sessionUnder options used in
         (entered l s m ≡ good c) × (n .0 < used .states) × Remembered outputs l s (now memo1) × Remembered inputs l s (now memo2)
         ) ⌝ }
     ensures { λ r. ⌜ (
-        let l = lentOf options (now (m1 .entry)) (now (m2 .entry)) (now (a1 .entry)) (now (a2 .entry)) in
+        let l = lentOf options (now (m1 .entry)) (now (m2 .entry)) (now (a1 .entry)) (now (a2 .entry)) (now (ignored .entry)) in
         let m = memoryOf (now (heads .entry)) (now (states .entry)) (now (trs .entry)) in
         let m′ = memoryOf (now (heads .exit)) (now (states .exit)) (now (trs .exit)) in
         ranLeft options m′ r ≡ turnOf (expandOf l (sessionUnder options used) m (n .0))
         ) ⌝ }
     ensures asked { λ _. ⌜ (
-        let l = lentOf options (now (m1 .entry)) (now (m2 .entry)) (now (a1 .entry)) (now (a2 .entry)) in
+        let l = lentOf options (now (m1 .entry)) (now (m2 .entry)) (now (a1 .entry)) (now (a2 .entry)) (now (ignored .entry)) in
         let m = memoryOf (now (heads .entry)) (now (states .entry)) (now (trs .entry)) in
         let s = sessionUnder options used in
         (now (memo1 .exit) ≡ memoAt outputs l s m (n .0) (now (memo1 .entry))) × (now (memo2 .exit) ≡ memoAt inputs l s m (n .0) (now (memo2 .entry)))
         ) ⌝ }
     ensures remembered { λ _. ⌜ (
-        let l = lentOf options (now (m1 .entry)) (now (m2 .entry)) (now (a1 .entry)) (now (a2 .entry)) in
+        let l = lentOf options (now (m1 .entry)) (now (m2 .entry)) (now (a1 .entry)) (now (a2 .entry)) (now (ignored .entry)) in
         let s = sessionUnder options used in
         Remembered outputs l s (now (memo1 .exit)) × Remembered inputs l s (now (memo2 .exit))
         ) ⌝ }
@@ -91,6 +92,7 @@ fn compute_state(
         m2,
         a1,
         a2,
+        ignored,
         options,
         heads,
         states,
@@ -116,6 +118,7 @@ pub fn compute_from(
     m2: &[u32],
     a1: &[u32],
     a2: &[u32],
+    ignored: &[u32],
     options: ComposeFstOpOptions,
     heads: &mut [u32],
     states: &mut [u32],
@@ -127,32 +130,32 @@ pub fn compute_from(
     count: u32,
 ) -> Stopped
     requires { ⌜ (
-        let l = lentOf options (now m1) (now m2) (now a1) (now a2) in
+        let l = lentOf options (now m1) (now m2) (now a1) (now a2) (now ignored) in
         let m = memoryOf (now heads) (now states) (now trs) in
         let s = sessionUnder options used in
-        (entered l s m ≡ good (composing options (now m1) (now m2) (now a1) (now a2)))
+        (entered l s m ≡ good (composing options (now m1) (now m2) (now a1) (now a2) (now ignored)))
         × Remembered outputs l s (now memo1) × Remembered inputs l s (now memo2)
         ) ⌝ }
     ensures { λ r. ⌜ (
-        let l = lentOf options (now (m1 .entry)) (now (m2 .entry)) (now (a1 .entry)) (now (a2 .entry)) in
+        let l = lentOf options (now (m1 .entry)) (now (m2 .entry)) (now (a1 .entry)) (now (a2 .entry)) (now (ignored .entry)) in
         let m = memoryOf (now (heads .entry)) (now (states .entry)) (now (trs .entry)) in
         let m′ = memoryOf (now (heads .exit)) (now (states .exit)) (now (trs .exit)) in
         ranLeft options m′ (r .ran) ≡ runFrom l count (from .0) (sessionUnder options used) m
         ) ⌝ }
     ensures next { λ r. ⌜ (
-        let l = lentOf options (now (m1 .entry)) (now (m2 .entry)) (now (a1 .entry)) (now (a2 .entry)) in
+        let l = lentOf options (now (m1 .entry)) (now (m2 .entry)) (now (a1 .entry)) (now (a2 .entry)) (now (ignored .entry)) in
         let m = memoryOf (now (heads .entry)) (now (states .entry)) (now (trs .entry)) in
         r .next .0 ≡ stopFrom l count (from .0) (sessionUnder options used) m
         ) ⌝ }
     ensures asked { λ _. ⌜ (
-        let l = lentOf options (now (m1 .entry)) (now (m2 .entry)) (now (a1 .entry)) (now (a2 .entry)) in
+        let l = lentOf options (now (m1 .entry)) (now (m2 .entry)) (now (a1 .entry)) (now (a2 .entry)) (now (ignored .entry)) in
         let m = memoryOf (now (heads .entry)) (now (states .entry)) (now (trs .entry)) in
         let s = sessionUnder options used in
         (now (memo1 .exit) ≡ memoFrom outputs l count (from .0) s m (now (memo1 .entry)))
         × (now (memo2 .exit) ≡ memoFrom inputs l count (from .0) s m (now (memo2 .entry)))
         ) ⌝ }
     ensures remembered { λ _. ⌜ (
-        let l = lentOf options (now (m1 .entry)) (now (m2 .entry)) (now (a1 .entry)) (now (a2 .entry)) in
+        let l = lentOf options (now (m1 .entry)) (now (m2 .entry)) (now (a1 .entry)) (now (a2 .entry)) (now (ignored .entry)) in
         let s = sessionUnder options used in
         Remembered outputs l s (now (memo1 .exit)) × Remembered inputs l s (now (memo2 .exit))
         ) ⌝ }
@@ -172,6 +175,7 @@ pub fn compute_from(
             m2,
             a1,
             a2,
+            ignored,
             options,
             heads,
             states,
@@ -203,6 +207,7 @@ pub fn expand_found(
     m2: &[u32],
     a1: &[u32],
     a2: &[u32],
+    ignored: &[u32],
     options: ComposeFstOpOptions,
     heads: &mut [u32],
     states: &mut [u32],
@@ -213,26 +218,26 @@ pub fn expand_found(
     n: StateId,
 ) -> Expansion
     requires { ⌜ (
-        let l = lentOf options (now m1) (now m2) (now a1) (now a2) in
+        let l = lentOf options (now m1) (now m2) (now a1) (now a2) (now ignored) in
         let m = memoryOf (now heads) (now states) (now trs) in
-        let c = composing options (now m1) (now m2) (now a1) (now a2) in
+        let c = composing options (now m1) (now m2) (now a1) (now a2) (now ignored) in
         let s = sessionUnder options used in
         (entered l s m ≡ good c) × (n .0 < used .states) × Remembered outputs l s (now memo1) × Remembered inputs l s (now memo2)
         ) ⌝ }
     ensures { λ r. ⌜ (
-        let l = lentOf options (now (m1 .entry)) (now (m2 .entry)) (now (a1 .entry)) (now (a2 .entry)) in
+        let l = lentOf options (now (m1 .entry)) (now (m2 .entry)) (now (a1 .entry)) (now (a2 .entry)) (now (ignored .entry)) in
         let m = memoryOf (now (heads .entry)) (now (states .entry)) (now (trs .entry)) in
         let m′ = memoryOf (now (heads .exit)) (now (states .exit)) (now (trs .exit)) in
         leftBy options used m′ r ≡ expandOf l (sessionUnder options used) m (n .0)
         ) ⌝ }
     ensures asked { λ _. ⌜ (
-        let l = lentOf options (now (m1 .entry)) (now (m2 .entry)) (now (a1 .entry)) (now (a2 .entry)) in
+        let l = lentOf options (now (m1 .entry)) (now (m2 .entry)) (now (a1 .entry)) (now (a2 .entry)) (now (ignored .entry)) in
         let m = memoryOf (now (heads .entry)) (now (states .entry)) (now (trs .entry)) in
         let s = sessionUnder options used in
         (now (memo1 .exit) ≡ memoAt outputs l s m (n .0) (now (memo1 .entry))) × (now (memo2 .exit) ≡ memoAt inputs l s m (n .0) (now (memo2 .entry)))
         ) ⌝ }
     ensures remembered { λ _. ⌜ (
-        let l = lentOf options (now (m1 .entry)) (now (m2 .entry)) (now (a1 .entry)) (now (a2 .entry)) in
+        let l = lentOf options (now (m1 .entry)) (now (m2 .entry)) (now (a1 .entry)) (now (a2 .entry)) (now (ignored .entry)) in
         let s = sessionUnder options used in
         Remembered outputs l s (now (memo1 .exit)) × Remembered inputs l s (now (memo2 .exit))
         ) ⌝ }
@@ -245,6 +250,7 @@ pub fn expand_found(
         m2,
         a1,
         a2,
+        ignored,
         options,
         heads,
         states,
@@ -268,6 +274,7 @@ pub fn expand_alone(
     m2: &[u32],
     a1: &[u32],
     a2: &[u32],
+    ignored: &[u32],
     options: ComposeFstOpOptions,
     heads: &mut [u32],
     states: &mut [u32],
@@ -276,13 +283,13 @@ pub fn expand_alone(
     n: StateId,
 ) -> Expansion
     requires { ⌜ (
-        let l = lentOf options (now m1) (now m2) (now a1) (now a2) in
+        let l = lentOf options (now m1) (now m2) (now a1) (now a2) (now ignored) in
         let m = memoryOf (now heads) (now states) (now trs) in
-        let c = composing options (now m1) (now m2) (now a1) (now a2) in
+        let c = composing options (now m1) (now m2) (now a1) (now a2) (now ignored) in
         (entered l (sessionUnder options used) m ≡ good c) × (n .0 < used .states)
         ) ⌝ }
     ensures { λ r. ⌜ (
-        let l = lentOf options (now (m1 .entry)) (now (m2 .entry)) (now (a1 .entry)) (now (a2 .entry)) in
+        let l = lentOf options (now (m1 .entry)) (now (m2 .entry)) (now (a1 .entry)) (now (a2 .entry)) (now (ignored .entry)) in
         let m = memoryOf (now (heads .entry)) (now (states .entry)) (now (trs .entry)) in
         let m′ = memoryOf (now (heads .exit)) (now (states .exit)) (now (trs .exit)) in
         leftBy options used m′ r ≡ expandOf l (sessionUnder options used) m (n .0)
@@ -291,10 +298,34 @@ pub fn expand_alone(
     if is_expanded(states, n) {
         return Expansion::New(part_of(states, trs, used.trs, n), used);
     }
-    if !no_sigma(options) {
-        return expand_weighed(m1, m2, a1, a2, options, heads, states, trs, used, n);
+    if !plain_labels(options, ignored) {
+        return expand_weighed(
+            m1,
+            m2,
+            a1,
+            a2,
+            ignored,
+            options,
+            heads,
+            states,
+            trs,
+            used,
+            n,
+        );
     }
-    expand_tight(m1, m2, a1, a2, options, heads, states, trs, used, n)
+    expand_tight(
+        m1,
+        m2,
+        a1,
+        a2,
+        ignored,
+        options,
+        heads,
+        states,
+        trs,
+        used,
+        n,
+    )
 }
 
 // Expands in number order, where the checks 1 to 8 pass, until none is left or one is refused. No more states are found than there is room for.
@@ -303,6 +334,7 @@ pub fn compute(
     m2: &[u32],
     a1: &[u32],
     a2: &[u32],
+    ignored: &[u32],
     options: ComposeFstOpOptions,
     heads: &mut [u32],
     states: &mut [u32],
@@ -310,12 +342,12 @@ pub fn compute(
     used: Used,
 ) -> Ran
     requires { ⌜ (
-        let l = lentOf options (now m1) (now m2) (now a1) (now a2) in
+        let l = lentOf options (now m1) (now m2) (now a1) (now a2) (now ignored) in
         let m = memoryOf (now heads) (now states) (now trs) in
-        entered l (sessionUnder options used) m ≡ good (composing options (now m1) (now m2) (now a1) (now a2))
+        entered l (sessionUnder options used) m ≡ good (composing options (now m1) (now m2) (now a1) (now a2) (now ignored))
         ) ⌝ }
     ensures { λ r. ⌜ (
-        let l = lentOf options (now (m1 .entry)) (now (m2 .entry)) (now (a1 .entry)) (now (a2 .entry)) in
+        let l = lentOf options (now (m1 .entry)) (now (m2 .entry)) (now (a1 .entry)) (now (a2 .entry)) (now (ignored .entry)) in
         let m = memoryOf (now (heads .entry)) (now (states .entry)) (now (trs .entry)) in
         let m′ = memoryOf (now (heads .exit)) (now (states .exit)) (now (trs .exit)) in
         ranLeft options m′ r ≡ runFrom l (stateRoom m) 0 (sessionUnder options used) m
@@ -329,6 +361,7 @@ pub fn compute(
         m2,
         a1,
         a2,
+        ignored,
         options,
         heads,
         states,

@@ -5,7 +5,8 @@ use Prim.Native.Nat.{ℕ, _≤_}
 use native.Mathlib.Omega.{arith}
 use lib.ListN.{length}
 use Rattle.words.specs.Labels.{Checked, good, refused, andThen}
-use Rattle.words.specs.Settings.{Settings, Lent}
+use Rattle.words.specs.Settings.{Lent}
+use Rattle.compose_fst_op.specs.declared.ComposeFstOpOptions.{ComposeFstOpOptions}
 use Rattle.words.specs.Sides.{nonEmpty}
 use Rattle.words.specs.Steps.{Step}
 use Rattle.calls.specs.Store.{Store}
@@ -23,7 +24,7 @@ askedLeft (gives s l) = good s ∷ l
 askedLeft ends = []
 askedLeft (refuses n) = refused n ∷ []
 
-goes-on : (S : Settings) (L : Lent) (r : NextStep) → goesOn r ≡ nonEmpty (askedLeft (nextMeans S L r))
+goes-on : (S : ComposeFstOpOptions) (L : Lent) (r : NextStep) → goesOn r ≡ nonEmpty (askedLeft (nextMeans S L r))
 goes-on S L (AStep r c) = refl
 goes-on S L Done = refl
 goes-on S L (Refused n) = refl
@@ -45,7 +46,7 @@ left-length (good s ∷ l) = omega arith
 left-length (refused n ∷ l) = omega arith
 
 -- the link that the code gives is that of the definition
-pub follows : (S : Settings) (L : Lent) (r : NextStep) (l : List (Checked Step)) → nextMeans S L r ≡ asked l → goesOn r ≡ nonEmpty l
+pub follows : (S : ComposeFstOpOptions) (L : Lent) (r : NextStep) (l : List (Checked Step)) → nextMeans S L r ≡ asked l → goesOn r ≡ nonEmpty l
 follows S L r l e = goes-on S L r ∙ ap (λ x. nonEmpty (askedLeft x)) e ∙ left-any l
 
 -- an accepted list's first step is accepted

@@ -134,6 +134,7 @@ fn store_steps(
     m2: &[u32],
     a1: &[u32],
     a2: &[u32],
+    ignored: &[u32],
     options: ComposeFstOpOptions,
     heads: &mut [u32],
     states: &mut [u32],
@@ -143,24 +144,24 @@ fn store_steps(
 ) -> Used
     requires { ⌜ (
         let d = storeIn (now heads) (now states) (now trs) used in
-        let steps = stepsFrom options (now m1) (now m2) (now a1) (now a2) start in
+        let steps = stepsFrom options (now m1) (now m2) (now a1) (now a2) (now ignored) start in
         Accepted (storeSteps d steps)
         ) ⌝ }
     ensures { λ r. ⌜ (
         let d = storeIn (now (heads .entry)) (now (states .entry)) (now (trs .entry)) used in
         let d′ = storeIn (now (heads .exit)) (now (states .exit)) (now (trs .exit)) r in
-        let steps = stepsFrom options (now (m1 .entry)) (now (m2 .entry)) (now (a1 .entry)) (now (a2 .entry)) start in
+        let steps = stepsFrom options (now (m1 .entry)) (now (m2 .entry)) (now (a1 .entry)) (now (a2 .entry)) (now (ignored .entry)) start in
         good d′ ≡ storeSteps d steps
         ) ⌝ }
 {
     let mut grown = used;
-    let mut ahead = next_step(m1, m2, a1, a2, options, start);
+    let mut ahead = next_step(m1, m2, a1, a2, ignored, options, start);
     loop {
         match ahead {
             NextStep::Done => return grown,
             NextStep::Refused(_) => return grown,
             NextStep::Step(tr, after) => {
-                ahead = next_step(m1, m2, a1, a2, options, after);
+                ahead = next_step(m1, m2, a1, a2, ignored, options, after);
                 grown = store_step(heads, states, trs, grown, tr, goes_on(ahead));
             }
         }
@@ -187,6 +188,7 @@ fn expand_from(
     m2: &[u32],
     a1: &[u32],
     a2: &[u32],
+    ignored: &[u32],
     options: ComposeFstOpOptions,
     heads: &mut [u32],
     states: &mut [u32],
@@ -197,23 +199,47 @@ fn expand_from(
 ) -> Expansion
     requires { ⌜ (
         let d = storeIn (now heads) (now states) (now trs) used in
-        let steps = stepsFrom options (now m1) (now m2) (now a1) (now a2) start in
+        let steps = stepsFrom options (now m1) (now m2) (now a1) (now a2) (now ignored) start in
         weighOf d steps ≡ andThen (storeSteps d steps) (λ e. good tt)
         ) ⌝ }
     ensures { λ r. ⌜ (
         (c : Composition) →
         let m = memoryOf (now (heads .entry)) (now (states .entry)) (now (trs .entry)) in
         let m′ = memoryOf (now (heads .exit)) (now (states .exit)) (now (trs .exit)) in
-        let steps = stepsFrom options (now (m1 .entry)) (now (m2 .entry)) (now (a1 .entry)) (now (a2 .entry)) start in
+        let steps = stepsFrom options (now (m1 .entry)) (now (m2 .entry)) (now (a1 .entry)) (now (a2 .entry)) (now (ignored .entry)) start in
         stepsAt c (tripleAt (now (states .entry)) (n .0)) ≡ steps → leftBy options used m′ r
         ≡ settle (sessionUnder options used) m (expansion c (sessionUnder options used) m (n .0))
         ) ⌝ }
 {
-    let weighed = weigh(m1, m2, a1, a2, options, heads, states, trs, used, start);
+    let weighed = weigh(
+        m1,
+        m2,
+        a1,
+        a2,
+        ignored,
+        options,
+        heads,
+        states,
+        trs,
+        used,
+        start,
+    );
     match weighed {
         Weighed::Refused(k) => Expansion::Refused(k),
         Weighed::Clear => {
-            let after = store_steps(m1, m2, a1, a2, options, heads, states, trs, used, start);
+            let after = store_steps(
+                m1,
+                m2,
+                a1,
+                a2,
+                ignored,
+                options,
+                heads,
+                states,
+                trs,
+                used,
+                start,
+            );
             let part = new_part(used.trs, after.trs);
             mark_expanded(states, n, part.first);
             Expansion::New(part, after)
@@ -227,6 +253,7 @@ pub fn expand_weighed(
     m2: &[u32],
     a1: &[u32],
     a2: &[u32],
+    ignored: &[u32],
     options: ComposeFstOpOptions,
     heads: &mut [u32],
     states: &mut [u32],
@@ -235,19 +262,19 @@ pub fn expand_weighed(
     n: StateId,
 ) -> Expansion
     requires { ⌜ (
-        let l = lentOf options (now m1) (now m2) (now a1) (now a2) in
+        let l = lentOf options (now m1) (now m2) (now a1) (now a2) (now ignored) in
         let m = memoryOf (now heads) (now states) (now trs) in
-        let c = composing options (now m1) (now m2) (now a1) (now a2) in
+        let c = composing options (now m1) (now m2) (now a1) (now a2) (now ignored) in
         (entered l (sessionUnder options used) m ≡ good c) × (n .0 < used .states)
         ) ⌝ }
     ensures { λ r. ⌜ (
         let m = memoryOf (now (heads .entry)) (now (states .entry)) (now (trs .entry)) in
         let m′ = memoryOf (now (heads .exit)) (now (states .exit)) (now (trs .exit)) in
-        let c = composing options (now (m1 .entry)) (now (m2 .entry)) (now (a1 .entry)) (now (a2 .entry)) in
+        let c = composing options (now (m1 .entry)) (now (m2 .entry)) (now (a1 .entry)) (now (a2 .entry)) (now (ignored .entry)) in
         leftBy options used m′ r ≡ settle (sessionUnder options used) m (expansion c (sessionUnder options used) m (n .0))
         ) ⌝ }
 {
-    let begun = moves_start(m1, m2, options, get_tuple(states, n));
+    let begun = moves_start(m1, m2, ignored, options, get_tuple(states, n));
     match begun {
         MovesStart::Refused(k) => Expansion::Refused(k),
         MovesStart::At(start) => expand_from(
@@ -255,6 +282,7 @@ pub fn expand_weighed(
             m2,
             a1,
             a2,
+            ignored,
             options,
             heads,
             states,

@@ -6,7 +6,7 @@ use Rattle.words.specs.Labels.{Checked, good, refused}
 use Rattle.words.specs.Steps.{Step}
 use Rattle.calls.specs.Store.{Store, trRoom}
 use Rattle.compose_state_tuple.specs.Meaning.{tupleMeans}
-use Rattle.compose_fst_op.specs.Composing.{optionSettings, lentOf}
+use Rattle.compose_fst_op.specs.Composing.{lentOf}
 use Rattle.compose_moves.specs.Cursors.{stepsLeft}
 use Rattle.compose_fst_op.specs.declared.ComposeFstOpOptions.{ComposeFstOpOptions}
 use Rattle.compose_moves.specs.declared.MoveCursor.{MoveCursor}
@@ -21,9 +21,9 @@ use Rattle.compose_weigh.specs.declared.Kept.the-variants.{To, Ends as K
 use Rattle.compose_weigh.specs.declared.Ending.{Ending}
 use Rattle.compose_weigh.specs.declared.Ending.the-variants.{Ends, Open}
 
--- the steps that a cursor has still to give, with these settings, machines and allowed lists
-abbrev pub stepsFrom : ComposeFstOpOptions → (m1 m2 a1 a2 : List ℕ) → MoveCursor → List (Checked Step)
-stepsFrom o m1 m2 a1 a2 c = stepsLeft (optionSettings o) (lentOf o m1 m2 a1 a2) c
+-- the steps that a cursor has still to give, with these settings, machines, allowed lists and ignored labels
+abbrev pub stepsFrom : ComposeFstOpOptions → (m1 m2 a1 a2 ignored : List ℕ) → MoveCursor → List (Checked Step)
+stepsFrom o m1 m2 a1 a2 ignored c = stepsLeft o (lentOf o m1 m2 a1 a2 ignored) c
 
 -- the used states; 13: "a record .. is lacking"
 abbrev pub countedMeans : Counted → Checked ℕ
@@ -46,10 +46,10 @@ Moves k (Ends w) = Unit {0}
 Moves k Open = 0 < k
 
 -- What comes at a cursor after i steps: a step that has a transition record, with its target and the cursor after it; or the weighing ends there, whatever states are used by then.
-abbrev pub KeptAt : ComposeFstOpOptions → (m1 m2 a1 a2 : List ℕ) → Store → ℕ → MoveCursor → Kept → Type 0
-KeptAt o m1 m2 a1 a2 d i c (To t after) =
-    (s : Step) × (stepsFrom o m1 m2 a1 a2 c ≡ good s ∷ stepsFrom o m1 m2 a1 a2 after) × (s .to ≡ tupleMeans t) × (d .used .trs + i < trRoom (d .memory))
-KeptAt o m1 m2 a1 a2 d i c (KeptEnds w) = (all : List (Checked Step)) (u : ℕ) → weighFrom d all i u (stepsFrom o m1 m2 a1 a2 c) ≡ weighedMeans w
+abbrev pub KeptAt : ComposeFstOpOptions → (m1 m2 a1 a2 ignored : List ℕ) → Store → ℕ → MoveCursor → Kept → Type 0
+KeptAt o m1 m2 a1 a2 ignored d i c (To t after) =
+    (s : Step) × (stepsFrom o m1 m2 a1 a2 ignored c ≡ good s ∷ stepsFrom o m1 m2 a1 a2 ignored after) × (s .to ≡ tupleMeans t) × (d .used .trs + i < trRoom (d .memory))
+KeptAt o m1 m2 a1 a2 ignored d i c (KeptEnds w) = (all : List (Checked Step)) (u : ℕ) → weighFrom d all i u (stepsFrom o m1 m2 a1 a2 ignored c) ≡ weighedMeans w
 
 -- k steps that have transition records, after i steps, up to the step j, with `rest` after them
 pub record Spans (d : Store) (i k : ℕ) (steps rest : List (Checked Step)) (j : ℕ) (e : Ending) : Type 0 where

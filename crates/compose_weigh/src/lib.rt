@@ -76,6 +76,7 @@ fn kept_step(
     m2: &[u32],
     a1: &[u32],
     a2: &[u32],
+    ignored: &[u32],
     trs: &[u32],
     w: Weighing,
     cursor: MoveCursor,
@@ -84,12 +85,12 @@ fn kept_step(
     requires { ⌜ w .used .trs + count < 2 ^ 32 ⌝ }
     ensures { λ r. ⌜ (
         (heads states : List ℕ) →
-        KeptAt (w .options) (now (m1 .entry)) (now (m2 .entry)) (now (a1 .entry)) (now (a2 .entry)) (storeIn heads states (now (trs .entry)) (w .used)) count cursor r
+        KeptAt (w .options) (now (m1 .entry)) (now (m2 .entry)) (now (a1 .entry)) (now (a2 .entry)) (now (ignored .entry)) (storeIn heads states (now (trs .entry)) (w .used)) count cursor r
         ) ⌝ }
 {
     let used = w.used;
     let options = w.options;
-    let next = next_step(m1, m2, a1, a2, options, cursor);
+    let next = next_step(m1, m2, a1, a2, ignored, options, cursor);
     match next {
         NextStep::Done => Kept::Ends(Weighed::Clear),
         NextStep::Refused(n) => Kept::Ends(Weighed::Refused(n)),
@@ -133,6 +134,7 @@ fn weigh_quickly(
     m2: &[u32],
     a1: &[u32],
     a2: &[u32],
+    ignored: &[u32],
     heads: &[u32],
     states: &[u32],
     trs: &[u32],
@@ -140,7 +142,7 @@ fn weigh_quickly(
 ) -> Ending
     ensures { λ r. ⌜ (
         let d = storeIn (now (heads .entry)) (now (states .entry)) (now (trs .entry)) (w .used) in
-        let steps = stepsFrom (w .options) (now (m1 .entry)) (now (m2 .entry)) (now (a1 .entry)) (now (a2 .entry)) (w .start) in
+        let steps = stepsFrom (w .options) (now (m1 .entry)) (now (m2 .entry)) (now (a1 .entry)) (now (a2 .entry)) (now (ignored .entry)) (w .start) in
         Tells (weighOf d steps) r
         ) ⌝ }
 {
@@ -149,7 +151,7 @@ fn weigh_quickly(
     let mut count: u32 = 0;
     let mut grown = used.states;
     loop {
-        let kept = kept_step(m1, m2, a1, a2, trs, w, cursor, count);
+        let kept = kept_step(m1, m2, a1, a2, ignored, trs, w, cursor, count);
         match kept {
             Kept::Ends(x) => return Ending::Ends(x),
             Kept::To(to, after) => {
@@ -172,6 +174,7 @@ fn fill(
     m2: &[u32],
     a1: &[u32],
     a2: &[u32],
+    ignored: &[u32],
     heads: &[u32],
     states: &[u32],
     trs: &[u32],
@@ -186,8 +189,8 @@ fn fill(
     requires room { ⌜ 0 < roomOf stateSize (now records) ⌝ }
     ensures { λ r. ⌜ (
         let d = storeIn (now (heads .entry)) (now (states .entry)) (now (trs .entry)) (w .used) in
-        let steps = stepsFrom (w .options) (now (m1 .entry)) (now (m2 .entry)) (now (a1 .entry)) (now (a2 .entry)) from in
-        let rest = stepsFrom (w .options) (now (m1 .entry)) (now (m2 .entry)) (now (a1 .entry)) (now (a2 .entry)) (r .cursor) in
+        let steps = stepsFrom (w .options) (now (m1 .entry)) (now (m2 .entry)) (now (a1 .entry)) (now (a2 .entry)) (now (ignored .entry)) from in
+        let rest = stepsFrom (w .options) (now (m1 .entry)) (now (m2 .entry)) (now (a1 .entry)) (now (a2 .entry)) (now (ignored .entry)) (r .cursor) in
         (k : ℕ) × Spans d before k steps rest (r .count) (r .ending)
         × Filled (λ t. missing (find d t)) k steps (roomOf stateSize (now (records .entry))) (setOf (now (chains .exit)) (now (records .exit)) (r .states))
         ) ⌝ }
@@ -197,7 +200,7 @@ fn fill(
     let mut count = before;
     let mut held: u32 = 0;
     loop {
-        let kept = kept_step(m1, m2, a1, a2, trs, w, cursor, count);
+        let kept = kept_step(m1, m2, a1, a2, ignored, trs, w, cursor, count);
         match kept {
             Kept::Ends(x) => {
                 return Passed {
@@ -231,6 +234,7 @@ fn count_earlier(
     m2: &[u32],
     a1: &[u32],
     a2: &[u32],
+    ignored: &[u32],
     options: ComposeFstOpOptions,
     start: MoveCursor,
     count: u32,
@@ -239,7 +243,7 @@ fn count_earlier(
     held: u32,
 ) -> u32
     ensures { λ r. ⌜ (
-        let all = stepsFrom options (now (m1 .entry)) (now (m2 .entry)) (now (a1 .entry)) (now (a2 .entry)) start in
+        let all = stepsFrom options (now (m1 .entry)) (now (m2 .entry)) (now (a1 .entry)) (now (a2 .entry)) (now (ignored .entry)) start in
         (P : Triple → Bool) (k : ℕ) (steps : List (Checked Step)) (room : ℕ) → room ≤ setRoom
         → Filled P k steps room (setOf (now (chains .entry)) (now (records .entry)) held)
         → r + newWithin (λ t. P t && not (reachedWithin t count all)) k steps ≡ held
@@ -250,7 +254,7 @@ fn count_earlier(
     let mut left = count;
     let mut old: u32 = 0;
     while left > 0 {
-        let next = next_step(m1, m2, a1, a2, options, cursor);
+        let next = next_step(m1, m2, a1, a2, ignored, options, cursor);
         match next {
             NextStep::Done => return old,
             NextStep::Refused(_) => return old,
@@ -271,6 +275,7 @@ fn weigh_window(
     m2: &[u32],
     a1: &[u32],
     a2: &[u32],
+    ignored: &[u32],
     heads: &[u32],
     states: &[u32],
     trs: &[u32],
@@ -281,9 +286,9 @@ fn weigh_window(
     requires { ⌜ w .used .trs + before < 2 ^ 32 ⌝ }
     ensures { λ r. ⌜ (
         let d = storeIn (now (heads .entry)) (now (states .entry)) (now (trs .entry)) (w .used) in
-        let all = stepsFrom (w .options) (now (m1 .entry)) (now (m2 .entry)) (now (a1 .entry)) (now (a2 .entry)) (w .start) in
-        let steps = stepsFrom (w .options) (now (m1 .entry)) (now (m2 .entry)) (now (a1 .entry)) (now (a2 .entry)) from in
-        let rest = stepsFrom (w .options) (now (m1 .entry)) (now (m2 .entry)) (now (a1 .entry)) (now (a2 .entry)) (r .cursor) in
+        let all = stepsFrom (w .options) (now (m1 .entry)) (now (m2 .entry)) (now (a1 .entry)) (now (a2 .entry)) (now (ignored .entry)) (w .start) in
+        let steps = stepsFrom (w .options) (now (m1 .entry)) (now (m2 .entry)) (now (a1 .entry)) (now (a2 .entry)) (now (ignored .entry)) from in
+        let rest = stepsFrom (w .options) (now (m1 .entry)) (now (m2 .entry)) (now (a1 .entry)) (now (a2 .entry)) (now (ignored .entry)) (r .cursor) in
         (k : ℕ) × Spans d before k steps rest (r .count) (r .ending) × (r .states ≡ newWithin (isNew d all before) k steps)
         ) ⌝ }
 {
@@ -294,6 +299,7 @@ fn weigh_window(
         m2,
         a1,
         a2,
+        ignored,
         heads,
         states,
         trs,
@@ -311,6 +317,7 @@ fn weigh_window(
         m2,
         a1,
         a2,
+        ignored,
         options,
         start,
         before,
@@ -344,6 +351,7 @@ fn weigh_exactly(
     m2: &[u32],
     a1: &[u32],
     a2: &[u32],
+    ignored: &[u32],
     heads: &[u32],
     states: &[u32],
     trs: &[u32],
@@ -351,7 +359,7 @@ fn weigh_exactly(
 ) -> Weighed
     ensures { λ r. ⌜ (
         let d = storeIn (now (heads .entry)) (now (states .entry)) (now (trs .entry)) (w .used) in
-        let steps = stepsFrom (w .options) (now (m1 .entry)) (now (m2 .entry)) (now (a1 .entry)) (now (a2 .entry)) (w .start) in
+        let steps = stepsFrom (w .options) (now (m1 .entry)) (now (m2 .entry)) (now (a1 .entry)) (now (a2 .entry)) (now (ignored .entry)) (w .start) in
         weighedMeans r ≡ weighOf d steps
         ) ⌝ }
 {
@@ -360,7 +368,19 @@ fn weigh_exactly(
     let mut before: u32 = 0;
     let mut left = spare(state_room(states), used.states);
     loop {
-        let passed = weigh_window(m1, m2, a1, a2, heads, states, trs, w, cursor, before);
+        let passed = weigh_window(
+            m1,
+            m2,
+            a1,
+            a2,
+            ignored,
+            heads,
+            states,
+            trs,
+            w,
+            cursor,
+            before,
+        );
         if left < passed.states {
             return Weighed::Refused(REFUSED_NO_ROOM);
         }
@@ -383,6 +403,7 @@ pub fn weigh(
     m2: &[u32],
     a1: &[u32],
     a2: &[u32],
+    ignored: &[u32],
     options: ComposeFstOpOptions,
     heads: &[u32],
     states: &[u32],
@@ -392,7 +413,7 @@ pub fn weigh(
 ) -> Weighed
     ensures { λ r. ⌜ (
         let d = storeIn (now (heads .entry)) (now (states .entry)) (now (trs .entry)) used in
-        let steps = stepsFrom options (now (m1 .entry)) (now (m2 .entry)) (now (a1 .entry)) (now (a2 .entry)) start in
+        let steps = stepsFrom options (now (m1 .entry)) (now (m2 .entry)) (now (a1 .entry)) (now (a2 .entry)) (now (ignored .entry)) start in
         weighedMeans r ≡ weighOf d steps
         ) ⌝ }
 {
@@ -401,9 +422,9 @@ pub fn weigh(
         used,
         start,
     };
-    let quick = weigh_quickly(m1, m2, a1, a2, heads, states, trs, w);
+    let quick = weigh_quickly(m1, m2, a1, a2, ignored, heads, states, trs, w);
     match quick {
         Ending::Ends(x) => x,
-        Ending::Open => weigh_exactly(m1, m2, a1, a2, heads, states, trs, w),
+        Ending::Open => weigh_exactly(m1, m2, a1, a2, ignored, heads, states, trs, w),
     }
 }

@@ -5,16 +5,16 @@ ghost use mathlib.Core.Bool.{cond};
 ghost use lib.Dec.{eqb};
 ghost use lib.ListN.{length};
 ghost use Rattle.words.specs.Labels.{MAX, good, andThen};
-ghost use Rattle.words.specs.Machines.{acceptorMark, firstOf};
-ghost use Rattle.words.specs.Sigmas.{rewritesBoth};
-ghost use Rattle.words.specs.Settings.{operandOf};
-ghost use Rattle.fst.specs.Meaning.{onOf};
+ghost use Rattle.words.specs.Machines.{firstOf};
+ghost use mathlib.Core.Option.{none};
+ghost use Rattle.fst.specs.Meaning.{onOf, readAs};
 ghost use Rattle.fan_outs.specs.FanOut.{fanOut};
-ghost use Rattle.matchers.specs.Meaning.{allowedOf, lookupItems, standsFor};
-ghost use Rattle.matchers.specs.Cursors.{withLabel, inPhase, matchesLeft, itemsLeft, asked, cursorAfter, firstCursor};
+ghost use Rattle.matchers.specs.Meaning.{allowedOf, operandIn, lookupItems, standsFor};
+ghost use Rattle.matchers.specs.Cursors.{heldWords, withLabel, inPhase, matchesLeft, itemsLeft, asked, cursorAfter, firstCursor};
 ghost use Rattle.counted_iter.specs.Counted.{countMeans, firstMeans, GoesOnAt};
 use fst::Label;
 use fst::MatchType;
+use fst::Sigmas;
 use fst::StateId;
 use fst::inner_label;
 use fst::next_tr;
@@ -47,8 +47,15 @@ fn one_if_same(found: Label, label: Label) -> u64
 }
 
 // How many records from t on have the label on a side.
-fn count_label(m: &[u32], on: MatchType, label: Label, t: u32) -> u64
-    ensures { λ r. ⌜ r ≡ length (withLabel (onOf on) (now (m .entry)) (label .0) t) ⌝ }
+fn count_label(
+    m: &[u32],
+    on: MatchType,
+    sigmas: Sigmas,
+    ignored: &[u32],
+    label: Label,
+    t: u32,
+) -> u64
+    ensures { λ r. ⌜ r ≡ length (withLabel (onOf on) (readAs on sigmas (now (ignored .entry)) (now (m .entry))) (label .0) t) ⌝ }
     ensures few { λ r. ⌜ r ≤ MAX ⌝ }
 {
     if num_records(m) < t {
@@ -57,35 +64,36 @@ fn count_label(m: &[u32], on: MatchType, label: Label, t: u32) -> u64
     let mut n: u64 = 0;
     let mut at = t;
     while at != 0 {
-        n += one_if_same(inner_label(m, on, at), label);
+        n += one_if_same(inner_label(m, on, sigmas, ignored, at), label);
         at = next_tr(m, at);
     }
     n
 }
 
 // How many matches a cursor has still to give, the loop left out: by its phase.
-fn count_phase(m: &[u32], cursor: Cursor) -> u64
-    ensures { λ r. ⌜ r ≡ length (inPhase (cursor .phase) (now (m .entry)) cursor) ⌝ }
+fn count_phase(m: &[u32], cursor: Cursor, ignored: &[u32]) -> u64
+    ensures { λ r. ⌜ r ≡ length (inPhase (cursor .phase) (heldWords cursor (now (ignored .entry)) (now (m .entry))) cursor) ⌝ }
     ensures few { λ r. ⌜ r ≤ MAX + MAX ⌝ }
 {
     let on = cursor.on;
     let label = cursor.label;
     let sigma = cursor.sigma;
+    let labels = cursor.labels;
     let phase = cursor.phase;
     match phase {
         Phase::Own => {
-            let own = count_label(m, on, looked(label), cursor.tr);
-            own + count_label(m, on, sigma, cursor.sigmas)
+            let own = count_label(m, on, labels, ignored, looked(label), cursor.tr);
+            own + count_label(m, on, labels, ignored, sigma, cursor.sigmas)
         }
-        Phase::Sigmas => count_label(m, on, sigma, cursor.tr),
+        Phase::Sigmas => count_label(m, on, labels, ignored, sigma, cursor.tr),
     }
 }
 
 // How many matches a cursor has still to give.
-pub fn count_left(m: &[u32], cursor: Cursor) -> u64
-    ensures { λ r. ⌜ r ≡ length (matchesLeft (now (m .entry)) cursor) ⌝ }
+pub fn count_left(m: &[u32], cursor: Cursor, ignored: &[u32]) -> u64
+    ensures { λ r. ⌜ r ≡ length (matchesLeft (heldWords cursor (now (ignored .entry)) (now (m .entry))) cursor) ⌝ }
 {
-    let n = count_phase(m, cursor);
+    let n = count_phase(m, cursor, ignored);
     if cursor.loops {
         return n + 1;
     }
@@ -93,13 +101,16 @@ pub fn count_left(m: &[u32], cursor: Cursor) -> u64
 }
 
 // The number of a cursor's matches with the first of them.
-fn counted(m: &[u32], cursor: Cursor) -> CountedIter
-    ensures { λ r. ⌜ countMeans r ≡ good (length (matchesLeft (now (m .entry)) cursor)) ⌝ }
-    ensures first { λ r. ⌜ firstMeans (now (m .entry)) r ≡ good (asked (itemsLeft (now (m .entry)) cursor)) ⌝ }
-    ensures place { λ r. ⌜ GoesOnAt r (cursorAfter (now (m .entry)) cursor) ⌝ }
+fn counted(m: &[u32], cursor: Cursor, ignored: &[u32]) -> CountedIter
+    ensures { λ r. ⌜ countMeans r ≡ good (length (matchesLeft (heldWords cursor (now (ignored .entry)) (now (m .entry))) cursor)) ⌝ }
+    ensures first { λ r. ⌜ (
+        let words = heldWords cursor (now (ignored .entry)) (now (m .entry)) in
+        firstMeans words r ≡ good (asked (itemsLeft words cursor))
+        ) ⌝ }
+    ensures place { λ r. ⌜ GoesOnAt r (cursorAfter (heldWords cursor (now (ignored .entry)) (now (m .entry))) cursor) ⌝ }
 {
-    let n = count_left(m, cursor);
-    let step = next_match(m, cursor);
+    let n = count_left(m, cursor, ignored);
+    let step = next_match(m, cursor, ignored);
     match step {
         Step::Match(found, next) => CountedIter::First(n, found, next),
         Step::End(next) => CountedIter::Empty(next),
@@ -110,30 +121,35 @@ fn counted(m: &[u32], cursor: Cursor) -> CountedIter
 pub fn counted_iter(
     m: &[u32],
     on: MatchType,
+    sigmas: Sigmas,
+    ignored: &[u32],
     sigma: Sigma,
     allowed: &[u32],
     s: StateId,
     label: Label,
 ) -> CountedIter
     ensures { λ r. ⌜ (
+        let words = readAs on sigmas (now (ignored .entry)) (now (m .entry)) in
         let allowed = allowedOf (sigma .listed) (now (allowed .entry)) in
-        let operand = operandOf (onOf on) (now (m .entry)) (sigma .label .0) (sigma .mode) allowed in
+        let operand = operandIn (onOf on) words sigma allowed in
         countMeans r ≡ fanOut operand (s .0) (label .0)
         ) ⌝ }
     ensures first { λ r. ⌜ (
+        let words = readAs on sigmas (now (ignored .entry)) (now (m .entry)) in
         let allowed = allowedOf (sigma .listed) (now (allowed .entry)) in
-        let operand = operandOf (onOf on) (now (m .entry)) (sigma .label .0) (sigma .mode) allowed in
-        firstMeans (now (m .entry)) r ≡ andThen (lookupItems operand (s .0) (label .0)) (λ items. good (asked items))
+        let operand = operandIn (onOf on) words sigma allowed in
+        firstMeans words r ≡ andThen (lookupItems operand (s .0) (label .0)) (λ items. good (asked items))
         ) ⌝ }
     ensures place { λ r. ⌜ (
-        let both = rewritesBoth (sigma .mode) (acceptorMark (now (m .entry))) in
-        let from = cond (standsFor (sigma .label .0) (allowedOf (sigma .listed) (now (allowed .entry))) (label .0)) (firstOf (now (m .entry)) (s .0)) 0 in
-        GoesOnAt r (cursorAfter (now (m .entry)) (firstCursor (now (m .entry)) on s label (sigma .label) both from))
+        let words = readAs on sigmas (now (ignored .entry)) (now (m .entry)) in
+        let both = operandIn (onOf on) words sigma none .sigma .rewriteBoth in
+        let from = cond (standsFor (sigma .label .0) (allowedOf (sigma .listed) (now (allowed .entry))) (label .0)) (firstOf words (s .0)) 0 in
+        GoesOnAt r (cursorAfter words (firstCursor words on sigmas s label (sigma .label) both from))
         ) ⌝ }
 {
-    let found = sigma_iter(m, on, sigma, allowed, s, label);
+    let found = sigma_iter(m, on, sigmas, ignored, sigma, allowed, s, label);
     match found {
         SigmaIter::Refused(k) => CountedIter::Refused(k),
-        SigmaIter::At(cursor) => counted(m, cursor),
+        SigmaIter::At(cursor) => counted(m, cursor, ignored),
     }
 }

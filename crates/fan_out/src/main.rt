@@ -1,5 +1,6 @@
 // Reads settings, two machines and a query (machine, state, label), a line each, and prints how many matches the look-up of the label gives, or `refused n`.
 ghost use mathlib.Core.Path.{_≡_};
+ghost use mathlib.Core.List.{[]};
 ghost use mathlib.Core.Option.{none};
 ghost use Rattle.io.specs.Counts.{Counts};
 ghost use Rattle.fan_outs.specs.FanOut.{fanOutLine};
@@ -31,10 +32,10 @@ use session_checks::read_settings;
 // A machine that is neither 1 nor 2: a query not of three words names it.
 const NO_MACHINE: u32 = 0;
 
-// The fan-out that the words of the four lines ask for, without allowed lists.
+// The fan-out that the words of the four lines ask for, without allowed lists and ignored labels.
 fn look_up(settings: &[u32], m1: &[u32], m2: &[u32], query: &[u32]) -> FanOut
     ensures { λ r. ⌜ (
-        let l = lentSlices (now (m1 .entry)) (now (m2 .entry)) none none in
+        let l = lentSlices (now (m1 .entry)) (now (m2 .entry)) none none [] in
         fanOutMeans r ≡ fanOutLine (now (settings .entry)) l (now (query .entry))
         ) ⌝ }
 {
@@ -53,6 +54,7 @@ fn look_up(settings: &[u32], m1: &[u32], m2: &[u32], query: &[u32]) -> FanOut
             m2,
             m1,
             m2,
+            &m1[0..0],
             none,
             NO_MACHINE,
             StateId(0),
@@ -61,7 +63,18 @@ fn look_up(settings: &[u32], m1: &[u32], m2: &[u32], query: &[u32]) -> FanOut
     }
     let state = StateId(word(query, 1));
     let label = Label(word(query, 2));
-    fan_out(wanted, m1, m2, m1, m2, none, word(query, 0), state, label)
+    fan_out(
+        wanted,
+        m1,
+        m2,
+        m1,
+        m2,
+        &m1[0..0],
+        none,
+        word(query, 0),
+        state,
+        label,
+    )
 }
 
 // The number alone, or the refusal, at the start of `out`.

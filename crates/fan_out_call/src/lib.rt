@@ -1,4 +1,4 @@
-// The fan-out of a look-up (02, 2.6) for a caller that is lent no memory: checks 1 to 7, then 9 for machine and state, then the look-up with its 11. No public function has a precondition.
+// The fan-out of a look-up (02, 2.6) for a caller that is lent no memory: checks 1 to 7 with 18, then 9 for machine and state, then the look-up with its 11. No public function has a precondition.
 ghost use mathlib.Core.Path.{_≡_};
 ghost use mathlib.Core.List.{List};
 ghost use mathlib.Core.Option.{Option};
@@ -13,6 +13,7 @@ use counted_iter::counted_iter;
 use fst::Label;
 use fst::MatchType;
 use fst::REFUSED_NOT_FOUND;
+use fst::Sigmas;
 use fst::StateId;
 use fst::num_states;
 use lazy_fst::AllowedLists;
@@ -42,8 +43,8 @@ fn stated(found: CountedIter) -> FanOut
 // The states of machine 1 or 2; another machine has none.
 fn states_of(machine: u32, m1: &[u32], m2: &[u32]) -> u32
     ensures { λ r. ⌜ (
-        (allowed1 allowed2 : Option (List ℕ)) →
-        r ≡ statesOf (lentSlices (now (m1 .entry)) (now (m2 .entry)) allowed1 allowed2) machine
+        (allowed1 allowed2 : Option (List ℕ)) (ignored : List ℕ) →
+        r ≡ statesOf (lentSlices (now (m1 .entry)) (now (m2 .entry)) allowed1 allowed2 ignored) machine
         ) ⌝ }
 {
     if machine == 1 {
@@ -55,13 +56,14 @@ fn states_of(machine: u32, m1: &[u32], m2: &[u32]) -> u32
     0
 }
 
-// Looks the label up: machine 1 on outputs, machine 2 on inputs, each with its own sigma.
+// Looks the label up: machine 1 on outputs, machine 2 on inputs, each with its own sigma. How sigma is rewritten plays no part in the number.
 fn look_up(
     settings: Settings,
     m1: &[u32],
     m2: &[u32],
     allowed1: &[u32],
     allowed2: &[u32],
+    ignored: &[u32],
     listed: AllowedLists,
     machine: u32,
     s: StateId,
@@ -69,26 +71,47 @@ fn look_up(
 ) -> FanOut
     requires { ⌜ Limited (now m1) (now m2) ⌝ }
     ensures { λ r. ⌜ (
-        let l = lentWith (now (m1 .entry)) (now (m2 .entry)) (now (allowed1 .entry)) (now (allowed2 .entry)) listed in
+        let l = lentWith (now (m1 .entry)) (now (m2 .entry)) (now (allowed1 .entry)) (now (allowed2 .entry)) (now (ignored .entry)) listed in
         fanOutMeans r ≡ fanOut (operandNumbered (settingsMeans settings) l machine) (s .0) (label .0)
         ) ⌝ }
 {
-    let label1 = settings.sigma1;
-    let label2 = settings.sigma2;
+    let first = settings.sigma1;
+    let second = settings.sigma2;
+    let sigmas = Sigmas { first, second };
     if machine == 1 {
         let sigma1 = Sigma {
-            label: label1,
+            label: first,
             mode: settings.mode1,
             listed: listed.first,
+            acceptor: 0,
         };
-        return stated(counted_iter(m1, MatchType::MatchOutput, sigma1, allowed1, s, label));
+        return stated(counted_iter(
+            m1,
+            MatchType::MatchOutput,
+            sigmas,
+            ignored,
+            sigma1,
+            allowed1,
+            s,
+            label,
+        ));
     }
     let sigma2 = Sigma {
-        label: label2,
+        label: second,
         mode: settings.mode2,
         listed: listed.second,
+        acceptor: 0,
     };
-    stated(counted_iter(m2, MatchType::MatchInput, sigma2, allowed2, s, label))
+    stated(counted_iter(
+        m2,
+        MatchType::MatchInput,
+        sigmas,
+        ignored,
+        sigma2,
+        allowed2,
+        s,
+        label,
+    ))
 }
 
 // After the checks 1 to 7.
@@ -98,6 +121,7 @@ fn fan_out_at(
     m2: &[u32],
     allowed1: &[u32],
     allowed2: &[u32],
+    ignored: &[u32],
     listed: AllowedLists,
     machine: u32,
     s: StateId,
@@ -105,7 +129,7 @@ fn fan_out_at(
 ) -> FanOut
     requires { ⌜ Limited (now m1) (now m2) ⌝ }
     ensures { λ r. ⌜ (
-        let l = lentWith (now (m1 .entry)) (now (m2 .entry)) (now (allowed1 .entry)) (now (allowed2 .entry)) listed in
+        let l = lentWith (now (m1 .entry)) (now (m2 .entry)) (now (allowed1 .entry)) (now (allowed2 .entry)) (now (ignored .entry)) listed in
         fanOutMeans r ≡ fanOutAt (settingsMeans settings) l machine (s .0) (label .0)
         ) ⌝ }
 {
@@ -118,6 +142,7 @@ fn fan_out_at(
         m2,
         allowed1,
         allowed2,
+        ignored,
         listed,
         machine,
         s,
@@ -132,17 +157,18 @@ pub fn fan_out(
     m2: &[u32],
     allowed1: &[u32],
     allowed2: &[u32],
+    ignored: &[u32],
     listed: AllowedLists,
     machine: u32,
     s: StateId,
     label: Label,
 ) -> FanOut
     ensures { λ r. ⌜ (
-        let l = lentWith (now (m1 .entry)) (now (m2 .entry)) (now (allowed1 .entry)) (now (allowed2 .entry)) listed in
+        let l = lentWith (now (m1 .entry)) (now (m2 .entry)) (now (allowed1 .entry)) (now (allowed2 .entry)) (now (ignored .entry)) listed in
         fanOutMeans r ≡ fanOutOf (settingsMeans settings) l machine (s .0) (label .0)
         ) ⌝ }
 {
-    let chosen = side_for(settings, m1, m2);
+    let chosen = side_for(settings, m1, m2, ignored);
     match chosen {
         Chosen::Refused(k) => FanOut::Refused(k),
         Chosen::By(_) => fan_out_at(
@@ -151,6 +177,7 @@ pub fn fan_out(
             m2,
             allowed1,
             allowed2,
+            ignored,
             listed,
             machine,
             s,

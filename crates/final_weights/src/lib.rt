@@ -47,17 +47,18 @@ pub fn take_weights(
     m2: &[u32],
     allowed1: &[u32],
     allowed2: &[u32],
+    ignored: &[u32],
     listed: AllowedLists,
     heads: &[u32],
     states: &[u32],
     trs: &[u32],
 ) -> AllWeights
     requires { ⌜ (
-        let l = lentWith (now m1) (now m2) (now allowed1) (now allowed2) listed in
+        let l = lentWith (now m1) (now m2) (now allowed1) (now allowed2) (now ignored) listed in
         Passes l (sessionMeans session) (memoryOf (now heads) (now states) (now trs))
         ) ⌝ }
     ensures { λ r. ⌜ (
-        let l = lentWith (now (m1 .entry)) (now (m2 .entry)) (now (allowed1 .entry)) (now (allowed2 .entry)) listed in
+        let l = lentWith (now (m1 .entry)) (now (m2 .entry)) (now (allowed1 .entry)) (now (allowed2 .entry)) (now (ignored .entry)) listed in
         let m = memoryOf (now (heads .entry)) (now (states .entry)) (now (trs .entry)) in
         r ≡ verdict (weightsFrom l (sessionMeans session) m 0 (session .used .states))
         ) ⌝ }
@@ -71,6 +72,7 @@ pub fn take_weights(
             m2,
             allowed1,
             allowed2,
+            ignored,
             listed,
             heads,
             states,
@@ -118,6 +120,7 @@ fn put_weights(
     m2: &[u32],
     allowed1: &[u32],
     allowed2: &[u32],
+    ignored: &[u32],
     listed: AllowedLists,
     heads: &[u32],
     states: &[u32],
@@ -125,12 +128,12 @@ fn put_weights(
     out: &mut [u32],
 )
     requires { ⌜ (
-        let l = lentWith (now m1) (now m2) (now allowed1) (now allowed2) listed in
+        let l = lentWith (now m1) (now m2) (now allowed1) (now allowed2) (now ignored) listed in
         Passes l (sessionMeans session) (memoryOf (now heads) (now states) (now trs))
         ) ⌝ }
     requires sized { ⌜ length (now out) ≡ 2 * session .used .states ⌝ }
     ensures { λ _. ⌜ (
-        let l = lentWith (now (m1 .entry)) (now (m2 .entry)) (now (allowed1 .entry)) (now (allowed2 .entry)) listed in
+        let l = lentWith (now (m1 .entry)) (now (m2 .entry)) (now (allowed1 .entry)) (now (allowed2 .entry)) (now (ignored .entry)) listed in
         let m = memoryOf (now (heads .entry)) (now (states .entry)) (now (trs .entry)) in
         now (out .exit) ≡ wordsFrom l (sessionMeans session) m 0 (session .used .states)
         ) ⌝ }
@@ -144,6 +147,7 @@ fn put_weights(
             m2,
             allowed1,
             allowed2,
+            ignored,
             listed,
             heads,
             states,
@@ -162,6 +166,7 @@ pub fn write_weights(
     m2: &[u32],
     allowed1: &[u32],
     allowed2: &[u32],
+    ignored: &[u32],
     listed: AllowedLists,
     heads: &[u32],
     states: &[u32],
@@ -169,17 +174,17 @@ pub fn write_weights(
     out: &mut [u32],
 ) -> AllWeights
     requires { ⌜ (
-        let l = lentWith (now m1) (now m2) (now allowed1) (now allowed2) listed in
+        let l = lentWith (now m1) (now m2) (now allowed1) (now allowed2) (now ignored) listed in
         Passes l (sessionMeans session) (memoryOf (now heads) (now states) (now trs))
         ) ⌝ }
     requires sized { ⌜ length (now out) ≡ 2 * session .used .states ⌝ }
     ensures { λ r. ⌜ (
-        let l = lentWith (now (m1 .entry)) (now (m2 .entry)) (now (allowed1 .entry)) (now (allowed2 .entry)) listed in
+        let l = lentWith (now (m1 .entry)) (now (m2 .entry)) (now (allowed1 .entry)) (now (allowed2 .entry)) (now (ignored .entry)) listed in
         let m = memoryOf (now (heads .entry)) (now (states .entry)) (now (trs .entry)) in
         r ≡ verdict (finalWeightsOf l (sessionMeans session) m)
         ) ⌝ }
     ensures words { λ _. ⌜ (
-        let l = lentWith (now (m1 .entry)) (now (m2 .entry)) (now (allowed1 .entry)) (now (allowed2 .entry)) listed in
+        let l = lentWith (now (m1 .entry)) (now (m2 .entry)) (now (allowed1 .entry)) (now (allowed2 .entry)) (now (ignored .entry)) listed in
         let m = memoryOf (now (heads .entry)) (now (states .entry)) (now (trs .entry)) in
         now (out .exit) ≡ weightsWords (now (out .entry)) (finalWeightsOf l (sessionMeans session) m)
         ) ⌝ }
@@ -190,6 +195,7 @@ pub fn write_weights(
         m2,
         allowed1,
         allowed2,
+        ignored,
         listed,
         heads,
         states,
@@ -204,6 +210,7 @@ pub fn write_weights(
                 m2,
                 allowed1,
                 allowed2,
+                ignored,
                 listed,
                 heads,
                 states,

@@ -3,7 +3,8 @@ ghost use mathlib.Core.Path.{_≡_};
 ghost use lib.ListN.{length, getD};
 ghost use Rattle.words.specs.Machines.{stateCount, trCount, startWord, sideMark, acceptorMark, stateWord, trWord, firstOf, nextOf, listOf, machineOf};
 ghost use Rattle.words.specs.Matches.{labelOn, trOf};
-ghost use Rattle.fst.specs.Meaning.{onOf, startMeans, trMeans};
+ghost use Rattle.words.specs.Ignored.{otherwise};
+ghost use Rattle.fst.specs.Meaning.{onOf, startMeans, trMeans, readAs};
 use crate::FINAL;
 use crate::FINAL_WEIGHT;
 use crate::FIRST;
@@ -14,12 +15,14 @@ use crate::MatchType;
 use crate::NEXT;
 use crate::OUTPUT;
 use crate::STATE_WORDS;
+use crate::Sigmas;
 use crate::StartState;
 use crate::StateId;
 use crate::TARGET;
 use crate::TR_WORDS;
 use crate::Tr;
 use crate::WEIGHT;
+use crate::ignored::heard;
 
 // Word i, and 0 past the end.
 pub fn word(m: &[u32], i: usize) -> u32
@@ -68,11 +71,14 @@ pub fn side_mark(m: &[u32], on: MatchType) -> u32
     }
 }
 
-// The mark of the side on which a machine is matched: what the choice of the side goes by.
-pub fn inner_mark(m: &[u32], on: MatchType) -> u32
-    ensures { λ r. ⌜ r ≡ sideMark (onOf on) (now (m .entry)) ⌝ }
+// The mark of the side on which a machine is matched: what the choice of the side goes by. A list of ignored labels makes it 0.
+pub fn inner_mark(m: &[u32], on: MatchType, ignored: &[u32]) -> u32
+    ensures { λ r. ⌜ r ≡ otherwise (now (ignored .entry)) (sideMark (onOf on) (now (m .entry))) 0 ⌝ }
 {
-    side_mark(m, on)
+    if ignored.len() == 0 {
+        return side_mark(m, on);
+    }
+    0
 }
 
 pub fn acceptor_mark(m: &[u32]) -> u32
@@ -81,20 +87,26 @@ pub fn acceptor_mark(m: &[u32]) -> u32
     word(m, 5)
 }
 
-// Word k of the record of state s.
+// Word k of the record of state s; 0 where there is no such state.
 pub fn state_word(m: &[u32], s: StateId, k: u32) -> u32
     ensures { λ r. ⌜ r ≡ stateWord (now (m .entry)) (s .0) k ⌝ }
 {
+    if num_states(m) <= s.0 {
+        return 0;
+    }
     word(
         m,
         HEADER_WORDS + STATE_WORDS * (s.0 as usize) + (k as usize),
     )
 }
 
-// Word k of the transition record t; records count from 1.
+// Word k of the transition record t; records count from 1, and number 0 has words 0.
 pub fn tr_word(m: &[u32], t: u32, k: u32) -> u32
     ensures { λ r. ⌜ r ≡ trWord (now (m .entry)) t k ⌝ }
 {
+    if t == 0 {
+        return 0;
+    }
     let n = num_states(m);
     word(
         m,
@@ -137,17 +149,17 @@ pub fn label_on(m: &[u32], on: MatchType, t: u32) -> Label
 }
 
 // The label of record t on the side on which the machine is matched. Sortedness, the facts of the filters, the walk and the look-up see labels through here alone.
-pub fn inner_label(m: &[u32], on: MatchType, t: u32) -> Label
-    ensures { λ r. ⌜ r .0 ≡ labelOn (onOf on) (machineOf (now (m .entry))) t ⌝ }
+pub fn inner_label(m: &[u32], on: MatchType, sigmas: Sigmas, ignored: &[u32], t: u32) -> Label
+    ensures { λ r. ⌜ r .0 ≡ labelOn (onOf on) (machineOf (readAs on sigmas (now (ignored .entry)) (now (m .entry)))) t ⌝ }
 {
-    label_on(m, on, t)
+    heard(sigmas, ignored, label_on(m, on, t))
 }
 
-// The transition of record t in a machine that is matched on a side.
-pub fn get_tr(m: &[u32], on: MatchType, t: u32) -> Tr
-    ensures { λ r. ⌜ trMeans r ≡ trOf (machineOf (now (m .entry))) t ⌝ }
+// The transition of record t in a machine that is matched on a side. Its outer label is as lent.
+pub fn get_tr(m: &[u32], on: MatchType, sigmas: Sigmas, ignored: &[u32], t: u32) -> Tr
+    ensures { λ r. ⌜ trMeans r ≡ trOf (machineOf (readAs on sigmas (now (ignored .entry)) (now (m .entry)))) t ⌝ }
 {
-    let inner = inner_label(m, on, t);
+    let inner = inner_label(m, on, sigmas, ignored, t);
     let weight = tr_word(m, t, WEIGHT);
     let nextstate = StateId(tr_word(m, t, TARGET));
     match on {

@@ -1,5 +1,6 @@
 // Labels, state numbers and transitions (lib.rs, tr.rs), and the reading of a machine's words (fst_traits/fst.rs).
 mod fst_traits;
+mod ignored;
 mod refusals;
 mod tr;
 
@@ -21,7 +22,10 @@ pub use fst_traits::start_word;
 pub use fst_traits::state_word;
 pub use fst_traits::tr_word;
 pub use fst_traits::word;
+pub use ignored::has;
+pub use ignored::heard;
 pub use refusals::REFUSED_BOTH_MATCH;
+pub use refusals::REFUSED_IGNORED;
 pub use refusals::REFUSED_MACHINE_1;
 pub use refusals::REFUSED_MACHINE_2;
 pub use refusals::REFUSED_NO_ROOM;
@@ -38,6 +42,12 @@ pub use tr::Tr;
 
 // A label. It cannot be given where a state number is asked.
 pub struct Label(pub u32);
+
+// The sigma labels of the two machines: with the list of ignored labels, what decides which labels are replaced.
+pub struct Sigmas {
+    pub first: Label,
+    pub second: Label,
+}
 
 // The number of a state.
 pub struct StateId(pub u32);
@@ -73,6 +83,11 @@ pub const NEXT: u32 = 4;
 pub const EPS_LABEL: Label = Label(0);
 
 pub const NO_LABEL: Label = Label(4294967295);
+
+pub const NO_SIGMAS: Sigmas = Sigmas {
+    first: NO_LABEL,
+    second: NO_LABEL,
+};
 
 // The state where a machine starts, if it has one.
 pub enum StartState {

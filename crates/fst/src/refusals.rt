@@ -38,3 +38,6 @@ pub const REFUSED_TOO_LARGE: u32 = 12;
 
 // a record or, at opening, a head is lacking
 pub const REFUSED_NO_ROOM: u32 = 13;
+
+// the list of ignored labels holds 0 or MAX (document 02, 2.7)
+pub const REFUSED_IGNORED: u32 = 18;

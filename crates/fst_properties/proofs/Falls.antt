@@ -4,13 +4,13 @@ use mathlib.Core.Bool.{Bool, true, false, _||_, cond, and-eq-true-iff}
 use mathlib.Core.List.{List, map}
 use Prim.Native.Nat.{ℕ, zero, suc, _+_, _*_, _/_, _≤_, _<_, min}
 use native.Mathlib.Omega.{arith}
-use lib.Dec.{eqb, leb}
+use lib.Dec.{eqb, leb, ltb}
 use lib.ListN.{length, getD, List·getD-eq-default}
 use borrow.Author.Tests.{eqb-true, leb-true, le-leb}
 use Rattle.lists.specs.Lists.{every, interval}
 use Rattle.lists.proofs.Members.{every-in, every-of, in-interval}
 use Rattle.words.specs.Matches.{MatchType, labelOn}
-use Rattle.words.specs.Machines.{trCount, stateWord, trWord, firstOk, nextOk, firstOf, nextOf, listBy, listFrom, listOf, machineOf, noFall, sorted, acceptor}
+use Rattle.words.specs.Machines.{stateCount, trCount, stateWord, trWord, firstOk, nextOk, firstOf, nextOf, listBy, listFrom, listOf, machineOf, noFall, sorted, acceptor}
 use Rattle.words.proofs.ListLaws.{link, first-inside, list-end}
 use Rattle.fst_properties.specs.RecordTests.{rises}
 use Rattle.lists.proofs.Runs.{run-cut}
@@ -58,7 +58,8 @@ rising-sorted on m h =
 -- a record past the end has only words 0
 pub far-word : (m : List ℕ) (t k : ℕ) → 1 + length m / 5 ≤ t → trWord m t k ≡ 0
 unfolding trWord
-far-word m t k h = List·getD-eq-default m 0 (omega arith)
+far-word m zero k h = refl
+far-word m (suc t) k h = List·getD-eq-default m 0 (omega (arith, h))
 
 far-next : (m : List ℕ) (t : ℕ) → 1 + length m / 5 ≤ t → nextOf m t ≡ 0
 unfolding nextOf nextOk
@@ -83,7 +84,7 @@ same false = refl
 
 far-first : (m : List ℕ) (s : ℕ) → 0 + length m / 3 ≤ s → firstOf m s ≡ 0
 unfolding firstOf stateWord
-far-first m s h = let e : getD m (6 + 3 * s + 0) 0 ≡ 0 = List·getD-eq-default m 0 (omega arith) in rw e (same (firstOk m s))
+far-first m s h = let e : getD m (6 + 3 * s + 0) 0 ≡ 0 = List·getD-eq-default m 0 (omega arith) in rw (e, same (ltb s (stateCount m))) (same (firstOk m s))
 
 -- a state past the end has no transition
 pub far-list : (on : MatchType) (m : List ℕ) (s : ℕ) → 0 + length m / 3 ≤ s → listSorted on m s ≡ true

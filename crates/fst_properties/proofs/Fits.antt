@@ -10,8 +10,7 @@ use Rattle.lists.specs.Lists.{every, interval}
 use Rattle.lists.proofs.Members.{and-left, and-right, every-in, every-of, every-same, or-right}
 use Rattle.words.specs.Labels.{noLabel}
 use Rattle.words.specs.Matches.{MatchType, inputs, outputs, labelOn}
-use Rattle.words.specs.Machines.{stateCount, trCount, startWord, sideMark, trWord, nextOk, nextOf, machineOf, sorted, stateOk, trOk, marksOk, sizeOk, wellFormed, wellFormedUpTo}
-use Rattle.fst_reads.specs.Places.{wordOn}
+use Rattle.words.specs.Machines.{wordOn, stateCount, trCount, startWord, sideMark, trWord, nextOk, nextOf, machineOf, sorted, stateOk, trOk, marksOk, sizeOk, wellFormed, wellFormedUpTo}
 use Rattle.fst_properties.specs.RecordTests.{rises, risesIf, fits, formFits}
 use Rattle.fst_properties.proofs.Falls.{rising-sorted}
 

@@ -7,7 +7,6 @@ use lib.Dec.{eqb, leb}
 use Rattle.lists.specs.Lists.{every, interval}
 use Rattle.words.specs.Matches.{MatchType, inputs, outputs, labelOn}
 use Rattle.words.specs.Machines.{stateCount, trCount, startWord, trWord, nextOf, machineOf, stateOk, trOk, sizeOk}
-use Rattle.fst.specs.Meaning.{onOf}
 use Rattle.fst_reads.specs.Places.{recordBase}
 use Rattle.fst_properties.specs.declared.form.Asked.{Asked}
 use Rattle.fst_properties.specs.declared.records.RecordTest.{RecordTest}
@@ -18,9 +17,9 @@ unfoldable pub rises : MatchType → List ℕ → ℕ → Bool
 rises on m t = eqb (nextOf m t) 0 || leb (labelOn on (machineOf m) t) (labelOn on (machineOf m) (nextOf m t))
 
 -- the tests by name: "input equals output"; no label falls
-abbrev pub testOf : RecordTest → List ℕ → ℕ → Bool
-testOf SameLabels m t = eqb (trWord m t 0) (trWord m t 1)
-testOf (Rises on) m t = rises (onOf on) m t
+abbrev pub testOf : RecordTest → MatchType → List ℕ → ℕ → Bool
+testOf SameLabels on m t = eqb (trWord m t 0) (trWord m t 1)
+testOf Rises on m t = rises on m t
 
 -- no label falls on a side, where that is asked
 abbrev pub risesIf : Bool → MatchType → List ℕ → ℕ → Bool

@@ -10,8 +10,22 @@ use crate::form::form_fits;
 use crate::properties::acceptor;
 use crate::properties::sorted;
 use fst::MatchType;
+use fst::NO_SIGMAS;
 use fst::acceptor_mark;
 use fst::side_mark;
+
+// "Malformed is judged on the machines as lent": no label is ignored.
+fn lent_sorted(m: &[u32], on: MatchType) -> bool
+    ensures { λ r. ⌜ r ≡ sortedOf (onOf on) (machineOf (now (m .entry))) ⌝ }
+{
+    sorted(m, on, NO_SIGMAS, &m[0..0])
+}
+
+fn lent_acceptor(m: &[u32]) -> bool
+    ensures { λ r. ⌜ r ≡ acceptorOf (now (m .entry)) ⌝ }
+{
+    acceptor(m, MatchType::MatchInput, NO_SIGMAS, &m[0..0])
+}
 
 // A side whose mark is 0 is not looked at; nor one whose mark is 1, where it is known that no record falls on such a side.
 fn side_mark_ok(m: &[u32], on: MatchType, rising: bool) -> bool
@@ -25,9 +39,9 @@ fn side_mark_ok(m: &[u32], on: MatchType, rising: bool) -> bool
             if rising {
                 return true;
             }
-            sorted(m, on)
+            lent_sorted(m, on)
         }
-        2 => !sorted(m, on),
+        2 => !lent_sorted(m, on),
         _ => false,
     }
 }
@@ -38,7 +52,7 @@ fn acceptor_mark_ok(m: &[u32]) -> bool
     let mark = acceptor_mark(m);
     match mark {
         0 => true,
-        1 => acceptor(m),
+        1 => lent_acceptor(m),
         _ => false,
     }
 }

@@ -7,4 +7,5 @@ mod seen;
 
 pub use check::well_formed;
 pub use properties::acceptor;
+pub use properties::inner_acceptor_mark;
 pub use properties::sorted;

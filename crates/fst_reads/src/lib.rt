@@ -3,10 +3,10 @@
 ghost use mathlib.Core.Path.{_≡_};
 ghost use mathlib.Core.Bool.{true};
 ghost use Prim.Native.Nat.{_<_};
-ghost use Rattle.words.specs.Machines.{stateWords, trWords, stateCount, stateWord, trWord, firstOf, nextOf, machineOf, sizeOk, wellFormed};
+ghost use Rattle.words.specs.Machines.{wordOn, stateWords, trWords, stateCount, stateWord, trWord, firstOf, nextOf, machineOf, sizeOk, wellFormed};
 ghost use Rattle.words.specs.Matches.{trOf};
 ghost use Rattle.fst.specs.Meaning.{onOf, trMeans};
-ghost use Rattle.fst_reads.specs.Places.{recordBase, IsRecord, wordOn};
+ghost use Rattle.fst_reads.specs.Places.{recordBase, IsRecord};
 use fst::HEADER_WORDS;
 use fst::Label;
 use fst::MatchType;

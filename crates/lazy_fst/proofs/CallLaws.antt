@@ -1,16 +1,19 @@
 -- A session whose checks pass has the side of the rule: it is the one that the composition below it stands for.
 use mathlib.Core.Path.{_≡_, refl, sym, _∙_, ap, subst}
-use mathlib.Core.Bool.{cond}
-use mathlib.Core.List.{[]}
-use Prim.Native.Nat.{ℕ, _+_, _*_, _≤_, _<_}
+use mathlib.Core.Bool.{Bool, true, false, not, _&&_, cond}
+use mathlib.Core.List.{List, []}
+use Prim.Native.Nat.{ℕ, zero, suc, _+_, _*_, _≤_, _<_}
 use native.Mathlib.Omega.{arith}
 use lib.Dec.{eqb, leb}
 use borrow.Author.Tests.{le-leb, lt-leb, leb-false}
-use Rattle.words.specs.Labels.{good, refused, andThen}
-use Rattle.words.specs.Matches.{inputs, outputs}
+use Rattle.words.specs.Labels.{noLabel, good, refused, andThen}
+use Rattle.words.specs.Matches.{MatchType, inputs, outputs}
+use Rattle.words.specs.Ignored.{Ignored, acceptorRead}
+use Rattle.words.specs.Sigmas.{rewritesBoth}
 use Rattle.words.specs.Sides.{Side, only, both}
 use Rattle.words.specs.Settings.{Lent, compositionOf}
 use Rattle.words.specs.Steps.{Composition, finalAt}
+use Rattle.words.proofs.ReplacedLaws.{read-acceptor}
 use Rattle.words.proofs.CheckedLaws.{past-check, past-then}
 use Rattle.calls.specs.Store.{Memory, tripleAt, expandedAt, partAt}
 use Rattle.calls.specs.Checks.{Session, sideNumber, storeOf, entered, enteredAt, Passes, enteredAtWith}
@@ -20,10 +23,12 @@ use Rattle.match_type.specs.Chosen.{sideMeans}
 use Rattle.match_type.specs.declared.Side.{Side as CodeSide}
 use Rattle.match_type.specs.declared.Chosen.{Chosen}
 use Rattle.match_type.specs.declared.Chosen.the-variants.{By}
+use Rattle.compose_fst_op.specs.Composing.{replacing, composing}
+use Rattle.compose_fst_op.proofs.Composed.{composing-is}
 use Rattle.compose_store.specs.Meaning.{sessionUnder}
 use Rattle.store_records.specs.Meaning.{usedMeans}
 use Rattle.session_checks.specs.Meaning.{settingsMeans, enteredMeans, sideNumbered}
-use Rattle.lazy_fst.specs.Meaning.{sessionMeans, optionsOf}
+use Rattle.lazy_fst.specs.Meaning.{lentWith, sessionMeans, sigmaMark, optionsOf}
 use Rattle.lazy_fst.specs.declared.Session.{Session as Latest}
 use Rattle.lazy_fst.specs.declared.AllowedLists.{AllowedLists}
 
@@ -51,14 +56,14 @@ module _ (l : Lent) where
       h .same ∙ ap sideNumber (sym (ap (λ (c : Composition). c .side) (h .composition)))
 
   session-is : (s : Latest) (m : Memory) (listed : AllowedLists) (side : CodeSide) → entered l (sessionMeans s) m ≡ good (compositionOf (settingsMeans (s .settings)) l (sideMeans side))
-      → sessionMeans s ≡ sessionUnder (optionsOf (s .settings) listed side) (s .used)
+      → sessionMeans s ≡ sessionUnder (optionsOf (s .settings) listed side (l .m1) (l .m2) (l .ignored)) (s .used)
   session-is s m listed side e =
       ap (λ (k : ℕ). record { settings = settingsMeans (s .settings); side = k; used = usedMeans (s .used) }) (same-side (sessionMeans s) m (sideMeans side) e)
 
   -- The session, and the checks 1 to 8, in the words of the composition below.
   pub record Goes (s : Latest) (m : Memory) (listed : AllowedLists) (side : CodeSide) : Type 0 where
-    pub same : sessionMeans s ≡ sessionUnder (optionsOf (s .settings) listed side) (s .used)
-    pub passes : entered l (sessionUnder (optionsOf (s .settings) listed side) (s .used)) m ≡ good (compositionOf (settingsMeans (s .settings)) l (sideMeans side))
+    pub same : sessionMeans s ≡ sessionUnder (optionsOf (s .settings) listed side (l .m1) (l .m2) (l .ignored)) (s .used)
+    pub passes : entered l (sessionUnder (optionsOf (s .settings) listed side (l .m1) (l .m2) (l .ignored)) (s .used)) m ≡ good (compositionOf (settingsMeans (s .settings)) l (sideMeans side))
 
   goes-on : (s : Latest) (m : Memory) (listed : AllowedLists) (side : CodeSide) → entered l (sessionMeans s) m ≡ good (compositionOf (settingsMeans (s .settings)) l (sideMeans side)) → Goes s m listed side
   goes-on s m listed side e =
@@ -134,3 +139,31 @@ module _ (l : Lent) where
 -- a part that begins at a word of a slice: the place of its first byte
 pub begins : (o word place : ℕ) → word ≡ place → word * 4 + o ≡ o + 4 * place
 begins o word place e = omega (arith, e)
+
+-- the marks that the options hold lead to the rewriting of the definition
+module _ (on : MatchType) (g : Ignored) (m : List ℕ) (sigma : ℕ) where
+  by-mode : (mode : ℕ) → eqb sigma noLabel ≡ false → rewritesBoth mode (sigmaMark on g m sigma mode) ≡ rewritesBoth mode (acceptorRead on g m)
+  unfolding sigmaMark
+  by-mode zero e = rw (e, read-acceptor on g m)
+  by-mode (suc zero) e = refl
+  by-mode (suc (suc n)) e = refl
+
+  pub marks-rewrite : (mode : ℕ) → not (eqb sigma noLabel) && rewritesBoth mode (sigmaMark on g m sigma mode) ≡ not (eqb sigma noLabel) && rewritesBoth mode (acceptorRead on g m)
+  marks-rewrite mode = go (eqb sigma noLabel) refl
+    where
+      go : (b : Bool) → eqb sigma noLabel ≡ b → not b && rewritesBoth mode (sigmaMark on g m sigma mode) ≡ not b && rewritesBoth mode (acceptorRead on g m)
+      go true e = refl
+      go false e = by-mode mode e
+
+-- so the composition of the code is the definition's, and a call that goes on does so in the words of the composition below
+module _ (m1 m2 a1 a2 ignored : List ℕ) (listed : AllowedLists) where
+  abbrev lent : Lent
+  lent = lentWith m1 m2 a1 a2 ignored listed
+
+  pub goes-composing : (s : Latest) (m : Memory) (side : CodeSide) → Goes lent s m listed side
+      → let o = optionsOf (s .settings) listed side m1 m2 ignored in entered lent (sessionUnder o (s .used)) m ≡ good (composing o m1 m2 a1 a2 ignored)
+  goes-composing s m side h =
+      let o = optionsOf (s .settings) listed side m1 m2 ignored in
+      let g = replacing o ignored in
+      h .passes
+      ∙ ap good (sym (composing-is o m1 m2 a1 a2 ignored (marks-rewrite outputs g m1 (s .settings .sigma1 .0) (s .settings .mode1)) (marks-rewrite inputs g m2 (s .settings .sigma2 .0) (s .settings .mode2))))

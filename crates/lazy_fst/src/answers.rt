@@ -6,12 +6,13 @@ ghost use Rattle.words.specs.Labels.{andThen, good};
 ghost use Rattle.words.specs.Steps.{finalAt};
 ghost use Rattle.calls.specs.Store.{Memory, tripleAt};
 ghost use Rattle.calls.specs.Calls.{settle, unchanged};
-ghost use Rattle.compose_fst_op.specs.Composing.{composing};
+ghost use Rattle.compose_fst_op.specs.Composing.{compositionFor};
 ghost use Rattle.compose_fst_op.specs.declared.ComposeFstOpOptions.{ComposeFstOpOptions as Options};
 ghost use Rattle.compose_store.specs.Meaning.{sessionUnder, leftBy};
 ghost use Rattle.compose_run.specs.Meaning.{ranLeft};
+ghost use Rattle.fst.specs.Meaning.{onOf, ignoredUnder};
 ghost use Rattle.store_records.specs.Meaning.{memoryOf};
-ghost use Rattle.lazy_fst.specs.Meaning.{sessionMeans, optionsOf, left, partLeft, weightLeft};
+ghost use Rattle.lazy_fst.specs.Meaning.{sessionMeans, optionsWith, sigmaMark, optionsOf, left, partLeft, weightLeft};
 use crate::AllowedLists;
 use crate::Answer;
 use crate::PartAnswer;
@@ -22,16 +23,27 @@ use compose_fst_op::FinalWeight;
 use compose_fst_op::compute_final_weight;
 use compose_run::Ran;
 use compose_store::Expansion;
+use fst::Label;
+use fst::MatchType;
+use fst::NO_LABEL;
 use fst::REFUSED_TOO_LARGE;
+use fst::Sigmas;
 use fst::StateId;
+use fst_properties::inner_acceptor_mark;
 use match_type::Side;
 use matchers::Sigma;
 use session_checks::Settings;
 use store_records::get_tuple;
 
-// The settings of the composition that a call goes on with.
-pub fn options_of(settings: Settings, listed: AllowedLists, side: Side) -> ComposeFstOpOptions
-    ensures { λ r. ⌜ r ≡ optionsOf settings listed side ⌝ }
+// The settings of the composition that a call goes on with, with the acceptor marks of the two machines.
+pub fn options_with(
+    settings: Settings,
+    listed: AllowedLists,
+    side: Side,
+    acceptor1: u32,
+    acceptor2: u32,
+) -> ComposeFstOpOptions
+    ensures { λ r. ⌜ r ≡ optionsWith settings listed side acceptor1 acceptor2 ⌝ }
 {
     let label1 = settings.sigma1;
     let label2 = settings.sigma2;
@@ -43,13 +55,68 @@ pub fn options_of(settings: Settings, listed: AllowedLists, side: Side) -> Compo
             label: label1,
             mode: settings.mode1,
             listed: listed.first,
+            acceptor: acceptor1,
         },
         sigma2: Sigma {
             label: label2,
             mode: settings.mode2,
             listed: listed.second,
+            acceptor: acceptor2,
         },
     }
+}
+
+// The acceptor mark as it is read, where it plays a part: with a sigma label, under mode 0. Else 0. Where labels are ignored, all records are looked at: so this is asked once in a call.
+fn sigma_mark(
+    m: &[u32],
+    on: MatchType,
+    sigmas: Sigmas,
+    ignored: &[u32],
+    label: Label,
+    mode: u32,
+) -> u32
+    ensures { λ r. ⌜ r ≡ sigmaMark (onOf on) (ignoredUnder sigmas (now (ignored .entry))) (now (m .entry)) (label .0) mode ⌝ }
+{
+    if label.0 == NO_LABEL.0 {
+        return 0;
+    }
+    if mode != 0 {
+        return 0;
+    }
+    inner_acceptor_mark(m, on, sigmas, ignored)
+}
+
+// The same with the marks that the lent machines have.
+pub fn options_of(
+    settings: Settings,
+    listed: AllowedLists,
+    side: Side,
+    m1: &[u32],
+    m2: &[u32],
+    ignored: &[u32],
+) -> ComposeFstOpOptions
+    ensures { λ r. ⌜ r ≡ optionsOf settings listed side (now (m1 .entry)) (now (m2 .entry)) (now (ignored .entry)) ⌝ }
+{
+    let first = settings.sigma1;
+    let second = settings.sigma2;
+    let sigmas = Sigmas { first, second };
+    let acceptor1 = sigma_mark(
+        m1,
+        MatchType::MatchOutput,
+        sigmas,
+        ignored,
+        first,
+        settings.mode1,
+    );
+    let acceptor2 = sigma_mark(
+        m2,
+        MatchType::MatchInput,
+        sigmas,
+        ignored,
+        second,
+        settings.mode2,
+    );
+    options_with(settings, listed, side, acceptor1, acceptor2)
 }
 
 // The final weight of state n, with the session as it came.
@@ -62,9 +129,9 @@ pub fn final_of(
     n: StateId,
 ) -> WeightAnswer
     ensures { λ r. ⌜ (
-        (a1 a2 heads trs : List ℕ) →
+        (a1 a2 ignored heads trs : List ℕ) →
         let m = memoryOf heads (now (states .entry)) trs in
-        let c = composing options (now (m1 .entry)) (now (m2 .entry)) a1 a2 in
+        let c = compositionFor options (now (m1 .entry)) (now (m2 .entry)) a1 a2 ignored in
         weightLeft r m
         ≡ settle (sessionMeans session) m (andThen (finalAt c (tripleAt (now (states .entry)) (n .0))) (λ w. good (unchanged (sessionMeans session) m w)))
         ) ⌝ }

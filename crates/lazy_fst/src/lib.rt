@@ -70,19 +70,20 @@ impl Session {
         m2: &[u32],
         allowed1: &[u32],
         allowed2: &[u32],
+        ignored: &[u32],
         listed: AllowedLists,
         heads: &mut [u32],
         states: &mut [u32],
         trs: &mut [u32],
     ) -> Answer
         ensures { λ r. ⌜ (
-            let l = lentWith (now (m1 .entry)) (now (m2 .entry)) (now (allowed1 .entry)) (now (allowed2 .entry)) listed in
+            let l = lentWith (now (m1 .entry)) (now (m2 .entry)) (now (allowed1 .entry)) (now (allowed2 .entry)) (now (ignored .entry)) listed in
             let m = memoryOf (now (heads .entry)) (now (states .entry)) (now (trs .entry)) in
             let m′ = memoryOf (now (heads .exit)) (now (states .exit)) (now (trs .exit)) in
             left r m′ ≡ openOf (settingsMeans settings) l (sessionMeans self) m
             ) ⌝ }
     {
-        let chosen = side_for(settings, m1, m2);
+        let chosen = side_for(settings, m1, m2, ignored);
         match chosen {
             Chosen::Refused(k) => Answer::Refused(k, self),
             Chosen::By(side) => begin(self, settings, side, m1, m2, heads, states),
@@ -96,6 +97,7 @@ impl Session {
         m2: &[u32],
         allowed1: &[u32],
         allowed2: &[u32],
+        ignored: &[u32],
         listed: AllowedLists,
         heads: &mut [u32],
         states: &mut [u32],
@@ -103,7 +105,7 @@ impl Session {
         n: StateId,
     ) -> PartAnswer
         ensures { λ r. ⌜ (
-            let l = lentWith (now (m1 .entry)) (now (m2 .entry)) (now (allowed1 .entry)) (now (allowed2 .entry)) listed in
+            let l = lentWith (now (m1 .entry)) (now (m2 .entry)) (now (allowed1 .entry)) (now (allowed2 .entry)) (now (ignored .entry)) listed in
             let m = memoryOf (now (heads .entry)) (now (states .entry)) (now (trs .entry)) in
             let m′ = memoryOf (now (heads .exit)) (now (states .exit)) (now (trs .exit)) in
             partLeft r m′ ≡ expandOf l (sessionMeans self) m (n .0)
@@ -115,6 +117,7 @@ impl Session {
             self.used,
             m1,
             m2,
+            ignored,
             heads,
             states,
             trs,
@@ -122,7 +125,18 @@ impl Session {
         match entered {
             Chosen::Refused(k) => PartAnswer::Refused(k, self),
             Chosen::By(_) => {
-                self.expand_alone(m1, m2, allowed1, allowed2, listed, heads, states, trs, n)
+                self.expand_alone(
+                    m1,
+                    m2,
+                    allowed1,
+                    allowed2,
+                    ignored,
+                    listed,
+                    heads,
+                    states,
+                    trs,
+                    n,
+                )
             }
         }
     }
@@ -134,6 +148,7 @@ impl Session {
         m2: &[u32],
         allowed1: &[u32],
         allowed2: &[u32],
+        ignored: &[u32],
         listed: AllowedLists,
         heads: &[u32],
         states: &[u32],
@@ -141,7 +156,7 @@ impl Session {
         n: StateId,
     ) -> WeightAnswer
         ensures { λ r. ⌜ (
-            let l = lentWith (now (m1 .entry)) (now (m2 .entry)) (now (allowed1 .entry)) (now (allowed2 .entry)) listed in
+            let l = lentWith (now (m1 .entry)) (now (m2 .entry)) (now (allowed1 .entry)) (now (allowed2 .entry)) (now (ignored .entry)) listed in
             let m = memoryOf (now (heads .entry)) (now (states .entry)) (now (trs .entry)) in
             weightLeft r m ≡ finalWeightOf l (sessionMeans self) m (n .0)
             ) ⌝ }
@@ -152,6 +167,7 @@ impl Session {
             self.used,
             m1,
             m2,
+            ignored,
             heads,
             states,
             trs,
@@ -159,7 +175,18 @@ impl Session {
         match entered {
             Chosen::Refused(k) => WeightAnswer::Refused(k, self),
             Chosen::By(_) => {
-                self.trusted_final_weight(m1, m2, allowed1, allowed2, listed, heads, states, trs, n)
+                self.trusted_final_weight(
+                    m1,
+                    m2,
+                    allowed1,
+                    allowed2,
+                    ignored,
+                    listed,
+                    heads,
+                    states,
+                    trs,
+                    n,
+                )
             }
         }
     }
@@ -171,13 +198,14 @@ impl Session {
         m2: &[u32],
         allowed1: &[u32],
         allowed2: &[u32],
+        ignored: &[u32],
         listed: AllowedLists,
         heads: &mut [u32],
         states: &mut [u32],
         trs: &mut [u32],
     ) -> Answer
         ensures { λ r. ⌜ (
-            let l = lentWith (now (m1 .entry)) (now (m2 .entry)) (now (allowed1 .entry)) (now (allowed2 .entry)) listed in
+            let l = lentWith (now (m1 .entry)) (now (m2 .entry)) (now (allowed1 .entry)) (now (allowed2 .entry)) (now (ignored .entry)) listed in
             let m = memoryOf (now (heads .entry)) (now (states .entry)) (now (trs .entry)) in
             let m′ = memoryOf (now (heads .exit)) (now (states .exit)) (now (trs .exit)) in
             left r m′ ≡ runOf l (sessionMeans self) m
@@ -185,16 +213,27 @@ impl Session {
     {
         let settings = self.settings;
         let used = self.used;
-        let entered = enter(settings, self.side, used, m1, m2, heads, states, trs);
+        let entered = enter(
+            settings,
+            self.side,
+            used,
+            m1,
+            m2,
+            ignored,
+            heads,
+            states,
+            trs,
+        );
         match entered {
             Chosen::Refused(k) => Answer::Refused(k, self),
             Chosen::By(side) => {
-                let options = options_of(settings, listed, side);
+                let options = options_of(settings, listed, side, m1, m2, ignored);
                 let ran = compute(
                     m1,
                     m2,
                     allowed1,
                     allowed2,
+                    ignored,
                     options,
                     heads,
                     states,
@@ -213,6 +252,7 @@ impl Session {
         m2: &[u32],
         allowed1: &[u32],
         allowed2: &[u32],
+        ignored: &[u32],
         listed: AllowedLists,
         heads: &[u32],
         states: &[u32],
@@ -220,12 +260,12 @@ impl Session {
         n: StateId,
     ) -> &'a [u32]
         ensures { λ r. ⌜ (
-            let l = lentWith (now (m1 .entry)) (now (m2 .entry)) (now (allowed1 .entry)) (now (allowed2 .entry)) listed in
+            let l = lentWith (now (m1 .entry)) (now (m2 .entry)) (now (allowed1 .entry)) (now (allowed2 .entry)) (now (ignored .entry)) listed in
             let m = memoryOf (now (heads .entry)) (now (states .entry)) (now (trs .entry)) in
             now r ≡ recordsOf l (sessionMeans self) m (n .0)
             ) ⌝ }
         ensures place { λ r. ⌜ (
-            let l = lentWith (now (m1 .entry)) (now (m2 .entry)) (now (allowed1 .entry)) (now (allowed2 .entry)) listed in
+            let l = lentWith (now (m1 .entry)) (now (m2 .entry)) (now (allowed1 .entry)) (now (allowed2 .entry)) (now (ignored .entry)) listed in
             let m = memoryOf (now (heads .entry)) (now (states .entry)) (now (trs .entry)) in
             r .ptr ≡ (trs .entry .ptr .0, trs .entry .ptr .1 + 4 * recordsPlace l (sessionMeans self) m (n .0))
             ) ⌝ }
@@ -236,6 +276,7 @@ impl Session {
             self.used,
             m1,
             m2,
+            ignored,
             heads,
             states,
             trs,
@@ -243,7 +284,18 @@ impl Session {
         match entered {
             Chosen::Refused(_) => &trs[0..0],
             Chosen::By(_) => {
-                self.trusted_records(m1, m2, allowed1, allowed2, listed, heads, states, trs, n)
+                self.trusted_records(
+                    m1,
+                    m2,
+                    allowed1,
+                    allowed2,
+                    ignored,
+                    listed,
+                    heads,
+                    states,
+                    trs,
+                    n,
+                )
             }
         }
     }

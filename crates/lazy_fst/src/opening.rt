@@ -56,8 +56,8 @@ pub fn begin(
     states: &mut [u32],
 ) -> Answer
     ensures { λ r. ⌜ (
-        (allowed1 allowed2 : Option (List ℕ)) (trs : List ℕ) →
-        let l = lentSlices (now (m1 .entry)) (now (m2 .entry)) allowed1 allowed2 in
+        (allowed1 allowed2 : Option (List ℕ)) (ignored trs : List ℕ) →
+        let l = lentSlices (now (m1 .entry)) (now (m2 .entry)) allowed1 allowed2 ignored in
         let m = memoryOf (now (heads .entry)) (now (states .entry)) trs in
         let m′ = memoryOf (now (heads .exit)) (now (states .exit)) trs in
         left r m′ ≡ openedOn (settingsMeans settings) l (sessionMeans got) m (sideMeans side)

@@ -17,6 +17,7 @@ use crate::Session;
 use crate::WeightAnswer;
 use crate::answers::final_of;
 use crate::answers::options_of;
+use crate::answers::options_with;
 use crate::answers::part_answer;
 use crate::answers::run_answer;
 use compose_run::compute_from;
@@ -38,6 +39,7 @@ impl Session {
         m2: &[u32],
         allowed1: &[u32],
         allowed2: &[u32],
+        ignored: &[u32],
         listed: AllowedLists,
         heads: &mut [u32],
         states: &mut [u32],
@@ -47,25 +49,25 @@ impl Session {
         n: StateId,
     ) -> PartAnswer
         requires { ⌜ (
-            let l = lentWith (now m1) (now m2) (now allowed1) (now allowed2) listed in
+            let l = lentWith (now m1) (now m2) (now allowed1) (now allowed2) (now ignored) listed in
             let m = memoryOf (now heads) (now states) (now trs) in
             let s = sessionMeans self in
             Passes l s m × Remembered outputs l s (now memo1) × Remembered inputs l s (now memo2)
             ) ⌝ }
         ensures { λ r. ⌜ (
-            let l = lentWith (now (m1 .entry)) (now (m2 .entry)) (now (allowed1 .entry)) (now (allowed2 .entry)) listed in
+            let l = lentWith (now (m1 .entry)) (now (m2 .entry)) (now (allowed1 .entry)) (now (allowed2 .entry)) (now (ignored .entry)) listed in
             let m = memoryOf (now (heads .entry)) (now (states .entry)) (now (trs .entry)) in
             let m′ = memoryOf (now (heads .exit)) (now (states .exit)) (now (trs .exit)) in
             partLeft r m′ ≡ expandOf l (sessionMeans self) m (n .0)
             ) ⌝ }
         ensures asked { λ _. ⌜ (
-            let l = lentWith (now (m1 .entry)) (now (m2 .entry)) (now (allowed1 .entry)) (now (allowed2 .entry)) listed in
+            let l = lentWith (now (m1 .entry)) (now (m2 .entry)) (now (allowed1 .entry)) (now (allowed2 .entry)) (now (ignored .entry)) listed in
             let m = memoryOf (now (heads .entry)) (now (states .entry)) (now (trs .entry)) in
             let s = sessionMeans self in
             (now (memo1 .exit) ≡ memoAt outputs l s m (n .0) (now (memo1 .entry))) × (now (memo2 .exit) ≡ memoAt inputs l s m (n .0) (now (memo2 .entry)))
             ) ⌝ }
         ensures remembered { λ _. ⌜ (
-            let l = lentWith (now (m1 .entry)) (now (m2 .entry)) (now (allowed1 .entry)) (now (allowed2 .entry)) listed in
+            let l = lentWith (now (m1 .entry)) (now (m2 .entry)) (now (allowed1 .entry)) (now (allowed2 .entry)) (now (ignored .entry)) listed in
             let s = sessionMeans self in
             Remembered outputs l s (now (memo1 .exit)) × Remembered inputs l s (now (memo2 .exit))
             ) ⌝ }
@@ -74,12 +76,13 @@ impl Session {
         if used.states <= n.0 {
             return PartAnswer::Refused(REFUSED_NOT_FOUND, self);
         }
-        let options = options_of(self.settings, listed, side_of(self.side));
+        let options = options_of(self.settings, listed, side_of(self.side), m1, m2, ignored);
         let expanded = expand_found(
             m1,
             m2,
             allowed1,
             allowed2,
+            ignored,
             options,
             heads,
             states,
@@ -99,6 +102,7 @@ impl Session {
         m2: &[u32],
         allowed1: &[u32],
         allowed2: &[u32],
+        ignored: &[u32],
         listed: AllowedLists,
         heads: &mut [u32],
         states: &mut [u32],
@@ -106,12 +110,12 @@ impl Session {
         n: StateId,
     ) -> PartAnswer
         requires { ⌜ (
-            let l = lentWith (now m1) (now m2) (now allowed1) (now allowed2) listed in
+            let l = lentWith (now m1) (now m2) (now allowed1) (now allowed2) (now ignored) listed in
             let m = memoryOf (now heads) (now states) (now trs) in
             Passes l (sessionMeans self) m
             ) ⌝ }
         ensures { λ r. ⌜ (
-            let l = lentWith (now (m1 .entry)) (now (m2 .entry)) (now (allowed1 .entry)) (now (allowed2 .entry)) listed in
+            let l = lentWith (now (m1 .entry)) (now (m2 .entry)) (now (allowed1 .entry)) (now (allowed2 .entry)) (now (ignored .entry)) listed in
             let m = memoryOf (now (heads .entry)) (now (states .entry)) (now (trs .entry)) in
             let m′ = memoryOf (now (heads .exit)) (now (states .exit)) (now (trs .exit)) in
             partLeft r m′ ≡ expandOf l (sessionMeans self) m (n .0)
@@ -121,12 +125,13 @@ impl Session {
         if used.states <= n.0 {
             return PartAnswer::Refused(REFUSED_NOT_FOUND, self);
         }
-        let options = options_of(self.settings, listed, side_of(self.side));
+        let options = options_of(self.settings, listed, side_of(self.side), m1, m2, ignored);
         let expanded = expand_alone(
             m1,
             m2,
             allowed1,
             allowed2,
+            ignored,
             options,
             heads,
             states,
@@ -144,6 +149,7 @@ impl Session {
         m2: &[u32],
         allowed1: &[u32],
         allowed2: &[u32],
+        ignored: &[u32],
         listed: AllowedLists,
         heads: &[u32],
         states: &[u32],
@@ -151,12 +157,12 @@ impl Session {
         n: StateId,
     ) -> WeightAnswer
         requires { ⌜ (
-            let l = lentWith (now m1) (now m2) (now allowed1) (now allowed2) listed in
+            let l = lentWith (now m1) (now m2) (now allowed1) (now allowed2) (now ignored) listed in
             let m = memoryOf (now heads) (now states) (now trs) in
             Passes l (sessionMeans self) m
             ) ⌝ }
         ensures { λ r. ⌜ (
-            let l = lentWith (now (m1 .entry)) (now (m2 .entry)) (now (allowed1 .entry)) (now (allowed2 .entry)) listed in
+            let l = lentWith (now (m1 .entry)) (now (m2 .entry)) (now (allowed1 .entry)) (now (allowed2 .entry)) (now (ignored .entry)) listed in
             let m = memoryOf (now (heads .entry)) (now (states .entry)) (now (trs .entry)) in
             weightLeft r m ≡ finalWeightOf l (sessionMeans self) m (n .0)
             ) ⌝ }
@@ -165,7 +171,7 @@ impl Session {
         if used.states <= n.0 {
             return WeightAnswer::Refused(REFUSED_NOT_FOUND, self);
         }
-        let options = options_of(self.settings, listed, side_of(self.side));
+        let options = options_with(self.settings, listed, side_of(self.side), 0, 0);
         final_of(self, options, m1, m2, states, n)
     }
 
@@ -176,6 +182,7 @@ impl Session {
         m2: &[u32],
         allowed1: &[u32],
         allowed2: &[u32],
+        ignored: &[u32],
         listed: AllowedLists,
         heads: &mut [u32],
         states: &mut [u32],
@@ -186,41 +193,42 @@ impl Session {
         count: u32,
     ) -> PieceAnswer
         requires { ⌜ (
-            let l = lentWith (now m1) (now m2) (now allowed1) (now allowed2) listed in
+            let l = lentWith (now m1) (now m2) (now allowed1) (now allowed2) (now ignored) listed in
             let m = memoryOf (now heads) (now states) (now trs) in
             let s = sessionMeans self in
             Passes l s m × Remembered outputs l s (now memo1) × Remembered inputs l s (now memo2)
             ) ⌝ }
         ensures { λ r. ⌜ (
-            let l = lentWith (now (m1 .entry)) (now (m2 .entry)) (now (allowed1 .entry)) (now (allowed2 .entry)) listed in
+            let l = lentWith (now (m1 .entry)) (now (m2 .entry)) (now (allowed1 .entry)) (now (allowed2 .entry)) (now (ignored .entry)) listed in
             let m = memoryOf (now (heads .entry)) (now (states .entry)) (now (trs .entry)) in
             let m′ = memoryOf (now (heads .exit)) (now (states .exit)) (now (trs .exit)) in
             left (r .answer) m′ ≡ runFrom l count (from .0) (sessionMeans self) m
             ) ⌝ }
         ensures next { λ r. ⌜ (
-            let l = lentWith (now (m1 .entry)) (now (m2 .entry)) (now (allowed1 .entry)) (now (allowed2 .entry)) listed in
+            let l = lentWith (now (m1 .entry)) (now (m2 .entry)) (now (allowed1 .entry)) (now (allowed2 .entry)) (now (ignored .entry)) listed in
             let m = memoryOf (now (heads .entry)) (now (states .entry)) (now (trs .entry)) in
             r .next .0 ≡ stopFrom l count (from .0) (sessionMeans self) m
             ) ⌝ }
         ensures asked { λ _. ⌜ (
-            let l = lentWith (now (m1 .entry)) (now (m2 .entry)) (now (allowed1 .entry)) (now (allowed2 .entry)) listed in
+            let l = lentWith (now (m1 .entry)) (now (m2 .entry)) (now (allowed1 .entry)) (now (allowed2 .entry)) (now (ignored .entry)) listed in
             let m = memoryOf (now (heads .entry)) (now (states .entry)) (now (trs .entry)) in
             let s = sessionMeans self in
             (now (memo1 .exit) ≡ memoFrom outputs l count (from .0) s m (now (memo1 .entry)))
             × (now (memo2 .exit) ≡ memoFrom inputs l count (from .0) s m (now (memo2 .entry)))
             ) ⌝ }
         ensures remembered { λ _. ⌜ (
-            let l = lentWith (now (m1 .entry)) (now (m2 .entry)) (now (allowed1 .entry)) (now (allowed2 .entry)) listed in
+            let l = lentWith (now (m1 .entry)) (now (m2 .entry)) (now (allowed1 .entry)) (now (allowed2 .entry)) (now (ignored .entry)) listed in
             let s = sessionMeans self in
             Remembered outputs l s (now (memo1 .exit)) × Remembered inputs l s (now (memo2 .exit))
             ) ⌝ }
     {
-        let options = options_of(self.settings, listed, side_of(self.side));
+        let options = options_of(self.settings, listed, side_of(self.side), m1, m2, ignored);
         let stopped = compute_from(
             m1,
             m2,
             allowed1,
             allowed2,
+            ignored,
             options,
             heads,
             states,
@@ -244,6 +252,7 @@ impl Session {
         m2: &[u32],
         allowed1: &[u32],
         allowed2: &[u32],
+        ignored: &[u32],
         listed: AllowedLists,
         heads: &[u32],
         states: &[u32],
@@ -251,17 +260,17 @@ impl Session {
         n: StateId,
     ) -> &'a [u32]
         requires { ⌜ (
-            let l = lentWith (now m1) (now m2) (now allowed1) (now allowed2) listed in
+            let l = lentWith (now m1) (now m2) (now allowed1) (now allowed2) (now ignored) listed in
             let m = memoryOf (now heads) (now states) (now trs) in
             Passes l (sessionMeans self) m
             ) ⌝ }
         ensures { λ r. ⌜ (
-            let l = lentWith (now (m1 .entry)) (now (m2 .entry)) (now (allowed1 .entry)) (now (allowed2 .entry)) listed in
+            let l = lentWith (now (m1 .entry)) (now (m2 .entry)) (now (allowed1 .entry)) (now (allowed2 .entry)) (now (ignored .entry)) listed in
             let m = memoryOf (now (heads .entry)) (now (states .entry)) (now (trs .entry)) in
             now r ≡ recordsOf l (sessionMeans self) m (n .0)
             ) ⌝ }
         ensures place { λ r. ⌜ (
-            let l = lentWith (now (m1 .entry)) (now (m2 .entry)) (now (allowed1 .entry)) (now (allowed2 .entry)) listed in
+            let l = lentWith (now (m1 .entry)) (now (m2 .entry)) (now (allowed1 .entry)) (now (allowed2 .entry)) (now (ignored .entry)) listed in
             let m = memoryOf (now (heads .entry)) (now (states .entry)) (now (trs .entry)) in
             r .ptr ≡ (trs .entry .ptr .0, trs .entry .ptr .1 + 4 * recordsPlace l (sessionMeans self) m (n .0))
             ) ⌝ }

@@ -8,8 +8,7 @@ use lib.Dec.{eqb}
 use Rattle.lists.specs.Lists.{keepIf, every}
 use Rattle.words.specs.Weights.{Kind}
 use Rattle.words.specs.Matches.{MatchType, inputs, outputs, labelOn, labelled}
-use Rattle.words.specs.Machines.{trWord, nextOf, listOf, machineOf}
-use Rattle.fst_reads.specs.Places.{wordOn}
+use Rattle.words.specs.Machines.{wordOn, trWord, nextOf, listOf, machineOf}
 use Rattle.sorted_lists.specs.Runs.{straight}
 use Rattle.sorted_lists.specs.Longest.{longest}
 use Rattle.list_facts.specs.declared.ListFacts.{ListFacts}

@@ -39,11 +39,12 @@ pub fn listing(
     m2: &[u32],
     allowed1: &[u32],
     allowed2: &[u32],
+    ignored: &[u32],
     listed: AllowedLists,
     out: &mut [u8; 131200],
 ) -> usize
     ensures { λ r. ⌜ (
-        let l = lentWith (now (m1 .entry)) (now (m2 .entry)) (now (allowed1 .entry)) (now (allowed2 .entry)) listed in
+        let l = lentWith (now (m1 .entry)) (now (m2 .entry)) (now (allowed1 .entry)) (now (allowed2 .entry)) (now (ignored .entry)) listed in
         Written (now (out .entry)) 0 (bytesOf (listingOn (now (words .entry)) l)) (now (out .exit)) r
         ) ⌝ }
     ensures counts { λ r. ⌜ Counts r (now (out .exit)) ⌝ }
@@ -61,6 +62,7 @@ pub fn listing(
         m2,
         allowed1,
         allowed2,
+        ignored,
         listed,
         &mut heads,
         &mut states,
@@ -103,5 +105,5 @@ pub fn answer(
         first: false,
         second: false,
     };
-    listing(words, m1, m2, m1, m2, none, out)
+    listing(words, m1, m2, m1, m2, &m1[0..0], none, out)
 }

@@ -78,6 +78,7 @@ fn put_one(
     m2: &[u32],
     allowed1: &[u32],
     allowed2: &[u32],
+    ignored: &[u32],
     listed: AllowedLists,
     heads: &[u32],
     states: &[u32],
@@ -87,21 +88,21 @@ fn put_one(
     to: usize,
 ) -> usize
     requires { ⌜ (
-        let l = lentWith (now m1) (now m2) (now allowed1) (now allowed2) listed in
+        let l = lentWith (now m1) (now m2) (now allowed1) (now allowed2) (now ignored) listed in
         let m = memoryOf (now heads) (now states) (now trs) in
         Room (now out) to (length (linesAt l (sessionMeans session) m (n .0)))
         ) ⌝ }
     requires passes { ⌜ (
-        let l = lentWith (now m1) (now m2) (now allowed1) (now allowed2) listed in
+        let l = lentWith (now m1) (now m2) (now allowed1) (now allowed2) (now ignored) listed in
         Passes l (sessionMeans session) (memoryOf (now heads) (now states) (now trs))
         ) ⌝ }
     ensures { λ r. ⌜ (
-        let l = lentWith (now (m1 .entry)) (now (m2 .entry)) (now (allowed1 .entry)) (now (allowed2 .entry)) listed in
+        let l = lentWith (now (m1 .entry)) (now (m2 .entry)) (now (allowed1 .entry)) (now (allowed2 .entry)) (now (ignored .entry)) listed in
         let m = memoryOf (now (heads .entry)) (now (states .entry)) (now (trs .entry)) in
         Written (now (out .entry)) to (bytesOf (linesAt l (sessionMeans session) m (n .0))) (now (out .exit)) r
         ) ⌝ }
     ensures near { λ r. ⌜ (
-        let l = lentWith (now (m1 .entry)) (now (m2 .entry)) (now (allowed1 .entry)) (now (allowed2 .entry)) listed in
+        let l = lentWith (now (m1 .entry)) (now (m2 .entry)) (now (allowed1 .entry)) (now (allowed2 .entry)) (now (ignored .entry)) listed in
         let m = memoryOf (now (heads .entry)) (now (states .entry)) (now (trs .entry)) in
         r ≤ to + 64 * length (linesAt l (sessionMeans session) m (n .0))
         ) ⌝ }
@@ -111,6 +112,7 @@ fn put_one(
         m2,
         allowed1,
         allowed2,
+        ignored,
         listed,
         heads,
         states,
@@ -123,6 +125,7 @@ fn put_one(
         m2,
         allowed1,
         allowed2,
+        ignored,
         listed,
         heads,
         states,
@@ -139,6 +142,7 @@ fn put_states(
     m2: &[u32],
     allowed1: &[u32],
     allowed2: &[u32],
+    ignored: &[u32],
     listed: AllowedLists,
     heads: &[u32],
     states: &[u32],
@@ -147,21 +151,21 @@ fn put_states(
     to: usize,
 ) -> usize
     requires { ⌜ (
-        let l = lentWith (now m1) (now m2) (now allowed1) (now allowed2) listed in
+        let l = lentWith (now m1) (now m2) (now allowed1) (now allowed2) (now ignored) listed in
         let m = memoryOf (now heads) (now states) (now trs) in
         Room (now out) to (length (linesFrom l (sessionMeans session) m 0 (session .used .states)))
         ) ⌝ }
     requires passes { ⌜ (
-        let l = lentWith (now m1) (now m2) (now allowed1) (now allowed2) listed in
+        let l = lentWith (now m1) (now m2) (now allowed1) (now allowed2) (now ignored) listed in
         Passes l (sessionMeans session) (memoryOf (now heads) (now states) (now trs))
         ) ⌝ }
     ensures { λ r. ⌜ (
-        let l = lentWith (now (m1 .entry)) (now (m2 .entry)) (now (allowed1 .entry)) (now (allowed2 .entry)) listed in
+        let l = lentWith (now (m1 .entry)) (now (m2 .entry)) (now (allowed1 .entry)) (now (allowed2 .entry)) (now (ignored .entry)) listed in
         let m = memoryOf (now (heads .entry)) (now (states .entry)) (now (trs .entry)) in
         Written (now (out .entry)) to (bytesOf (linesFrom l (sessionMeans session) m 0 (session .used .states))) (now (out .exit)) r
         ) ⌝ }
     ensures near { λ r. ⌜ (
-        let l = lentWith (now (m1 .entry)) (now (m2 .entry)) (now (allowed1 .entry)) (now (allowed2 .entry)) listed in
+        let l = lentWith (now (m1 .entry)) (now (m2 .entry)) (now (allowed1 .entry)) (now (allowed2 .entry)) (now (ignored .entry)) listed in
         let m = memoryOf (now (heads .entry)) (now (states .entry)) (now (trs .entry)) in
         r ≤ to + 64 * length (linesFrom l (sessionMeans session) m 0 (session .used .states))
         ) ⌝ }
@@ -177,6 +181,7 @@ fn put_states(
             m2,
             allowed1,
             allowed2,
+            ignored,
             listed,
             heads,
             states,
@@ -197,6 +202,7 @@ pub fn put_listing(
     m2: &[u32],
     allowed1: &[u32],
     allowed2: &[u32],
+    ignored: &[u32],
     listed: AllowedLists,
     heads: &[u32],
     states: &[u32],
@@ -204,16 +210,16 @@ pub fn put_listing(
     out: &mut [u8],
 ) -> usize
     requires { ⌜ (
-        let l = lentWith (now m1) (now m2) (now allowed1) (now allowed2) listed in
+        let l = lentWith (now m1) (now m2) (now allowed1) (now allowed2) (now ignored) listed in
         let m = memoryOf (now heads) (now states) (now trs) in
         Room (now out) 128 (length (linesFrom l (sessionMeans session) m 0 (session .used .states)))
         ) ⌝ }
     requires passes { ⌜ (
-        let l = lentWith (now m1) (now m2) (now allowed1) (now allowed2) listed in
+        let l = lentWith (now m1) (now m2) (now allowed1) (now allowed2) (now ignored) listed in
         Passes l (sessionMeans session) (memoryOf (now heads) (now states) (now trs))
         ) ⌝ }
     ensures { λ r. ⌜ (
-        let l = lentWith (now (m1 .entry)) (now (m2 .entry)) (now (allowed1 .entry)) (now (allowed2 .entry)) listed in
+        let l = lentWith (now (m1 .entry)) (now (m2 .entry)) (now (allowed1 .entry)) (now (allowed2 .entry)) (now (ignored .entry)) listed in
         let m = memoryOf (now (heads .entry)) (now (states .entry)) (now (trs .entry)) in
         let states = linesFrom l (sessionMeans session) m 0 (session .used .states) in
         let lines = sideLine (session .side) ∷ states ++ (endLine (session .used .states) (session .used .trs) ∷ []) in
@@ -229,6 +235,7 @@ pub fn put_listing(
         m2,
         allowed1,
         allowed2,
+        ignored,
         listed,
         heads,
         states,

@@ -39,6 +39,7 @@ pub fn open_listing(
     m2: &[u32],
     allowed1: &[u32],
     allowed2: &[u32],
+    ignored: &[u32],
     listed: AllowedLists,
     heads: &mut [u32],
     states: &mut [u32],
@@ -47,13 +48,13 @@ pub fn open_listing(
 ) -> usize
     requires { ⌜ Sized (now states) (now trs) (now out) ⌝ }
     ensures { λ r. ⌜ (
-        let l = lentWith (now (m1 .entry)) (now (m2 .entry)) (now (allowed1 .entry)) (now (allowed2 .entry)) listed in
+        let l = lentWith (now (m1 .entry)) (now (m2 .entry)) (now (allowed1 .entry)) (now (allowed2 .entry)) (now (ignored .entry)) listed in
         let m = memoryOf (now (heads .entry)) (now (states .entry)) (now (trs .entry)) in
         Written (now (out .entry)) 0 (bytesOf (printed (openedOf (settingsMeans settings) l (noSession (settingsMeans settings)) m))) (now (out .exit)) r
         ) ⌝ }
     ensures counts { λ r. ⌜ r ≤ length (now (out .exit)) ⌝ }
     ensures memory { λ _. ⌜ (
-        let l = lentWith (now (m1 .entry)) (now (m2 .entry)) (now (allowed1 .entry)) (now (allowed2 .entry)) listed in
+        let l = lentWith (now (m1 .entry)) (now (m2 .entry)) (now (allowed1 .entry)) (now (allowed2 .entry)) (now (ignored .entry)) listed in
         let m = memoryOf (now (heads .entry)) (now (states .entry)) (now (trs .entry)) in
         let m′ = memoryOf (now (heads .exit)) (now (states .exit)) (now (trs .exit)) in
         m′ ≡ openedMemory (settingsMeans settings) l (noSession (settingsMeans settings)) m
@@ -66,6 +67,7 @@ pub fn open_listing(
         m2,
         allowed1,
         allowed2,
+        ignored,
         listed,
         heads,
         states,
@@ -79,6 +81,7 @@ pub fn open_listing(
             m2,
             allowed1,
             allowed2,
+            ignored,
             listed,
             heads,
             states,
@@ -95,6 +98,7 @@ fn run_listing(
     m2: &[u32],
     allowed1: &[u32],
     allowed2: &[u32],
+    ignored: &[u32],
     listed: AllowedLists,
     heads: &mut [u32],
     states: &mut [u32],
@@ -103,23 +107,33 @@ fn run_listing(
 ) -> usize
     requires { ⌜ Sized (now states) (now trs) (now out) ⌝ }
     requires few { ⌜ (
-        let l = lentWith (now m1) (now m2) (now allowed1) (now allowed2) listed in
+        let l = lentWith (now m1) (now m2) (now allowed1) (now allowed2) (now ignored) listed in
         FewLines l (sessionMeans session) (memoryOf (now heads) (now states) (now trs))
         ) ⌝ }
     ensures { λ r. ⌜ (
-        let l = lentWith (now (m1 .entry)) (now (m2 .entry)) (now (allowed1 .entry)) (now (allowed2 .entry)) listed in
+        let l = lentWith (now (m1 .entry)) (now (m2 .entry)) (now (allowed1 .entry)) (now (allowed2 .entry)) (now (ignored .entry)) listed in
         let m = memoryOf (now (heads .entry)) (now (states .entry)) (now (trs .entry)) in
         Written (now (out .entry)) 0 (bytesOf (printed (ranOf l (sessionMeans session) m))) (now (out .exit)) r
         ) ⌝ }
     ensures counts { λ r. ⌜ r ≤ length (now (out .exit)) ⌝ }
     ensures memory { λ _. ⌜ (
-        let l = lentWith (now (m1 .entry)) (now (m2 .entry)) (now (allowed1 .entry)) (now (allowed2 .entry)) listed in
+        let l = lentWith (now (m1 .entry)) (now (m2 .entry)) (now (allowed1 .entry)) (now (allowed2 .entry)) (now (ignored .entry)) listed in
         let m = memoryOf (now (heads .entry)) (now (states .entry)) (now (trs .entry)) in
         let m′ = memoryOf (now (heads .exit)) (now (states .exit)) (now (trs .exit)) in
         m′ ≡ runOf l (sessionMeans session) m .memory
         ) ⌝ }
 {
-    let answer = session.run(m1, m2, allowed1, allowed2, listed, heads, states, trs);
+    let answer = session.run(
+        m1,
+        m2,
+        allowed1,
+        allowed2,
+        ignored,
+        listed,
+        heads,
+        states,
+        trs,
+    );
     match answer {
         Answer::Refused(k, _) => put_refused(out, 0, k),
         Answer::Accepted(next) => weigh_listing(
@@ -128,6 +142,7 @@ fn run_listing(
             m2,
             allowed1,
             allowed2,
+            ignored,
             listed,
             heads,
             states,
@@ -144,6 +159,7 @@ fn weigh_listing(
     m2: &[u32],
     allowed1: &[u32],
     allowed2: &[u32],
+    ignored: &[u32],
     listed: AllowedLists,
     heads: &[u32],
     states: &[u32],
@@ -151,16 +167,16 @@ fn weigh_listing(
     out: &mut [u8],
 ) -> usize
     requires { ⌜ (
-        let l = lentWith (now m1) (now m2) (now allowed1) (now allowed2) listed in
+        let l = lentWith (now m1) (now m2) (now allowed1) (now allowed2) (now ignored) listed in
         let m = memoryOf (now heads) (now states) (now trs) in
         Room (now out) 128 (length (linesFrom l (sessionMeans session) m 0 (session .used .states)))
         ) ⌝ }
     requires passes { ⌜ (
-        let l = lentWith (now m1) (now m2) (now allowed1) (now allowed2) listed in
+        let l = lentWith (now m1) (now m2) (now allowed1) (now allowed2) (now ignored) listed in
         Passes l (sessionMeans session) (memoryOf (now heads) (now states) (now trs))
         ) ⌝ }
     ensures { λ r. ⌜ (
-        let l = lentWith (now (m1 .entry)) (now (m2 .entry)) (now (allowed1 .entry)) (now (allowed2 .entry)) listed in
+        let l = lentWith (now (m1 .entry)) (now (m2 .entry)) (now (allowed1 .entry)) (now (allowed2 .entry)) (now (ignored .entry)) listed in
         let m = memoryOf (now (heads .entry)) (now (states .entry)) (now (trs .entry)) in
         Written (now (out .entry)) 0 (bytesOf (printed (listedOf l (sessionMeans session) m))) (now (out .exit)) r
         ) ⌝ }
@@ -172,6 +188,7 @@ fn weigh_listing(
         m2,
         allowed1,
         allowed2,
+        ignored,
         listed,
         heads,
         states,
@@ -185,6 +202,7 @@ fn weigh_listing(
             m2,
             allowed1,
             allowed2,
+            ignored,
             listed,
             heads,
             states,

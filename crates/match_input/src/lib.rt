@@ -5,12 +5,13 @@ ghost use lib.ListN.{length};
 ghost use Rattle.words.specs.Matches.{inputs, outputs};
 ghost use Rattle.words.specs.Machines.{listOf};
 ghost use Rattle.words.specs.Sides.{both, directionAt};
-ghost use Rattle.fst.specs.Meaning.{asOperand};
+ghost use Rattle.fst.specs.Meaning.{asOperand, readAs};
+ghost use Rattle.fst.specs.declared.MatchType.the-variants.{MatchInput, MatchOutput};
 ghost use Rattle.match_type.specs.Chosen.{sideMeans};
 ghost use Rattle.match_input.specs.Direction.{directionMeans};
-use fst::Label;
 use fst::MatchType;
 use fst::REFUSED_BOTH_MATCH;
+use fst::Sigmas;
 use fst::StateId;
 use fst::first_tr;
 use fst::next_tr;
@@ -43,19 +44,21 @@ pub fn not_longer(m1: &[u32], s1: StateId, m2: &[u32], s2: StateId) -> bool
 fn by_states(
     m1: &[u32],
     m2: &[u32],
-    sigma1: Label,
-    sigma2: Label,
+    sigmas: Sigmas,
+    ignored: &[u32],
     s1: StateId,
     s2: StateId,
 ) -> Direction
     ensures { λ r. ⌜ (
-        let operand = asOperand outputs (now (m1 .entry)) (sigma1 .0) in
-        let operand2 = asOperand inputs (now (m2 .entry)) (sigma2 .0) in
+        let operand = asOperand outputs (readAs MatchOutput sigmas (now (ignored .entry)) (now (m1 .entry))) (sigmas .first .0) in
+        let operand2 = asOperand inputs (readAs MatchInput sigmas (now (ignored .entry)) (now (m2 .entry))) (sigmas .second .0) in
         directionMeans r ≡ directionAt both operand operand2 (s1 .0) (s2 .0)
         ) ⌝ }
 {
-    let sigma_at_1 = has_sigma(m1, MatchType::MatchOutput, sigma1, s1);
-    let sigma_at_2 = has_sigma(m2, MatchType::MatchInput, sigma2, s2);
+    let sigma1 = sigmas.first;
+    let sigma2 = sigmas.second;
+    let sigma_at_1 = has_sigma(m1, MatchType::MatchOutput, sigmas, ignored, sigma1, s1);
+    let sigma_at_2 = has_sigma(m2, MatchType::MatchInput, sigmas, ignored, sigma2, s2);
     if sigma_at_1 {
         if sigma_at_2 {
             return Direction::Refused(REFUSED_BOTH_MATCH);
@@ -76,19 +79,19 @@ pub fn direction_at(
     side: Side,
     m1: &[u32],
     m2: &[u32],
-    sigma1: Label,
-    sigma2: Label,
+    sigmas: Sigmas,
+    ignored: &[u32],
     s1: StateId,
     s2: StateId,
 ) -> Direction
     ensures { λ r. ⌜ (
-        let operand = asOperand outputs (now (m1 .entry)) (sigma1 .0) in
-        let operand2 = asOperand inputs (now (m2 .entry)) (sigma2 .0) in
+        let operand = asOperand outputs (readAs MatchOutput sigmas (now (ignored .entry)) (now (m1 .entry))) (sigmas .first .0) in
+        let operand2 = asOperand inputs (readAs MatchInput sigmas (now (ignored .entry)) (now (m2 .entry))) (sigmas .second .0) in
         directionMeans r ≡ directionAt (sideMeans side) operand operand2 (s1 .0) (s2 .0)
         ) ⌝ }
 {
     match side {
         Side::Only(on) => Direction::Match(on),
-        Side::Both => by_states(m1, m2, sigma1, sigma2, s1, s2),
+        Side::Both => by_states(m1, m2, sigmas, ignored, s1, s2),
     }
 }

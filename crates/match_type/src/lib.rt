@@ -6,7 +6,8 @@ ghost use Rattle.words.specs.Labels.{epsLabel, noLabel};
 ghost use Rattle.words.specs.Matches.{inputs, outputs};
 ghost use Rattle.words.specs.Machines.{sideMark, sorted as sortedOf, machineOf, wellFormed};
 ghost use Rattle.words.specs.Sides.{sideBy, sideOf};
-ghost use Rattle.fst.specs.Meaning.{onOf, asOperand};
+ghost use Rattle.fst.specs.Meaning.{onOf, asOperand, readAs};
+ghost use Rattle.fst.specs.declared.MatchType.the-variants.{MatchInput, MatchOutput};
 ghost use Rattle.match_type.specs.Chosen.{chosenMeans};
 use fst::EPS_LABEL;
 use fst::Label;
@@ -16,6 +17,7 @@ use fst::REFUSED_NO_SIDE;
 use fst::REFUSED_SIGMA_EPS;
 use fst::REFUSED_UNSORTED_1;
 use fst::REFUSED_UNSORTED_2;
+use fst::Sigmas;
 use fst::inner_mark;
 use fst_properties::sorted;
 
@@ -40,55 +42,64 @@ fn has_eps(a: Label, b: Label) -> bool
     b.0 == EPS_LABEL.0
 }
 
-// Whether a side of a well-formed machine is sorted. A mark of 1 or 2 is true of it: the lists are looked at where the mark is 0.
-fn known_sorted(m: &[u32], on: MatchType) -> bool
+// Whether a side of a well-formed machine is sorted as it is read. A mark of 1 or 2 is true of it: the lists are looked at where the mark is read as 0.
+fn known_sorted(m: &[u32], on: MatchType, sigmas: Sigmas, ignored: &[u32]) -> bool
     requires { ⌜ wellFormed (now m) ≡ true ⌝ }
-    ensures { λ r. ⌜ r ≡ sortedOf (onOf on) (machineOf (now (m .entry))) ⌝ }
+    ensures { λ r. ⌜ r ≡ sortedOf (onOf on) (machineOf (readAs on sigmas (now (ignored .entry)) (now (m .entry)))) ⌝ }
 {
-    let mark = inner_mark(m, on);
+    let mark = inner_mark(m, on, ignored);
     match mark {
         1 => true,
         2 => false,
-        _ => sorted(m, on),
+        _ => sorted(m, on, sigmas, ignored),
     }
 }
 
 // A sigma label is set, and the side on which the machine is matched is not sorted.
-fn lacks_order(m: &[u32], on: MatchType, sigma: Label) -> bool
+fn lacks_order(m: &[u32], on: MatchType, sigmas: Sigmas, ignored: &[u32], sigma: Label) -> bool
     requires { ⌜ wellFormed (now m) ≡ true ⌝ }
-    ensures { λ r. ⌜ r ≡ (not (eqb (sigma .0) noLabel) && not (sortedOf (onOf on) (machineOf (now (m .entry))))) ⌝ }
+    ensures { λ r. ⌜ (
+        let words = readAs on sigmas (now (ignored .entry)) (now (m .entry)) in
+        r ≡ (not (eqb (sigma .0) noLabel) && not (sortedOf (onOf on) (machineOf words)))
+        ) ⌝ }
 {
     if sigma.0 == NO_LABEL.0 {
         return false;
     }
-    !known_sorted(m, on)
+    !known_sorted(m, on, sigmas, ignored)
 }
 
 // By the lists, machine 1 first; else refusal 7.
-fn side_by_lists(m1: &[u32], m2: &[u32]) -> Chosen
+fn side_by_lists(m1: &[u32], m2: &[u32], sigmas: Sigmas, ignored: &[u32]) -> Chosen
     requires { ⌜ (wellFormed (now m1) ≡ true) × (wellFormed (now m2) ≡ true) ⌝ }
-    ensures { λ r. ⌜ chosenMeans r ≡ sideBy false false (sortedOf outputs (machineOf (now (m1 .entry)))) (sortedOf inputs (machineOf (now (m2 .entry)))) ⌝ }
+    ensures { λ r. ⌜ (
+        let words1 = readAs MatchOutput sigmas (now (ignored .entry)) (now (m1 .entry)) in
+        let words2 = readAs MatchInput sigmas (now (ignored .entry)) (now (m2 .entry)) in
+        chosenMeans r ≡ sideBy false false (sortedOf outputs (machineOf words1)) (sortedOf inputs (machineOf words2))
+        ) ⌝ }
 {
-    if known_sorted(m1, MatchType::MatchOutput) {
+    if known_sorted(m1, MatchType::MatchOutput, sigmas, ignored) {
         return Chosen::By(Side::Only(MatchType::MatchOutput));
     }
-    if known_sorted(m2, MatchType::MatchInput) {
+    if known_sorted(m2, MatchType::MatchInput, sigmas, ignored) {
         return Chosen::By(Side::Only(MatchType::MatchInput));
     }
     Chosen::Refused(REFUSED_NO_SIDE)
 }
 
 // By the marks; where none is 1, by the lists.
-fn side_by_marks(m1: &[u32], m2: &[u32]) -> Chosen
+fn side_by_marks(m1: &[u32], m2: &[u32], sigmas: Sigmas, ignored: &[u32]) -> Chosen
     requires { ⌜ (wellFormed (now m1) ≡ true) × (wellFormed (now m2) ≡ true) ⌝ }
     ensures { λ r. ⌜ (
-        let mark1 = eqb (sideMark outputs (now (m1 .entry))) 1 in
-        let mark2 = eqb (sideMark inputs (now (m2 .entry))) 1 in
-        chosenMeans r ≡ sideBy mark1 mark2 (sortedOf outputs (machineOf (now (m1 .entry)))) (sortedOf inputs (machineOf (now (m2 .entry))))
+        let words1 = readAs MatchOutput sigmas (now (ignored .entry)) (now (m1 .entry)) in
+        let words2 = readAs MatchInput sigmas (now (ignored .entry)) (now (m2 .entry)) in
+        let mark1 = eqb (sideMark outputs words1) 1 in
+        let mark2 = eqb (sideMark inputs words2) 1 in
+        chosenMeans r ≡ sideBy mark1 mark2 (sortedOf outputs (machineOf words1)) (sortedOf inputs (machineOf words2))
         ) ⌝ }
 {
-    let mark1 = inner_mark(m1, MatchType::MatchOutput);
-    let mark2 = inner_mark(m2, MatchType::MatchInput);
+    let mark1 = inner_mark(m1, MatchType::MatchOutput, ignored);
+    let mark2 = inner_mark(m2, MatchType::MatchInput, ignored);
     if mark1 == 1 {
         if mark2 == 1 {
             return Chosen::By(Side::Both);
@@ -98,22 +109,28 @@ fn side_by_marks(m1: &[u32], m2: &[u32]) -> Chosen
     if mark2 == 1 {
         return Chosen::By(Side::Only(MatchType::MatchInput));
     }
-    side_by_lists(m1, m2)
+    side_by_lists(m1, m2, sigmas, ignored)
 }
 
 // The side of a composition of well-formed machines. Machine 1 is matched on outputs, 2 on inputs; a sigma label NO_LABEL means none.
-pub fn match_type(m1: &[u32], m2: &[u32], sigma1: Label, sigma2: Label) -> Chosen
+pub fn match_type(m1: &[u32], m2: &[u32], sigmas: Sigmas, ignored: &[u32]) -> Chosen
     requires { ⌜ (wellFormed (now m1) ≡ true) × (wellFormed (now m2) ≡ true) ⌝ }
-    ensures { λ r. ⌜ chosenMeans r ≡ sideOf (asOperand outputs (now (m1 .entry)) (sigma1 .0)) (asOperand inputs (now (m2 .entry)) (sigma2 .0)) ⌝ }
+    ensures { λ r. ⌜ (
+        let operand = asOperand outputs (readAs MatchOutput sigmas (now (ignored .entry)) (now (m1 .entry))) (sigmas .first .0) in
+        let operand2 = asOperand inputs (readAs MatchInput sigmas (now (ignored .entry)) (now (m2 .entry))) (sigmas .second .0) in
+        chosenMeans r ≡ sideOf operand operand2
+        ) ⌝ }
 {
+    let sigma1 = sigmas.first;
+    let sigma2 = sigmas.second;
     if has_eps(sigma1, sigma2) {
         return Chosen::Refused(REFUSED_SIGMA_EPS);
     }
-    if lacks_order(m1, MatchType::MatchOutput, sigma1) {
+    if lacks_order(m1, MatchType::MatchOutput, sigmas, ignored, sigma1) {
         return Chosen::Refused(REFUSED_UNSORTED_1);
     }
-    if lacks_order(m2, MatchType::MatchInput, sigma2) {
+    if lacks_order(m2, MatchType::MatchInput, sigmas, ignored, sigma2) {
         return Chosen::Refused(REFUSED_UNSORTED_2);
     }
-    side_by_marks(m1, m2)
+    side_by_marks(m1, m2, sigmas, ignored)
 }

@@ -15,6 +15,7 @@ use Rattle.fst.specs.Meaning.{onOf}
 use Rattle.fst.specs.declared.Label.{Label}
 use Rattle.fst.specs.declared.MatchType.{MatchType as On}
 use Rattle.fst.specs.declared.MatchType.the-variants.{MatchInput, MatchOutput}
+use Rattle.fst.specs.declared.Sigmas.{Sigmas as Labels}
 use Rattle.fst.specs.declared.StateId.{StateId}
 use Rattle.matchers.specs.Cursors.{recordsFrom, withLabel, head0, looked, movedTo, sigmaLeft, ownLeft, inPhase, matchesLeft, movedPast, cursorAfter, firstCursor}
 use Rattle.matchers.specs.Asking.{LookUp, placeOf, cursorWith, PlaceIn, Holds}
@@ -109,16 +110,16 @@ after-holds m s q c h = go (matchesLeft m c) (λ u i. left-in m s c u (h .tr) (h
     go (viaSigma t ∷ us) f = moved-holds m s q c Sigmas (nextOf m t) h (place-next m s (f (viaSigma t) (here refl)))
 
 -- so does the first cursor of a look-up
-pub first-holds : (m : List ℕ) (on : On) (s : StateId) (x sigma : Label) (both : Bool) (from : ℕ) (c : Cursor) → c ≡ firstCursor m on s x sigma both from → PlaceIn m (s .0) from
-    → Holds m (s .0) (record { on = onOf on; label = x .0; sigma = sigma .0; both = both }) c
-first-holds m on s x sigma both from c e a =
+pub first-holds : (m : List ℕ) (on : On) (labels : Labels) (s : StateId) (x sigma : Label) (both : Bool) (from : ℕ) (c : Cursor) → c ≡ firstCursor m on labels s x sigma both from → PlaceIn m (s .0) from
+    → Holds m (s .0) (record { on = onOf on; label = x .0; sigma = sigma .0; labels = labels; both = both }) c
+first-holds m on labels s x sigma both from c e a =
     rw e (record {
       whole = whole on;
       tr = begun (withLabel (onOf on) m (looked (x .0)) (firstOf m (s .0))) (λ u i. with-in _ m _ (s .0) (firstOf m (s .0)) (place-first m (s .0)) i);
       sigmas = a;
     })
   where
-    whole : (o : On) → firstCursor m o s x sigma both from ≡ cursorWith (record { on = onOf o; label = x .0; sigma = sigma .0; both = both }) (placeOf (firstCursor m o s x sigma both from))
+    whole : (o : On) → firstCursor m o labels s x sigma both from ≡ cursorWith (record { on = onOf o; label = x .0; sigma = sigma .0; labels = labels; both = both }) (placeOf (firstCursor m o labels s x sigma both from))
     whole MatchInput = refl
     whole MatchOutput = refl
 

@@ -11,7 +11,7 @@ use Rattle.words.specs.Labels.{epsLabel, noLabel}
 use Rattle.words.specs.Matches.{MatchType, Match, loop, own, viaSigma, Tr, trOf, labelled, sortedMatches}
 use Rattle.words.specs.Machines.{firstOf, machineOf}
 use Rattle.words.specs.Sigmas.{isAllowed, sigmaTrs, sigmaMatches}
-use Rattle.words.specs.Settings.{operandOf}
+use Rattle.words.specs.Settings.{operandBy}
 use Rattle.matchers.specs.Meaning.{Item, theLoop, whole, itemOf, sortedItems, standsFor}
 use Rattle.matchers.specs.Cursors.{withLabel, head0, looked}
 use Rattle.matchers.proofs.Seeks.{with-end, with-first, sought-again}
@@ -57,10 +57,10 @@ sorted-items on m s x rewritten = rw (← sorted-is on m s x) (go (eqb x epsLabe
     go false = along (labelled on (machineOf m) s (looked x))
 
 -- the sigma transitions, where sigma may stand for the label
-sigma-is : (on : MatchType) (m : List ℕ) (sigma mode : ℕ) (allowed : Option (List ℕ)) (s x : ℕ)
-    → map viaSigma (withLabel on m sigma (cond (standsFor sigma allowed x) (firstOf m s) 0)) ≡ sigmaMatches (operandOf on m sigma mode allowed) s x
+sigma-is : (on : MatchType) (m : List ℕ) (mark acceptor sigma mode : ℕ) (allowed : Option (List ℕ)) (s x : ℕ)
+    → map viaSigma (withLabel on m sigma (cond (standsFor sigma allowed x) (firstOf m s) 0)) ≡ sigmaMatches (operandBy on (machineOf m) mark acceptor sigma mode allowed) s x
 unfolding sigmaMatches sigmaTrs standsFor
-sigma-is on m sigma mode allowed s x = go (not (eqb sigma noLabel)) (not (eqb x epsLabel) && (not (eqb x noLabel) && isAllowed allowed x))
+sigma-is on m mark acceptor sigma mode allowed s x = go (not (eqb sigma noLabel)) (not (eqb x epsLabel) && (not (eqb x noLabel) && isAllowed allowed x))
   where
     go : (a b : Bool) → map viaSigma (withLabel on m sigma (cond (a && b) (firstOf m s) 0)) ≡ cond b (map viaSigma (cond a (labelled on (machineOf m) s sigma) [])) []
     go true true = rw (with-first on m sigma s)
@@ -69,8 +69,8 @@ sigma-is on m sigma mode allowed s x = go (not (eqb sigma noLabel)) (not (eqb x 
     go false false = rw (with-end on m sigma 0 refl)
 
 -- the sigma look-up's cursor
-pub sigma-start : (on : MatchType) (m : List ℕ) (sigma mode : ℕ) (allowed : Option (List ℕ)) (s x : ℕ)
+pub sigma-start : (on : MatchType) (m : List ℕ) (mark acceptor sigma mode : ℕ) (allowed : Option (List ℕ)) (s x : ℕ)
     → putIf (eqb x epsLabel) loop (map own (withLabel on m (looked x) (firstOwn on m s x)) ++ map viaSigma (withLabel on m sigma (cond (standsFor sigma allowed x) (firstOf m s) 0)))
-    ≡ sortedMatches on (machineOf m) s x ++ sigmaMatches (operandOf on m sigma mode allowed) s x
-sigma-start on m sigma mode allowed s x =
-    put-append (eqb x epsLabel) (map own (withLabel on m (looked x) (firstOwn on m s x))) _ ∙ ap₂ _++_ (own-is on m s x) (sigma-is on m sigma mode allowed s x)
+    ≡ sortedMatches on (machineOf m) s x ++ sigmaMatches (operandBy on (machineOf m) mark acceptor sigma mode allowed) s x
+sigma-start on m mark acceptor sigma mode allowed s x =
+    put-append (eqb x epsLabel) (map own (withLabel on m (looked x) (firstOwn on m s x))) _ ∙ ap₂ _++_ (own-is on m s x) (sigma-is on m mark acceptor sigma mode allowed s x)

@@ -15,6 +15,7 @@ use Rattle.words.specs.Sigmas.{Operand}
 use Rattle.words.specs.AsPapers.{edgeOf}
 use Rattle.fst.specs.declared.MatchType.{MatchType as On}
 use Rattle.fst.specs.declared.MatchType.the-variants.{MatchInput, MatchOutput}
+use Rattle.fst.specs.declared.Sigmas.{Sigmas}
 use Rattle.matchers.specs.Meaning.{Item}
 use Rattle.matchers.specs.Cursors.{givenBy, cursorOf}
 use Rattle.matchers.specs.declared.Phase.{Phase}
@@ -23,19 +24,21 @@ use Rattle.matchers.specs.declared.Step.{Step}
 use Rattle.matchers.specs.declared.sigma_matcher.SigmaIter.{SigmaIter}
 use Rattle.matchers.specs.declared.sigma_matcher.SigmaIter.the-variants.{At as From, Refused}
 
--- The settings of a look-up: the side on which the machine is matched, the label asked, the sigma label, and whether sigma is rewritten on both sides.
+-- The settings of a look-up: the side on which the machine is matched, the label asked, the sigma label, the sigma labels of both machines, and whether sigma is rewritten on
+-- both sides.
 pub record LookUp : Type 0 where
   pub on : MatchType
   pub label : ℕ
   pub sigma : ℕ
+  pub labels : Sigmas
   pub both : Bool
 
 -- those of the sorted look-up, which knows no sigma, and of the sigma look-up
-abbrev pub sortedLookUp : MatchType → ℕ → LookUp
-sortedLookUp on x = record { on = on; label = x; sigma = noLabel; both = false }
+abbrev pub sortedLookUp : MatchType → Sigmas → ℕ → LookUp
+sortedLookUp on labels x = record { on = on; label = x; sigma = noLabel; labels = labels; both = false }
 
-abbrev pub sigmaLookUp : Operand → ℕ → LookUp
-sigmaLookUp o x = record { on = o .on; label = x; sigma = o .sigma .label; both = o .sigma .rewriteBoth }
+abbrev pub sigmaLookUp : Operand → Sigmas → ℕ → LookUp
+sigmaLookUp o labels x = record { on = o .on; label = x; sigma = o .sigma .label; labels = labels; both = o .sigma .rewriteBoth }
 
 -- How far it has come: the phase, whether the loop comes next, the record from which the phase goes on, and the record from which sigma transitions are sought; 0 is no record.
 pub record Place : Type 0 where
@@ -58,6 +61,7 @@ cursorWith q p = record {
   on = sideIn (q .on);
   label = record { 0 = q .label };
   sigma = record { 0 = q .sigma };
+  labels = q .labels;
   both = q .both;
   phase = p .phase;
   loops = p .loops;

@@ -10,13 +10,14 @@ use Rattle.words.specs.Labels.{epsLabel, noLabel, Checked, good, refused}
 use Rattle.words.specs.Matches.{MatchType, labelOn, Match, loop, own, viaSigma}
 use Rattle.words.specs.Machines.{trCount, firstOf, nextOf, listFrom, machineOf}
 use Rattle.words.specs.Sigmas.{rewrite}
-use Rattle.fst.specs.Meaning.{onOf}
+use Rattle.fst.specs.Meaning.{onOf, readAs}
 use Rattle.fst.specs.declared.Label.{Label}
 use Rattle.fst.specs.declared.MatchType.{MatchType as On}
+use Rattle.fst.specs.declared.Sigmas.{Sigmas}
 use Rattle.fst.specs.declared.StateId.{StateId}
 use Rattle.matchers.specs.Meaning.{Item, matchMeans, itemOf}
 use Rattle.matchers.specs.declared.Phase.{Phase}
-use Rattle.matchers.specs.declared.Phase.the-variants.{Own, Sigmas}
+use Rattle.matchers.specs.declared.Phase.the-variants.{Own, Sigmas as Sigma}
 use Rattle.matchers.specs.declared.Cursor.{Cursor}
 use Rattle.matchers.specs.declared.Step.{Step}
 use Rattle.matchers.specs.declared.Step.the-variants.{Match as AMatch, End}
@@ -40,12 +41,17 @@ head0 (t ∷ ts) = t
 abbrev pub looked : ℕ → ℕ
 looked x = cond (eqb x noLabel) epsLabel x
 
+-- the words of a machine as a cursor reads them: with the labels replaced that the list and its sigma labels say, on its side
+abbrev pub heldWords : Cursor → (ignored m : List ℕ) → List ℕ
+heldWords c ignored m = readAs (c .on) (c .labels) ignored m
+
 -- the cursor in a phase, past the loop, at place t
 abbrev pub movedTo : Cursor → Phase → ℕ → Cursor
 movedTo c phase t = record {
   on = c .on;
   label = c .label;
   sigma = c .sigma;
+  labels = c .labels;
   both = c .both;
   phase = phase;
   loops = false;
@@ -64,7 +70,7 @@ ownLeft m c t = map own (withLabel (onOf (c .on)) m (looked (c .label .0)) t) ++
 -- by the phase, from the cursor's place on
 abbrev pub inPhase : Phase → List ℕ → Cursor → List Match
 inPhase Own m c = ownLeft m c (c .tr)
-inPhase Sigmas m c = sigmaLeft m c (c .tr)
+inPhase Sigma m c = sigmaLeft m c (c .tr)
 
 -- the matches that a cursor has still to give, in their order
 unfoldable pub matchesLeft : List ℕ → Cursor → List Match
@@ -105,10 +111,10 @@ stepMeans m r = record { given = givenBy r; left = itemsLeft m (cursorOf r) }
 -- Where a cursor stands once it was asked, by the first of the matches that it had to give: past the loop, at the place where it was; at the link of the record that was given, in that match's phase; and where
 -- there was none to give, at 0, the end.
 abbrev pub movedPast : List ℕ → Cursor → List Match → Cursor
-movedPast m c [] = movedTo c Sigmas 0
+movedPast m c [] = movedTo c Sigma 0
 movedPast m c (loop ∷ us) = movedTo c (c .phase) (c .tr)
 movedPast m c (own t ∷ us) = movedTo c Own (nextOf m t)
-movedPast m c (viaSigma t ∷ us) = movedTo c Sigmas (nextOf m t)
+movedPast m c (viaSigma t ∷ us) = movedTo c Sigma (nextOf m t)
 
 abbrev pub cursorAfter : List ℕ → Cursor → Cursor
 cursorAfter m c = movedPast m c (matchesLeft m c)
@@ -119,11 +125,12 @@ iterMeans m (From c) = good (itemsLeft m c)
 iterMeans m (Refused n) = refused n
 
 -- The first cursor of a look-up of the label x at state s: what is asked, the place of the first transition with the label, and the place from which sigma transitions are sought after it (0: from none).
-abbrev pub firstCursor : List ℕ → On → StateId → Label → Label → Bool → ℕ → Cursor
-firstCursor m on s x sigma both from = record {
+abbrev pub firstCursor : List ℕ → On → Sigmas → StateId → Label → Label → Bool → ℕ → Cursor
+firstCursor m on labels s x sigma both from = record {
   on = on;
   label = x;
   sigma = sigma;
+  labels = labels;
   both = both;
   phase = Own;
   loops = eqb (x .0) epsLabel;

@@ -7,9 +7,11 @@ use lib.Dec.{eqb}
 use Rattle.papers.specs.Machine.{Machine}
 use Rattle.words.specs.Labels.{epsLabel, noLabel, Checked, good, andThen}
 use Rattle.words.specs.Matches.{MatchType, Match, loop, own, viaSigma, Tr as Transition, trOf, sortedMatches}
-use Rattle.words.specs.Machines.{machineOf}
+use Rattle.words.specs.Machines.{sideMark, machineOf}
 use Rattle.words.specs.Sigmas.{isAllowed, Operand, lookup, rewrite}
+use Rattle.words.specs.Settings.{operandBy}
 use Rattle.fst.specs.Meaning.{trMeans}
+use Rattle.matchers.specs.declared.sigma_matcher.Sigma.{Sigma}
 use Rattle.matchers.specs.declared.IterItemMatcher.{IterItemMatcher}
 use Rattle.matchers.specs.declared.IterItemMatcher.the-variants.{EpsLoop, Tr}
 
@@ -41,6 +43,10 @@ lookupItems o s x = andThen (lookup o s x) (λ ms. good (map (itemOf (o .machine
 abbrev pub allowedOf : Bool → List ℕ → Option (List ℕ)
 allowedOf true xs = some xs
 allowedOf false xs = none
+
+-- a machine's words with the sigma settings of the code, and an allowed list
+abbrev pub operandIn : MatchType → List ℕ → Sigma → Option (List ℕ) → Operand
+operandIn on m sigma allowed = operandBy on (machineOf m) (sideMark on m) (sigma .acceptor) (sigma .label .0) (sigma .mode) allowed
 
 -- sigma is set, and may stand for x: "for a label neither 0 nor MAX and in the allowed list"
 unfoldable pub standsFor : ℕ → Option (List ℕ) → ℕ → Bool

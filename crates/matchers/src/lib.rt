@@ -4,12 +4,13 @@ mod sorted_matcher;
 
 ghost use mathlib.Core.Path.{_≡_};
 ghost use Rattle.words.specs.Sigmas.{replace as replaced, rewrite as rewritten};
-ghost use Rattle.fst.specs.Meaning.{onOf, trMeans};
-ghost use Rattle.matchers.specs.Cursors.{looked as lookedFor, withLabel, head0, movedTo, ownLeft, sigmaLeft, itemsOf, itemsLeft, asked, stepMeans, cursorOf, movedPast, cursorAfter};
+ghost use Rattle.fst.specs.Meaning.{onOf, trMeans, readAs};
+ghost use Rattle.matchers.specs.Cursors.{looked as lookedFor, heldWords, withLabel, head0, movedTo, ownLeft, sigmaLeft, itemsOf, itemsLeft, asked, stepMeans, cursorOf, movedPast, cursorAfter};
 use fst::EPS_LABEL;
 use fst::Label;
 use fst::MatchType;
 use fst::NO_LABEL;
+use fst::Sigmas;
 use fst::Tr;
 use fst::get_tr;
 use fst::inner_label;
@@ -40,6 +41,8 @@ pub struct Cursor {
     pub label: Label,
     // The sigma label; NO_LABEL: none.
     pub sigma: Label,
+    // Those of both machines: with the list of ignored labels they say which labels are replaced.
+    pub labels: Sigmas,
     // Sigma is rewritten on each side that holds it (rewrite_both of the Rust), or on the matched side alone.
     pub both: bool,
     pub phase: Phase,
@@ -69,15 +72,15 @@ pub fn looked(label: Label) -> Label
 }
 
 // The first record from t on that has the label on a side; 0: none.
-fn seek(m: &[u32], on: MatchType, label: Label, t: u32) -> u32
-    ensures { λ r. ⌜ r ≡ head0 (withLabel (onOf on) (now (m .entry)) (label .0) t) ⌝ }
+fn seek(m: &[u32], on: MatchType, sigmas: Sigmas, ignored: &[u32], label: Label, t: u32) -> u32
+    ensures { λ r. ⌜ r ≡ head0 (withLabel (onOf on) (readAs on sigmas (now (ignored .entry)) (now (m .entry))) (label .0) t) ⌝ }
 {
     if num_records(m) < t {
         return 0;
     }
     let mut at = t;
     while at != 0 {
-        let found = inner_label(m, on, at);
+        let found = inner_label(m, on, sigmas, ignored, at);
         if found.0 == label.0 {
             return at;
         }
@@ -134,10 +137,12 @@ fn moved(cursor: Cursor, phase: Phase, tr: u32) -> Cursor
     let on = cursor.on;
     let label = cursor.label;
     let sigma = cursor.sigma;
+    let labels = cursor.labels;
     Cursor {
         on,
         label,
         sigma,
+        labels,
         both: cursor.both,
         phase,
         loops: false,
@@ -147,17 +152,24 @@ fn moved(cursor: Cursor, phase: Phase, tr: u32) -> Cursor
 }
 
 // Phase Sigmas, from the cursor's place on.
-fn sigma_next(m: &[u32], cursor: Cursor) -> Step
-    ensures { λ r. ⌜ stepMeans (now (m .entry)) r ≡ asked (itemsOf (now (m .entry)) cursor (sigmaLeft (now (m .entry)) cursor (cursor .tr))) ⌝ }
-    ensures place { λ r. ⌜ cursorOf r ≡ movedPast (now (m .entry)) cursor (sigmaLeft (now (m .entry)) cursor (cursor .tr)) ⌝ }
+fn sigma_next(m: &[u32], cursor: Cursor, ignored: &[u32]) -> Step
+    ensures { λ r. ⌜ (
+        let words = heldWords cursor (now (ignored .entry)) (now (m .entry)) in
+        stepMeans words r ≡ asked (itemsOf words cursor (sigmaLeft words cursor (cursor .tr)))
+        ) ⌝ }
+    ensures place { λ r. ⌜ (
+        let words = heldWords cursor (now (ignored .entry)) (now (m .entry)) in
+        cursorOf r ≡ movedPast words cursor (sigmaLeft words cursor (cursor .tr))
+        ) ⌝ }
 {
     let on = cursor.on;
     let sigma = cursor.sigma;
-    let t = seek(m, on, sigma, cursor.tr);
+    let labels = cursor.labels;
+    let t = seek(m, on, labels, ignored, sigma, cursor.tr);
     if t == 0 {
         return Step::End(moved(cursor, Phase::Sigmas, 0));
     }
-    let found = rewrite(cursor, get_tr(m, on, t));
+    let found = rewrite(cursor, get_tr(m, on, labels, ignored, t));
     Step::Match(
         IterItemMatcher::Tr(found),
         moved(cursor, Phase::Sigmas, next_tr(m, t)),
@@ -165,17 +177,24 @@ fn sigma_next(m: &[u32], cursor: Cursor) -> Step
 }
 
 // Phase Own, from the cursor's place on; where it gives nothing more, phase Sigmas.
-fn own_next(m: &[u32], cursor: Cursor) -> Step
-    ensures { λ r. ⌜ stepMeans (now (m .entry)) r ≡ asked (itemsOf (now (m .entry)) cursor (ownLeft (now (m .entry)) cursor (cursor .tr))) ⌝ }
-    ensures place { λ r. ⌜ cursorOf r ≡ movedPast (now (m .entry)) cursor (ownLeft (now (m .entry)) cursor (cursor .tr)) ⌝ }
+fn own_next(m: &[u32], cursor: Cursor, ignored: &[u32]) -> Step
+    ensures { λ r. ⌜ (
+        let words = heldWords cursor (now (ignored .entry)) (now (m .entry)) in
+        stepMeans words r ≡ asked (itemsOf words cursor (ownLeft words cursor (cursor .tr)))
+        ) ⌝ }
+    ensures place { λ r. ⌜ (
+        let words = heldWords cursor (now (ignored .entry)) (now (m .entry)) in
+        cursorOf r ≡ movedPast words cursor (ownLeft words cursor (cursor .tr))
+        ) ⌝ }
 {
     let on = cursor.on;
     let label = cursor.label;
-    let t = seek(m, on, looked(label), cursor.tr);
+    let labels = cursor.labels;
+    let t = seek(m, on, labels, ignored, looked(label), cursor.tr);
     if t == 0 {
-        return sigma_next(m, moved(cursor, Phase::Sigmas, cursor.sigmas));
+        return sigma_next(m, moved(cursor, Phase::Sigmas, cursor.sigmas), ignored);
     }
-    let found = get_tr(m, on, t);
+    let found = get_tr(m, on, labels, ignored, t);
     Step::Match(
         IterItemMatcher::Tr(found),
         moved(cursor, Phase::Own, next_tr(m, t)),
@@ -183,17 +202,20 @@ fn own_next(m: &[u32], cursor: Cursor) -> Step
 }
 
 // The next match of a look-up, or the end. Asked on with the cursor that it answers, it gives each match once, in order, and then the end ever after.
-pub fn next_match(m: &[u32], cursor: Cursor) -> Step
-    ensures { λ r. ⌜ stepMeans (now (m .entry)) r ≡ asked (itemsLeft (now (m .entry)) cursor) ⌝ }
-    ensures place { λ r. ⌜ cursorOf r ≡ cursorAfter (now (m .entry)) cursor ⌝ }
+pub fn next_match(m: &[u32], cursor: Cursor, ignored: &[u32]) -> Step
+    ensures { λ r. ⌜ (
+        let words = heldWords cursor (now (ignored .entry)) (now (m .entry)) in
+        stepMeans words r ≡ asked (itemsLeft words cursor)
+        ) ⌝ }
+    ensures place { λ r. ⌜ cursorOf r ≡ cursorAfter (heldWords cursor (now (ignored .entry)) (now (m .entry))) cursor ⌝ }
 {
     let phase = cursor.phase;
     if cursor.loops {
         return Step::Match(IterItemMatcher::EpsLoop, moved(cursor, phase, cursor.tr));
     }
     match phase {
-        Phase::Own => own_next(m, cursor),
-        Phase::Sigmas => sigma_next(m, cursor),
+        Phase::Own => own_next(m, cursor, ignored),
+        Phase::Sigmas => sigma_next(m, cursor, ignored),
     }
 }
 
@@ -209,18 +231,27 @@ pub fn open<'a>(words: &'a [u32], cursor: Cursor) -> Matcher<'a>
     Matcher { words, cursor }
 }
 
-// `next_match` of what the reader holds. An enum holds no reference, so that the answer has the next cursor and not the next reader.
-pub fn next<'a>(r: Matcher<'a>) -> Step
-    ensures { λ s. ⌜ stepMeans (now (r .entry .words)) s ≡ asked (itemsLeft (now (r .entry .words)) (r .entry .cursor)) ⌝ }
-    ensures place { λ s. ⌜ cursorOf s ≡ cursorAfter (now (r .entry .words)) (r .entry .cursor) ⌝ }
+// `next_match` of what the reader holds. An enum holds no reference, so that the answer has the next cursor and not the next reader. The list of ignored labels is lent beside it.
+pub fn next<'a, 'b>(r: Matcher<'a>, ignored: &'b [u32]) -> Step
+    ensures { λ s. ⌜ (
+        let words = heldWords (r .entry .cursor) (now (ignored .entry)) (now (r .entry .words)) in
+        stepMeans words s ≡ asked (itemsLeft words (r .entry .cursor))
+        ) ⌝ }
+    ensures place { λ s. ⌜ (
+        let words = heldWords (r .entry .cursor) (now (ignored .entry)) (now (r .entry .words)) in
+        cursorOf s ≡ cursorAfter words (r .entry .cursor)
+        ) ⌝ }
 {
-    next_match(r.words, r.cursor)
+    next_match(r.words, r.cursor, ignored)
 }
 
 // The same with plain parameters, for the walk over the matches, whose own cursor outlives the reader.
-pub fn ask(words: &[u32], cursor: Cursor) -> Step
-    ensures { λ r. ⌜ stepMeans (now (words .entry)) r ≡ asked (itemsLeft (now (words .entry)) cursor) ⌝ }
-    ensures place { λ r. ⌜ cursorOf r ≡ cursorAfter (now (words .entry)) cursor ⌝ }
+pub fn ask(words: &[u32], cursor: Cursor, ignored: &[u32]) -> Step
+    ensures { λ r. ⌜ (
+        let held = heldWords cursor (now (ignored .entry)) (now (words .entry)) in
+        stepMeans held r ≡ asked (itemsLeft held cursor)
+        ) ⌝ }
+    ensures place { λ r. ⌜ cursorOf r ≡ cursorAfter (heldWords cursor (now (ignored .entry)) (now (words .entry))) cursor ⌝ }
 {
-    next(open(words, cursor))
+    next(open(words, cursor), ignored)
 }

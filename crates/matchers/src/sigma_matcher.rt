@@ -4,12 +4,12 @@ ghost use mathlib.Core.Bool.{not, _&&_, cond};
 ghost use mathlib.Core.Option.{none};
 ghost use lib.Dec.{eqb};
 ghost use Rattle.words.specs.Labels.{noLabel};
-ghost use Rattle.words.specs.Machines.{acceptorMark, firstOf};
+ghost use Rattle.words.specs.Machines.{firstOf};
 ghost use Rattle.words.specs.Sides.{nonEmpty};
 ghost use Rattle.words.specs.Sigmas.{isAllowed, rewritesBoth, sigmaTrs};
 ghost use Rattle.words.specs.Settings.{operandOf};
-ghost use Rattle.fst.specs.Meaning.{onOf};
-ghost use Rattle.matchers.specs.Meaning.{allowedOf, lookupItems, standsFor};
+ghost use Rattle.fst.specs.Meaning.{onOf, readAs};
+ghost use Rattle.matchers.specs.Meaning.{allowedOf, operandIn, lookupItems, standsFor};
 ghost use Rattle.matchers.specs.Cursors.{iterMeans, firstCursor, BeginsAt};
 use crate::Cursor;
 use crate::Phase;
@@ -20,9 +20,10 @@ use fst::Label;
 use fst::MatchType;
 use fst::NO_LABEL;
 use fst::REFUSED_WALKED_SIGMA;
+use fst::Sigmas;
 use fst::StateId;
-use fst::acceptor_mark;
 use fst::first_tr;
+use fst::has;
 
 // The sigma settings of a machine. The allowed list is lent beside them.
 pub struct Sigma {
@@ -32,6 +33,8 @@ pub struct Sigma {
     pub mode: u32,
     // Whether there is an allowed list; without one, every label is allowed.
     pub listed: bool,
+    // The acceptor mark of the machine as it is read.
+    pub acceptor: u32,
 }
 
 // The cursor of a look-up, or the number of the refusal.
@@ -57,12 +60,7 @@ fn is_match_label_allowed(listed: bool, allowed: &[u32], label: Label) -> bool
     if !listed {
         return true;
     }
-    for i in 0..allowed.len() {
-        if allowed[i] == label.0 {
-            return true;
-        }
-    }
-    false
+    has(allowed, label)
 }
 
 // Sigma is set, and may stand for the label.
@@ -93,12 +91,17 @@ fn sigma_from(sigma: Sigma, allowed: &[u32], label: Label, first: u32) -> u32
     }
 }
 
-// Whether sigma is rewritten on each side that holds it; mode as in `Sigma`.
-fn rewrites_both(m: &[u32], mode: u32) -> bool
-    ensures { λ r. ⌜ r ≡ rewritesBoth mode (acceptorMark (now (m .entry))) ⌝ }
+// Whether sigma is set, and is rewritten on each side that holds it.
+fn rewrites_both(sigma: Sigma) -> bool
+    ensures { λ r. ⌜ r ≡ (not (eqb (sigma .label .0) noLabel) && rewritesBoth (sigma .mode) (sigma .acceptor)) ⌝ }
 {
+    let named = sigma.label;
+    if named.0 == NO_LABEL.0 {
+        return false;
+    }
+    let mode = sigma.mode;
     match mode {
-        0 => acceptor_mark(m) == 1,
+        0 => sigma.acceptor == 1,
         1 => true,
         _ => false,
     }
@@ -108,20 +111,24 @@ fn rewrites_both(m: &[u32], mode: u32) -> bool
 pub fn sigma_iter(
     m: &[u32],
     on: MatchType,
+    sigmas: Sigmas,
+    ignored: &[u32],
     sigma: Sigma,
     allowed: &[u32],
     s: StateId,
     label: Label,
 ) -> SigmaIter
     ensures { λ r. ⌜ (
+        let words = readAs on sigmas (now (ignored .entry)) (now (m .entry)) in
         let allowed = allowedOf (sigma .listed) (now (allowed .entry)) in
-        let operand = operandOf (onOf on) (now (m .entry)) (sigma .label .0) (sigma .mode) allowed in
-        iterMeans (now (m .entry)) r ≡ lookupItems operand (s .0) (label .0)
+        let operand = operandIn (onOf on) words sigma allowed in
+        iterMeans words r ≡ lookupItems operand (s .0) (label .0)
         ) ⌝ }
     ensures place { λ r. ⌜ (
-        let both = rewritesBoth (sigma .mode) (acceptorMark (now (m .entry))) in
-        let from = cond (standsFor (sigma .label .0) (allowedOf (sigma .listed) (now (allowed .entry))) (label .0)) (firstOf (now (m .entry)) (s .0)) 0 in
-        BeginsAt r (firstCursor (now (m .entry)) on s label (sigma .label) both from)
+        let words = readAs on sigmas (now (ignored .entry)) (now (m .entry)) in
+        let both = operandIn (onOf on) words sigma none .sigma .rewriteBoth in
+        let from = cond (standsFor (sigma .label .0) (allowedOf (sigma .listed) (now (allowed .entry))) (label .0)) (firstOf words (s .0)) 0 in
+        BeginsAt r (firstCursor words on sigmas s label (sigma .label) both from)
         ) ⌝ }
 {
     let named = sigma.label;
@@ -129,26 +136,37 @@ pub fn sigma_iter(
         return SigmaIter::Refused(REFUSED_WALKED_SIGMA);
     }
     let first = first_tr(m, s);
-    let tr = seek(m, on, looked(label), first);
-    let sigmas = sigma_from(sigma, allowed, label, first);
+    let tr = seek(m, on, sigmas, ignored, looked(label), first);
+    let from = sigma_from(sigma, allowed, label, first);
     SigmaIter::At(Cursor {
         on,
         label,
         sigma: named,
-        both: rewrites_both(m, sigma.mode),
+        labels: sigmas,
+        both: rewrites_both(sigma),
         phase: Phase::Own,
         loops: label.0 == EPS_LABEL.0,
         tr,
-        sigmas,
+        sigmas: from,
     })
 }
 
 // Whether a state has a sigma transition, by matched label.
-pub fn has_sigma(m: &[u32], on: MatchType, sigma: Label, s: StateId) -> bool
-    ensures { λ r. ⌜ r ≡ nonEmpty (sigmaTrs (operandOf (onOf on) (now (m .entry)) (sigma .0) 0 none) (s .0)) ⌝ }
+pub fn has_sigma(
+    m: &[u32],
+    on: MatchType,
+    sigmas: Sigmas,
+    ignored: &[u32],
+    sigma: Label,
+    s: StateId,
+) -> bool
+    ensures { λ r. ⌜ (
+        let words = readAs on sigmas (now (ignored .entry)) (now (m .entry)) in
+        r ≡ nonEmpty (sigmaTrs (operandOf (onOf on) words (sigma .0) 0 none) (s .0))
+        ) ⌝ }
 {
     if sigma.0 == NO_LABEL.0 {
         return false;
     }
-    seek(m, on, sigma, first_tr(m, s)) != 0
+    seek(m, on, sigmas, ignored, sigma, first_tr(m, s)) != 0
 }

@@ -21,9 +21,9 @@ placeIn at line = record { at = at; begun = true; line = line }
 abbrev pub roomAt : ℕ → ℕ → ℕ
 roomAt n k = min 4096 (n - min (4096 * k) n)
 
--- a line has ended: the next one, or the next case after the sixth
+-- a line has ended: the next one, or the next case after the seventh
 abbrev pub placeEnded : Place → Place
-placeEnded p = cond (ltb (p .at) 5) (placeIn (p .at + 1) newLine) newPlace
+placeEnded p = cond (ltb (p .at) 6) (placeIn (p .at + 1) newLine) newPlace
 
 -- one byte more, with n words for the lines
 abbrev pub placeByte : ℕ → Place → ℕ → Place

@@ -15,7 +15,7 @@ use listing_read::step_byte;
 use store_records::store;
 
 // The lines of a case, and the words that there is room for in each.
-pub const LINES: usize = 6;
+pub const LINES: usize = 7;
 
 const ROOM: usize = MACHINE_WORDS;
 
@@ -79,17 +79,27 @@ fn answer(words: &[u32], ends: &[u32]) {
     let settings = words_of(words, ends, 1);
     let allowed1 = words_of(words, ends, 2);
     let allowed2 = words_of(words, ends, 3);
-    let m1 = words_of(words, ends, 4);
-    let m2 = words_of(words, ends, 5);
+    let ignored = words_of(words, ends, 4);
+    let m1 = words_of(words, ends, 5);
+    let m2 = words_of(words, ends, 6);
     let listed = AllowedLists {
         first: has_words(ends, 2),
         second: has_words(ends, 3),
     };
     let mut out = [0u8; 131200];
     if has_words(ends, 0) {
-        print_order(order, settings, m1, m2, allowed1, allowed2, listed);
+        print_order(order, settings, m1, m2, allowed1, allowed2, ignored, listed);
     } else {
-        let n = listing(settings, m1, m2, allowed1, allowed2, listed, &mut out);
+        let n = listing(
+            settings,
+            m1,
+            m2,
+            allowed1,
+            allowed2,
+            ignored,
+            listed,
+            &mut out,
+        );
         io::write_all(STDOUT_FILENO, &out[..n]);
     }
     io::write_all(STDOUT_FILENO, b"--\n");
@@ -103,14 +113,14 @@ fn end_of(line: LineReader) -> u32 {
     (line.count % 4294967296) as u32
 }
 
-// The line ends, as if a blank came: how many words it has is kept, and after the sixth line the case is answered.
+// The line ends, as if a blank came: how many words it has is kept, and after the seventh line the case is answered.
 fn end_line(place: Place, words: &mut [u32], ends: &mut [u32]) -> Place
     ensures { λ r. ⌜ r ≡ placeEnded place ⌝ }
 {
     let at = place.at;
     let line = step_byte(place.line, b' ', room_of(words, at));
     store(ends, at as usize, end_of(line));
-    if at < 5 {
+    if at < 6 {
         return Place {
             at: at + 1,
             begun: true,
@@ -151,7 +161,7 @@ pub fn read_bytes(start: Place, chunk: &[u8], words: &mut [u32], ends: &mut [u32
 // The input has ended: a case that was begun is answered, its missing lines being empty.
 pub fn finish(start: Place, words: &mut [u32], ends: &mut [u32]) {
     let mut place = start;
-    let mut left: u32 = 6;
+    let mut left: u32 = 7;
     while left > 0 {
         if !place.begun {
             return;

@@ -100,6 +100,7 @@ fn print_expanded(
     m2: &[u32],
     allowed1: &[u32],
     allowed2: &[u32],
+    ignored: &[u32],
     listed: AllowedLists,
     heads: &[u32],
     states: &[u32],
@@ -113,7 +114,18 @@ fn print_expanded(
     io::print_decimal(STDOUT_FILENO, n as u64);
     io::write_all(STDOUT_FILENO, b"\n");
     let s = StateId(n);
-    let records = session.records(m1, m2, allowed1, allowed2, listed, heads, states, trs, s);
+    let records = session.records(
+        m1,
+        m2,
+        allowed1,
+        allowed2,
+        ignored,
+        listed,
+        heads,
+        states,
+        trs,
+        s,
+    );
     print_records(line, records);
 }
 
@@ -124,6 +136,7 @@ fn expand(
     m2: &[u32],
     allowed1: &[u32],
     allowed2: &[u32],
+    ignored: &[u32],
     listed: AllowedLists,
     heads: &mut [u32],
     states: &mut [u32],
@@ -134,7 +147,18 @@ fn expand(
     requires { ⌜ 64 ≤ length (now line) ⌝ }
 {
     let s = StateId(n);
-    let answer = session.expand(m1, m2, allowed1, allowed2, listed, heads, states, trs, s);
+    let answer = session.expand(
+        m1,
+        m2,
+        allowed1,
+        allowed2,
+        ignored,
+        listed,
+        heads,
+        states,
+        trs,
+        s,
+    );
     match answer {
         PartAnswer::Refused(k, next) => {
             print_refused(line, k);
@@ -147,6 +171,7 @@ fn expand(
                 m2,
                 allowed1,
                 allowed2,
+                ignored,
                 listed,
                 heads,
                 states,
@@ -167,6 +192,7 @@ fn expand_all(
     m2: &[u32],
     allowed1: &[u32],
     allowed2: &[u32],
+    ignored: &[u32],
     listed: AllowedLists,
     heads: &mut [u32],
     states: &mut [u32],
@@ -186,6 +212,7 @@ fn expand_all(
             m2,
             allowed1,
             allowed2,
+            ignored,
             listed,
             heads,
             states,
@@ -204,6 +231,7 @@ fn print_states(
     m2: &[u32],
     allowed1: &[u32],
     allowed2: &[u32],
+    ignored: &[u32],
     listed: AllowedLists,
     heads: &[u32],
     states: &[u32],
@@ -221,6 +249,7 @@ fn print_states(
             m2,
             allowed1,
             allowed2,
+            ignored,
             listed,
             heads,
             states,
@@ -254,6 +283,7 @@ fn print_opened(
     m2: &[u32],
     allowed1: &[u32],
     allowed2: &[u32],
+    ignored: &[u32],
     listed: AllowedLists,
     heads: &mut [u32],
     states: &mut [u32],
@@ -270,6 +300,7 @@ fn print_opened(
         m2,
         allowed1,
         allowed2,
+        ignored,
         listed,
         heads,
         states,
@@ -282,6 +313,7 @@ fn print_opened(
         m2,
         allowed1,
         allowed2,
+        ignored,
         listed,
         heads,
         states,
@@ -300,6 +332,7 @@ fn print_in(
     m2: &[u32],
     allowed1: &[u32],
     allowed2: &[u32],
+    ignored: &[u32],
     listed: AllowedLists,
     heads: &mut [u32],
     states: &mut [u32],
@@ -315,6 +348,7 @@ fn print_in(
         m2,
         allowed1,
         allowed2,
+        ignored,
         listed,
         heads,
         states,
@@ -329,6 +363,7 @@ fn print_in(
             m2,
             allowed1,
             allowed2,
+            ignored,
             listed,
             heads,
             states,
@@ -346,6 +381,7 @@ pub fn print_order(
     m2: &[u32],
     allowed1: &[u32],
     allowed2: &[u32],
+    ignored: &[u32],
     listed: AllowedLists,
 ) {
     let mut line = [0u8; 64];
@@ -363,6 +399,7 @@ pub fn print_order(
         m2,
         allowed1,
         allowed2,
+        ignored,
         listed,
         &mut heads,
         &mut states,

@@ -1,4 +1,4 @@
--- The number of a refusal is from 1 to 13: so 0 says that a call is accepted.
+-- The number of a refusal is from 1 to 13, or 18: so 0 says that a call is accepted.
 use mathlib.Core.Path.{_≡_, refl}
 use mathlib.Core.Bool.{Bool, true, false, not, _&&_, _||_}
 use mathlib.Core.Option.{Option, none, some}
@@ -7,6 +7,7 @@ use native.Mathlib.Omega.{arith}
 use lib.Dec.{eqb, leb}
 use Rattle.words.specs.Labels.{epsLabel, Checked, good, refused, refuseIf, andThen}
 use Rattle.words.specs.Machines.{wellFormed}
+use Rattle.words.specs.Ignored.{ignoredOk}
 use Rattle.words.specs.Sides.{Side, sideBy, inOrder, sideOf, nonEmpty}
 use Rattle.words.specs.Sigmas.{Operand, isSet}
 use Rattle.words.specs.Steps.{Composition, Triple, stepsAt, startAt, finalAt}
@@ -20,14 +21,14 @@ use Rattle.calls.proofs.ExpandCases.{store-refusals, final-refusals}
 -- a value, or a refusal by a number of the table of "Answers"
 abbrev pub Numbered : {A : Type 0} → Checked A → Type 0
 Numbered (good a) = Unit {0}
-Numbered (refused n) = (1 ≤ n) × (n ≤ 13)
+Numbered (refused n) = (1 ≤ n) × (n ≤ 18)
 
 -- where each refusal has such a number
-by-number : {A : Type 0} (x : Checked A) → ((k : ℕ) → x ≡ refused k → (1 ≤ k) × (k ≤ 13)) → Numbered x
+by-number : {A : Type 0} (x : Checked A) → ((k : ℕ) → x ≡ refused k → (1 ≤ k) × (k ≤ 18)) → Numbered x
 by-number (good a) h = tt
 by-number (refused k) h = h k refl
 
-checked : {A : Type 0} (b : Bool) (n : ℕ) (rest : Checked A) → (1 ≤ n) × (n ≤ 13) → Numbered rest → Numbered (refuseIf b n rest)
+checked : {A : Type 0} (b : Bool) (n : ℕ) (rest : Checked A) → (1 ≤ n) × (n ≤ 18) → Numbered rest → Numbered (refuseIf b n rest)
 checked true n rest h r = h
 checked false n rest h r = r
 
@@ -53,10 +54,11 @@ side-numbered s l =
     checked (not (settingsOk s)) 1 _ (omega arith, omega arith)
     (checked (not (wellFormed (l .m1))) 2 _ (omega arith, omega arith)
     (checked (not (wellFormed (l .m2))) 3 _ (omega arith, omega arith)
+    (checked (not (ignoredOk (l .ignored))) 18 _ (omega arith, omega arith)
     (checked (eqb (A .sigma .label) epsLabel || eqb (B .sigma .label) epsLabel) 4 _ (omega arith, omega arith)
     (checked (isSet (A .sigma) && not (inOrder A)) 5 _ (omega arith, omega arith)
     (checked (isSet (B .sigma) && not (inOrder B)) 6 _ (omega arith, omega arith)
-    (side-by (eqb (A .mark) 1) (eqb (B .mark) 1) (inOrder A) (inOrder B)))))))
+    (side-by (eqb (A .mark) 1) (eqb (B .mark) 1) (inOrder A) (inOrder B))))))))
   where
     A : Operand
     A = operand1 s l
@@ -97,7 +99,7 @@ expand-numbered l s m n =
     by-mark : (c : Composition) → entered l s m ≡ good c → (b : Bool) → Numbered (expandBy c s m n b)
     by-mark c e true = tt
     by-mark c e false =
-        and-then (storeSteps (storeOf s m) (stepsAt c t)) _ (by-number (storeSteps (storeOf s m) (stepsAt c t)) (λ k x. let z = store-refusals l s m c e (storeOf s m) t k x in (omega (arith, z .0), z .1))) (λ d x. tt)
+        and-then (storeSteps (storeOf s m) (stepsAt c t)) _ (by-number (storeSteps (storeOf s m) (stepsAt c t)) (λ k x. let z = store-refusals l s m c e (storeOf s m) t k x in (omega (arith, z .0), omega (arith, z .1)))) (λ d x. tt)
 
 pub final-numbered : (l : Lent) (s : Session) (m : Memory) (n : ℕ) → Numbered (finalWeightOf l s m n .answer)
 unfolding finalWeightWith

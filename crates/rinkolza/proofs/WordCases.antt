@@ -12,6 +12,7 @@ use Rattle.lists.specs.Lists.{keepIf, every, interval, put, first, linked}
 use Rattle.words.specs.Weights.{times, isZero}
 use Rattle.words.specs.Matches.{labelled, sortedMatches}
 use Rattle.words.specs.Machines.{stateCount, trCount, startWord, sideMark, acceptorMark, stateWord, trWord, firstOk, nextOk, firstOf, nextOf, listBy, listFrom, listOf, noFall, sorted, stateOk, trOk, acceptor, marksOk, sizeUpTo, wellFormedUpTo}
+use Rattle.words.specs.Ignored.{heard, ignoredOk}
 use Rattle.words.specs.Sides.{sideOf, directionAt}
 use Rattle.words.specs.Filters.{noneAt, allAt}
 use Rattle.words.specs.Sigmas.{has, sigmaTrs, sigmaMatches, lookup, given}
@@ -68,5 +69,5 @@ pub star-1 : lefts (lend example1 example2) (replicate 9 7) before calls
     ∷ says 0 0 0 ∷ says 0 1 3 ∷ says 9 7 7
     ∷ says 0 1 1 ∷ says 0 2 1 ∷ says 0 3 1 ∷ says 0 0 0 ∷ says 0 0 0
     ∷ says 0 3 1 ∷ says 9 7 7 ∷ []
-unfolding openWords expandWords finalWeightWords runWords recordsWords lefts recordsWith runWith runFromWith finalWeightWith expandWith expansionWith storeStepsWith storeStepWith reachWith openWith begunWith cleared enteredAtWith enteredWith sessionOkWith sideForWith formOkWith trFormOk stateFormOkWith expandedOkWith tripleOkWith headsOk fitsWith partWith markWith append addWith findWith sameTriple chainWith headOf slot trNextAt targetAt fieldOf nextWith firstWith expandedWith tripleAt trRoomWith stateRoomWith roomWith put first linked settingsOk wellFormedUpTo sizeUpTo stateOk trOk marksOk acceptor startAt finalAt isZero times stepsAt stepOf given keptAt keptAlong flatMap walk lookup has sigmaTrs sigmaMatches labelled keepIf sortedMatches noneAt allAt every directionAt sideOf sorted noFall interval sideMark acceptorMark stateCount trCount startWord stateWord trWord firstOk nextOk firstOf nextOf listBy listFrom listOf
+unfolding openWords expandWords finalWeightWords runWords recordsWords lefts recordsWith runWith runFromWith finalWeightWith expandWith expansionWith storeStepsWith storeStepWith reachWith openWith begunWith cleared enteredAtWith enteredWith sessionOkWith sideForWith formOkWith trFormOk stateFormOkWith expandedOkWith tripleOkWith headsOk fitsWith partWith markWith append addWith findWith sameTriple chainWith headOf slot trNextAt targetAt fieldOf nextWith firstWith expandedWith tripleAt trRoomWith stateRoomWith roomWith put first linked settingsOk wellFormedUpTo sizeUpTo stateOk trOk marksOk acceptor startAt finalAt isZero times stepsAt stepOf given keptAt keptAlong flatMap walk lookup has sigmaTrs sigmaMatches labelled keepIf sortedMatches noneAt allAt every directionAt sideOf sorted noFall interval sideMark acceptorMark stateCount trCount startWord stateWord trWord firstOk nextOk firstOf nextOf listBy listFrom listOf heard ignoredOk
 star-1 = refl

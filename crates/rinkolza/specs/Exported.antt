@@ -40,8 +40,8 @@ two w = eqb (length w) 2
 abbrev pub listedBy : ℕ → ℕ → AllowedLists
 listedBy has1 has2 = record { first = not (eqb has1 0); second = not (eqb has2 0) }
 
-abbrev pub lentWords : (m1 m2 allowed1 : List ℕ) → ℕ → List ℕ → ℕ → Lent
-lentWords m1 m2 allowed1 has1 allowed2 has2 = lentWith m1 m2 allowed1 allowed2 (listedBy has1 has2)
+abbrev pub lentWords : (m1 m2 allowed1 : List ℕ) → ℕ → List ℕ → ℕ → (ignored : List ℕ) → Lent
+lentWords m1 m2 allowed1 has1 allowed2 has2 ignored = lentWith m1 m2 allowed1 allowed2 ignored (listedBy has1 has2)
 
 -- What an exported call leaves: the number it returns, the session's words, the answer's words, the three slices. Opening and run have no answer's words.
 pub record Left : Type 0 where

@@ -39,13 +39,14 @@ pub extern "C" fn rinkolza_fan_out(
     has1: u32,
     allowed2: &[u32],
     has2: u32,
+    ignored: &[u32],
     machine: u32,
     state: u32,
     label: u32,
     answer: &mut [u32],
 ) -> u32
     ensures { λ r. ⌜ (
-        let l = lentWords (now (m1 .entry)) (now (m2 .entry)) (now (allowed1 .entry)) has1 (now (allowed2 .entry)) has2 in
+        let l = lentWords (now (m1 .entry)) (now (m2 .entry)) (now (allowed1 .entry)) has1 (now (allowed2 .entry)) has2 (now (ignored .entry)) in
         countLeft r (now (answer .exit)) ≡ fanOutWords (now (settings .entry)) l machine state label (now (answer .entry))
         ) ⌝ }
 {
@@ -63,6 +64,7 @@ pub extern "C" fn rinkolza_fan_out(
         m2,
         allowed1,
         allowed2,
+        ignored,
         listed,
         machine,
         StateId(state),

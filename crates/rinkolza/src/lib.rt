@@ -35,12 +35,13 @@ pub extern "C" fn rinkolza_open(
     has1: u32,
     allowed2: &[u32],
     has2: u32,
+    ignored: &[u32],
     heads: &mut [u32],
     states: &mut [u32],
     trs: &mut [u32],
 ) -> u32
     ensures { λ r. ⌜ (
-        let l = lentWords (now (m1 .entry)) (now (m2 .entry)) (now (allowed1 .entry)) has1 (now (allowed2 .entry)) has2 in
+        let l = lentWords (now (m1 .entry)) (now (m2 .entry)) (now (allowed1 .entry)) has1 (now (allowed2 .entry)) has2 (now (ignored .entry)) in
         let m = memoryOf (now (heads .entry)) (now (states .entry)) (now (trs .entry)) in
         let m′ = memoryOf (now (heads .exit)) (now (states .exit)) (now (trs .exit)) in
         leaves r (now (session .exit)) [] m′ ≡ openWords (now (settings .entry)) l (now (session .entry)) m
@@ -61,6 +62,7 @@ pub extern "C" fn rinkolza_open(
         m2,
         allowed1,
         allowed2,
+        ignored,
         listed,
         heads,
         states,
@@ -79,6 +81,7 @@ pub extern "C" fn rinkolza_expand(
     has1: u32,
     allowed2: &[u32],
     has2: u32,
+    ignored: &[u32],
     heads: &mut [u32],
     states: &mut [u32],
     trs: &mut [u32],
@@ -86,7 +89,7 @@ pub extern "C" fn rinkolza_expand(
     answer: &mut [u32],
 ) -> u32
     ensures { λ r. ⌜ (
-        let l = lentWords (now (m1 .entry)) (now (m2 .entry)) (now (allowed1 .entry)) has1 (now (allowed2 .entry)) has2 in
+        let l = lentWords (now (m1 .entry)) (now (m2 .entry)) (now (allowed1 .entry)) has1 (now (allowed2 .entry)) has2 (now (ignored .entry)) in
         let m = memoryOf (now (heads .entry)) (now (states .entry)) (now (trs .entry)) in
         let m′ = memoryOf (now (heads .exit)) (now (states .exit)) (now (trs .exit)) in
         leaves r (now (session .exit)) (now (answer .exit)) m′ ≡ expandWords l (now (session .entry)) (now (answer .entry)) m n
@@ -102,6 +105,7 @@ pub extern "C" fn rinkolza_expand(
         m2,
         allowed1,
         allowed2,
+        ignored,
         listed,
         heads,
         states,
@@ -121,6 +125,7 @@ pub extern "C" fn rinkolza_final_weight(
     has1: u32,
     allowed2: &[u32],
     has2: u32,
+    ignored: &[u32],
     heads: &[u32],
     states: &[u32],
     trs: &[u32],
@@ -128,7 +133,7 @@ pub extern "C" fn rinkolza_final_weight(
     answer: &mut [u32],
 ) -> u32
     ensures { λ r. ⌜ (
-        let l = lentWords (now (m1 .entry)) (now (m2 .entry)) (now (allowed1 .entry)) has1 (now (allowed2 .entry)) has2 in
+        let l = lentWords (now (m1 .entry)) (now (m2 .entry)) (now (allowed1 .entry)) has1 (now (allowed2 .entry)) has2 (now (ignored .entry)) in
         let m = memoryOf (now (heads .entry)) (now (states .entry)) (now (trs .entry)) in
         leaves r (now (session .entry)) (now (answer .exit)) m ≡ finalWeightWords l (now (session .entry)) (now (answer .entry)) m n
         ) ⌝ }
@@ -143,6 +148,7 @@ pub extern "C" fn rinkolza_final_weight(
         m2,
         allowed1,
         allowed2,
+        ignored,
         listed,
         heads,
         states,
@@ -162,12 +168,13 @@ pub extern "C" fn rinkolza_run(
     has1: u32,
     allowed2: &[u32],
     has2: u32,
+    ignored: &[u32],
     heads: &mut [u32],
     states: &mut [u32],
     trs: &mut [u32],
 ) -> u32
     ensures { λ r. ⌜ (
-        let l = lentWords (now (m1 .entry)) (now (m2 .entry)) (now (allowed1 .entry)) has1 (now (allowed2 .entry)) has2 in
+        let l = lentWords (now (m1 .entry)) (now (m2 .entry)) (now (allowed1 .entry)) has1 (now (allowed2 .entry)) has2 (now (ignored .entry)) in
         let m = memoryOf (now (heads .entry)) (now (states .entry)) (now (trs .entry)) in
         let m′ = memoryOf (now (heads .exit)) (now (states .exit)) (now (trs .exit)) in
         leaves r (now (session .exit)) [] m′ ≡ runWords l (now (session .entry)) m
@@ -178,7 +185,17 @@ pub extern "C" fn rinkolza_run(
     }
     let given = read_session(session);
     let listed = listed_by(has1, has2);
-    let answer = given.run(m1, m2, allowed1, allowed2, listed, heads, states, trs);
+    let answer = given.run(
+        m1,
+        m2,
+        allowed1,
+        allowed2,
+        ignored,
+        listed,
+        heads,
+        states,
+        trs,
+    );
     leave(session, answer)
 }
 
@@ -192,6 +209,7 @@ pub extern "C" fn rinkolza_records(
     has1: u32,
     allowed2: &[u32],
     has2: u32,
+    ignored: &[u32],
     heads: &[u32],
     states: &[u32],
     trs: &[u32],
@@ -199,7 +217,7 @@ pub extern "C" fn rinkolza_records(
     answer: &mut [u32],
 )
     ensures { λ _. ⌜ (
-        let l = lentWords (now (m1 .entry)) (now (m2 .entry)) (now (allowed1 .entry)) has1 (now (allowed2 .entry)) has2 in
+        let l = lentWords (now (m1 .entry)) (now (m2 .entry)) (now (allowed1 .entry)) has1 (now (allowed2 .entry)) has2 (now (ignored .entry)) in
         let m = memoryOf (now (heads .entry)) (now (states .entry)) (now (trs .entry)) in
         now (answer .exit) ≡ recordsWords l (now (session .entry)) (now (answer .entry)) m n
         ) ⌝ }
@@ -218,6 +236,7 @@ pub extern "C" fn rinkolza_records(
         m2,
         allowed1,
         allowed2,
+        ignored,
         listed,
         heads,
         states,

@@ -35,6 +35,7 @@ pub extern "C" fn rinkolza_trusted_expand(
     has1: u32,
     allowed2: &[u32],
     has2: u32,
+    ignored: &[u32],
     heads: &mut [u32],
     states: &mut [u32],
     trs: &mut [u32],
@@ -44,24 +45,24 @@ pub extern "C" fn rinkolza_trusted_expand(
     answer: &mut [u32],
 ) -> u32
     requires { ⌜ (
-        let l = lentWords (now m1) (now m2) (now allowed1) has1 (now allowed2) has2 in
+        let l = lentWords (now m1) (now m2) (now allowed1) has1 (now allowed2) has2 (now ignored) in
         (nine (now session) ≡ true → Passes l (sessionAt (now session)) (memoryOf (now heads) (now states) (now trs)))
         × Memos l (now session) (now memo1) (now memo2)
         ) ⌝ }
     ensures { λ r. ⌜ (
-        let l = lentWords (now (m1 .entry)) (now (m2 .entry)) (now (allowed1 .entry)) has1 (now (allowed2 .entry)) has2 in
+        let l = lentWords (now (m1 .entry)) (now (m2 .entry)) (now (allowed1 .entry)) has1 (now (allowed2 .entry)) has2 (now (ignored .entry)) in
         let m = memoryOf (now (heads .entry)) (now (states .entry)) (now (trs .entry)) in
         let m′ = memoryOf (now (heads .exit)) (now (states .exit)) (now (trs .exit)) in
         leaves r (now (session .exit)) (now (answer .exit)) m′ ≡ expandWords l (now (session .entry)) (now (answer .entry)) m n
         ) ⌝ }
     ensures asked { λ _. ⌜ (
-        let l = lentWords (now (m1 .entry)) (now (m2 .entry)) (now (allowed1 .entry)) has1 (now (allowed2 .entry)) has2 in
+        let l = lentWords (now (m1 .entry)) (now (m2 .entry)) (now (allowed1 .entry)) has1 (now (allowed2 .entry)) has2 (now (ignored .entry)) in
         let m = memoryOf (now (heads .entry)) (now (states .entry)) (now (trs .entry)) in
         (now (memo1 .exit) ≡ expandMemo outputs l (now (session .entry)) (now (answer .entry)) m n (now (memo1 .entry)))
         × (now (memo2 .exit) ≡ expandMemo inputs l (now (session .entry)) (now (answer .entry)) m n (now (memo2 .entry)))
         ) ⌝ }
     ensures remembered { λ _. ⌜ (
-        let l = lentWords (now (m1 .entry)) (now (m2 .entry)) (now (allowed1 .entry)) has1 (now (allowed2 .entry)) has2 in
+        let l = lentWords (now (m1 .entry)) (now (m2 .entry)) (now (allowed1 .entry)) has1 (now (allowed2 .entry)) has2 (now (ignored .entry)) in
         Memos l (now (session .entry)) (now (memo1 .exit)) (now (memo2 .exit))
         ) ⌝ }
 {
@@ -75,6 +76,7 @@ pub extern "C" fn rinkolza_trusted_expand(
         m2,
         allowed1,
         allowed2,
+        ignored,
         listed,
         heads,
         states,
@@ -96,6 +98,7 @@ pub extern "C" fn rinkolza_trusted_final_weight(
     has1: u32,
     allowed2: &[u32],
     has2: u32,
+    ignored: &[u32],
     heads: &[u32],
     states: &[u32],
     trs: &[u32],
@@ -103,11 +106,11 @@ pub extern "C" fn rinkolza_trusted_final_weight(
     answer: &mut [u32],
 ) -> u32
     requires { ⌜ (
-        let l = lentWords (now m1) (now m2) (now allowed1) has1 (now allowed2) has2 in
+        let l = lentWords (now m1) (now m2) (now allowed1) has1 (now allowed2) has2 (now ignored) in
         nine (now session) ≡ true → Passes l (sessionAt (now session)) (memoryOf (now heads) (now states) (now trs))
         ) ⌝ }
     ensures { λ r. ⌜ (
-        let l = lentWords (now (m1 .entry)) (now (m2 .entry)) (now (allowed1 .entry)) has1 (now (allowed2 .entry)) has2 in
+        let l = lentWords (now (m1 .entry)) (now (m2 .entry)) (now (allowed1 .entry)) has1 (now (allowed2 .entry)) has2 (now (ignored .entry)) in
         let m = memoryOf (now (heads .entry)) (now (states .entry)) (now (trs .entry)) in
         leaves r (now (session .entry)) (now (answer .exit)) m ≡ finalWeightWords l (now (session .entry)) (now (answer .entry)) m n
         ) ⌝ }
@@ -122,6 +125,7 @@ pub extern "C" fn rinkolza_trusted_final_weight(
         m2,
         allowed1,
         allowed2,
+        ignored,
         listed,
         heads,
         states,
@@ -141,17 +145,18 @@ pub extern "C" fn rinkolza_trusted_final_weights(
     has1: u32,
     allowed2: &[u32],
     has2: u32,
+    ignored: &[u32],
     heads: &[u32],
     states: &[u32],
     trs: &[u32],
     answer: &mut [u32],
 ) -> u32
     requires { ⌜ (
-        let l = lentWords (now m1) (now m2) (now allowed1) has1 (now allowed2) has2 in
+        let l = lentWords (now m1) (now m2) (now allowed1) has1 (now allowed2) has2 (now ignored) in
         nine (now session) ≡ true → Passes l (sessionAt (now session)) (memoryOf (now heads) (now states) (now trs))
         ) ⌝ }
     ensures { λ r. ⌜ (
-        let l = lentWords (now (m1 .entry)) (now (m2 .entry)) (now (allowed1 .entry)) has1 (now (allowed2 .entry)) has2 in
+        let l = lentWords (now (m1 .entry)) (now (m2 .entry)) (now (allowed1 .entry)) has1 (now (allowed2 .entry)) has2 (now (ignored .entry)) in
         let m = memoryOf (now (heads .entry)) (now (states .entry)) (now (trs .entry)) in
         leaves r (now (session .entry)) (now (answer .exit)) m ≡ finalWeightsWords l (now (session .entry)) (now (answer .entry)) m
         ) ⌝ }
@@ -171,6 +176,7 @@ pub extern "C" fn rinkolza_trusted_final_weights(
         m2,
         allowed1,
         allowed2,
+        ignored,
         listed,
         heads,
         states,
@@ -193,6 +199,7 @@ pub extern "C" fn rinkolza_trusted_run(
     has1: u32,
     allowed2: &[u32],
     has2: u32,
+    ignored: &[u32],
     heads: &mut [u32],
     states: &mut [u32],
     trs: &mut [u32],
@@ -203,24 +210,24 @@ pub extern "C" fn rinkolza_trusted_run(
     answer: &mut [u32],
 ) -> u32
     requires { ⌜ (
-        let l = lentWords (now m1) (now m2) (now allowed1) has1 (now allowed2) has2 in
+        let l = lentWords (now m1) (now m2) (now allowed1) has1 (now allowed2) has2 (now ignored) in
         (nine (now session) ≡ true → Passes l (sessionAt (now session)) (memoryOf (now heads) (now states) (now trs)))
         × Memos l (now session) (now memo1) (now memo2)
         ) ⌝ }
     ensures { λ r. ⌜ (
-        let l = lentWords (now (m1 .entry)) (now (m2 .entry)) (now (allowed1 .entry)) has1 (now (allowed2 .entry)) has2 in
+        let l = lentWords (now (m1 .entry)) (now (m2 .entry)) (now (allowed1 .entry)) has1 (now (allowed2 .entry)) has2 (now (ignored .entry)) in
         let m = memoryOf (now (heads .entry)) (now (states .entry)) (now (trs .entry)) in
         let m′ = memoryOf (now (heads .exit)) (now (states .exit)) (now (trs .exit)) in
         leaves r (now (session .exit)) (now (answer .exit)) m′ ≡ pieceWords l (now (session .entry)) (now (answer .entry)) m n k
         ) ⌝ }
     ensures asked { λ _. ⌜ (
-        let l = lentWords (now (m1 .entry)) (now (m2 .entry)) (now (allowed1 .entry)) has1 (now (allowed2 .entry)) has2 in
+        let l = lentWords (now (m1 .entry)) (now (m2 .entry)) (now (allowed1 .entry)) has1 (now (allowed2 .entry)) has2 (now (ignored .entry)) in
         let m = memoryOf (now (heads .entry)) (now (states .entry)) (now (trs .entry)) in
         (now (memo1 .exit) ≡ pieceMemo outputs l (now (session .entry)) (now (answer .entry)) m n k (now (memo1 .entry)))
         × (now (memo2 .exit) ≡ pieceMemo inputs l (now (session .entry)) (now (answer .entry)) m n k (now (memo2 .entry)))
         ) ⌝ }
     ensures remembered { λ _. ⌜ (
-        let l = lentWords (now (m1 .entry)) (now (m2 .entry)) (now (allowed1 .entry)) has1 (now (allowed2 .entry)) has2 in
+        let l = lentWords (now (m1 .entry)) (now (m2 .entry)) (now (allowed1 .entry)) has1 (now (allowed2 .entry)) has2 (now (ignored .entry)) in
         Memos l (now (session .entry)) (now (memo1 .exit)) (now (memo2 .exit))
         ) ⌝ }
 {
@@ -234,6 +241,7 @@ pub extern "C" fn rinkolza_trusted_run(
         m2,
         allowed1,
         allowed2,
+        ignored,
         listed,
         heads,
         states,
@@ -258,6 +266,7 @@ pub extern "C" fn rinkolza_trusted_records(
     has1: u32,
     allowed2: &[u32],
     has2: u32,
+    ignored: &[u32],
     heads: &[u32],
     states: &[u32],
     trs: &[u32],
@@ -265,11 +274,11 @@ pub extern "C" fn rinkolza_trusted_records(
     answer: &mut [u32],
 )
     requires { ⌜ (
-        let l = lentWords (now m1) (now m2) (now allowed1) has1 (now allowed2) has2 in
+        let l = lentWords (now m1) (now m2) (now allowed1) has1 (now allowed2) has2 (now ignored) in
         nine (now session) ≡ true → Passes l (sessionAt (now session)) (memoryOf (now heads) (now states) (now trs))
         ) ⌝ }
     ensures { λ _. ⌜ (
-        let l = lentWords (now (m1 .entry)) (now (m2 .entry)) (now (allowed1 .entry)) has1 (now (allowed2 .entry)) has2 in
+        let l = lentWords (now (m1 .entry)) (now (m2 .entry)) (now (allowed1 .entry)) has1 (now (allowed2 .entry)) has2 (now (ignored .entry)) in
         let m = memoryOf (now (heads .entry)) (now (states .entry)) (now (trs .entry)) in
         now (answer .exit) ≡ recordsWords l (now (session .entry)) (now (answer .entry)) m n
         ) ⌝ }
@@ -288,6 +297,7 @@ pub extern "C" fn rinkolza_trusted_records(
         m2,
         allowed1,
         allowed2,
+        ignored,
         listed,
         heads,
         states,

@@ -19,9 +19,9 @@ use Rattle.session_checks.specs.declared.Settings.{Settings}
 abbrev pub settingsMeans : Settings → Six
 settingsMeans s = record { kind = s .kind; filter = s .filter; sigma1 = s .sigma1 .0; mode1 = s .mode1; sigma2 = s .sigma2 .0; mode2 = s .mode2 }
 
--- the two machines and their allowed lists
-abbrev pub lentSlices : List ℕ → List ℕ → Option (List ℕ) → Option (List ℕ) → Lent
-lentSlices m1 m2 allowed1 allowed2 = record { m1 = m1; m2 = m2; allowed1 = allowed1; allowed2 = allowed2 }
+-- the two machines, their allowed lists, and the ignored labels
+abbrev pub lentSlices : List ℕ → List ℕ → Option (List ℕ) → Option (List ℕ) → List ℕ → Lent
+lentSlices m1 m2 allowed1 allowed2 ignored = record { m1 = m1; m2 = m2; allowed1 = allowed1; allowed2 = allowed2; ignored = ignored }
 
 -- a session of its parts
 abbrev pub sessionOf : Six → ℕ → Used → Session

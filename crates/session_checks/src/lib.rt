@@ -3,18 +3,24 @@ ghost use mathlib.Core.Path.{_≡_};
 ghost use mathlib.Core.List.{List};
 ghost use mathlib.Core.Option.{Option};
 ghost use Prim.Native.Nat.{ℕ};
+ghost use Rattle.words.specs.Ignored.{ignoredOk};
 ghost use Rattle.words.specs.Settings.{Settings as Six, settingsOk};
 ghost use Rattle.calls.specs.Listing.{settingsOf};
 ghost use Rattle.calls.specs.Checks.{sideNumber, sideFor, sessionOk, entered};
 ghost use Rattle.match_type.specs.Chosen.{sideMeans, chosenMeans};
 ghost use Rattle.store_records.specs.Meaning.{memoryOf};
 ghost use Rattle.session_checks.specs.Meaning.{settingsMeans, lentSlices, sessionOf, enteredMeans, sideNumbered};
+use fst::EPS_LABEL;
 use fst::Label;
 use fst::MatchType;
+use fst::NO_LABEL;
+use fst::REFUSED_IGNORED;
 use fst::REFUSED_MACHINE_1;
 use fst::REFUSED_MACHINE_2;
 use fst::REFUSED_SESSION;
 use fst::REFUSED_SETTINGS;
+use fst::Sigmas;
+use fst::has;
 use fst::num_states;
 use fst::word;
 use fst_properties::well_formed;
@@ -100,11 +106,21 @@ pub fn side_of(number: u32) -> Side
     }
 }
 
-// Checks 1 to 7 in their order; where none stands, the side of the rule. Allowed lists play no part.
-pub fn side_for(settings: Settings, m1: &[u32], m2: &[u32]) -> Chosen
+// Whether the list of ignored labels holds neither 0 nor MAX.
+fn ignored_ok(ignored: &[u32]) -> bool
+    ensures { λ r. ⌜ r ≡ ignoredOk (now (ignored .entry)) ⌝ }
+{
+    if has(ignored, EPS_LABEL) {
+        return false;
+    }
+    !has(ignored, NO_LABEL)
+}
+
+// Checks 1 to 7 in their order, with 18 after 3; where none stands, the side of the rule. Allowed lists play no part.
+pub fn side_for(settings: Settings, m1: &[u32], m2: &[u32], ignored: &[u32]) -> Chosen
     ensures { λ r. ⌜ (
         (allowed1 allowed2 : Option (List ℕ)) →
-        let l = lentSlices (now (m1 .entry)) (now (m2 .entry)) allowed1 allowed2 in
+        let l = lentSlices (now (m1 .entry)) (now (m2 .entry)) allowed1 allowed2 (now (ignored .entry)) in
         chosenMeans r ≡ sideFor (settingsMeans settings) l
         ) ⌝ }
 {
@@ -117,9 +133,12 @@ pub fn side_for(settings: Settings, m1: &[u32], m2: &[u32]) -> Chosen
     if !well_formed(m2) {
         return Chosen::Refused(REFUSED_MACHINE_2);
     }
-    let sigma1 = settings.sigma1;
-    let sigma2 = settings.sigma2;
-    match_type(m1, m2, sigma1, sigma2)
+    if !ignored_ok(ignored) {
+        return Chosen::Refused(REFUSED_IGNORED);
+    }
+    let first = settings.sigma1;
+    let second = settings.sigma2;
+    match_type(m1, m2, Sigmas { first, second }, ignored)
 }
 
 // Check 8: the session's side is that of the rule, what is used fits, and memory is in form.
@@ -134,8 +153,8 @@ fn session_ok(
     trs: &[u32],
 ) -> bool
     ensures { λ r. ⌜ (
-        (six : Six) (allowed1 allowed2 : Option (List ℕ)) →
-        let l = lentSlices (now (m1 .entry)) (now (m2 .entry)) allowed1 allowed2 in
+        (six : Six) (allowed1 allowed2 : Option (List ℕ)) (ignored : List ℕ) →
+        let l = lentSlices (now (m1 .entry)) (now (m2 .entry)) allowed1 allowed2 ignored in
         let m = memoryOf (now (heads .entry)) (now (states .entry)) (now (trs .entry)) in
         r ≡ sessionOk l (sessionOf six side used) m (sideMeans rule)
         ) ⌝ }
@@ -149,25 +168,26 @@ fn session_ok(
     form_ok(heads, states, trs, used, num_states(m1), num_states(m2))
 }
 
-// Checks 1 to 8 of a later call, by the session's own settings; where none stands, the side that it goes on with.
+// Checks 1 to 8 of a later call, with 18 after 3, by the session's own settings; where none stands, the side that it goes on with.
 pub fn enter(
     settings: Settings,
     side: u32,
     used: Used,
     m1: &[u32],
     m2: &[u32],
+    ignored: &[u32],
     heads: &[u32],
     states: &[u32],
     trs: &[u32],
 ) -> Chosen
     ensures { λ r. ⌜ (
         (allowed1 allowed2 : Option (List ℕ)) →
-        let l = lentSlices (now (m1 .entry)) (now (m2 .entry)) allowed1 allowed2 in
+        let l = lentSlices (now (m1 .entry)) (now (m2 .entry)) allowed1 allowed2 (now (ignored .entry)) in
         let m = memoryOf (now (heads .entry)) (now (states .entry)) (now (trs .entry)) in
         enteredMeans settings l r ≡ entered l (sessionOf (settingsMeans settings) side used) m
         ) ⌝ }
 {
-    let chosen = side_for(settings, m1, m2);
+    let chosen = side_for(settings, m1, m2, ignored);
     match chosen {
         Chosen::Refused(k) => Chosen::Refused(k),
         Chosen::By(rule) => {

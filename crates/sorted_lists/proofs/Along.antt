@@ -10,9 +10,8 @@ use borrow.Author.Tests.{eqb-true, eq-eqb, ne-eqb, leb-true, leb-false}
 use Rattle.lists.specs.Lists.{putIf}
 use Rattle.lists.proofs.Members.{every-in, in-interval}
 use Rattle.words.specs.Matches.{MatchType, inputs, outputs, labelOn}
-use Rattle.words.specs.Machines.{stateCount, trCount, trWord, firstOf, nextOf, listFrom, listOf, machineOf, noFall, sorted}
+use Rattle.words.specs.Machines.{wordOn, stateCount, trCount, trWord, firstOf, nextOf, listFrom, listOf, machineOf, noFall, sorted}
 use Rattle.words.proofs.ListLaws.{link, first-inside, list-turn}
-use Rattle.fst_reads.specs.Places.{wordOn}
 use Rattle.matchers.specs.Cursors.{recordsFrom, withLabel, head0}
 use Rattle.matchers.proofs.Seeks.{records-inside, with-outside, with-end, with-turn}
 use Rattle.sorted_lists.specs.Runs.{rising}

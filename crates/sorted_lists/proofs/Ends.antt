@@ -7,9 +7,8 @@ use native.Mathlib.Omega.{arith}
 use lib.ListN.{length, getD}
 use Rattle.words.specs.Labels.{epsLabel}
 use Rattle.words.specs.Matches.{MatchType, inputs, outputs}
-use Rattle.words.specs.Machines.{trWords, listFrom}
+use Rattle.words.specs.Machines.{wordOn, trWords, listFrom}
 use Rattle.fst.specs.Meaning.{onOf}
-use Rattle.fst_reads.specs.Places.{wordOn}
 use Rattle.fst_reads.proofs.Inside.{size}
 use Rattle.matchers.specs.Cursors.{withLabel, head0}
 use Rattle.sorted_lists.specs.Runs.{straight, labelPlace}

@@ -13,9 +13,10 @@ use Rattle.lists.specs.Lists.{putIf, keepIf, every, interval}
 use Rattle.lists.proofs.Members.{and-left, and-right, or-cases, of-interval, keep-length}
 use Rattle.lists.proofs.Totals.{length-interval}
 use Rattle.words.specs.Matches.{MatchType, inputs, outputs, labelOn}
-use Rattle.words.specs.Machines.{headerWords, stateWords, trWords, stateCount, trCount, trWord, nextOf, listFrom, machineOf, noFall}
+use Rattle.words.specs.Machines.{wordOn, headerWords, stateWords, trWords, stateCount, trCount, nextOf, listFrom, machineOf, noFall}
+use Rattle.words.proofs.FormLaws.{tr-at}
 use Rattle.words.proofs.ListLaws.{link, list-end, list-turn}
-use Rattle.fst_reads.specs.Places.{recordBase, wordOn}
+use Rattle.fst_reads.specs.Places.{recordBase}
 use Rattle.matchers.specs.Cursors.{recordsFrom, withLabel, head0}
 use Rattle.sorted_lists.specs.Seeks.{labelAt, NoFalls, Sought}
 use Rattle.matchers.proofs.Seeks.{records-inside}
@@ -69,10 +70,10 @@ pub straight-room : (m : List ℕ) (t : ℕ) → t ≤ trCount m → straight m 
 straight-room m t h e = room-by m (length (listFrom m t)) t (omega arith) h e
 
 -- the labels of consecutive records stand as many words apart as a record has
-place-label : (on : MatchType) (m : List ℕ) (a i : ℕ) → labelAt m (labelPlace on m a) i ≡ labelOn on (machineOf m) (a + i)
-unfolding labelPlace trWord
-place-label inputs m a i = let z : recordBase m + trWords * a + 0 + trWords * i ≡ recordBase m + trWords * (a + i) + 0 = omega arith in ap (λ (k : ℕ). getD m k 0) z
-place-label outputs m a i = let z : recordBase m + trWords * a + 1 + trWords * i ≡ recordBase m + trWords * (a + i) + 1 = omega arith in ap (λ (k : ℕ). getD m k 0) z
+place-label : (on : MatchType) (m : List ℕ) (a i : ℕ) → 0 < a → labelAt m (labelPlace on m a) i ≡ labelOn on (machineOf m) (a + i)
+unfolding labelPlace
+place-label inputs m a i h = let z : recordBase m + trWords * a + 0 + trWords * i ≡ recordBase m + trWords * (a + i) + 0 = omega arith in ap (λ (k : ℕ). getD m k 0) z ∙ sym (tr-at m (a + i) 0 (omega (arith, h)))
+place-label outputs m a i h = let z : recordBase m + trWords * a + 1 + trWords * i ≡ recordBase m + trWords * (a + i) + 1 = omega arith in ap (λ (k : ℕ). getD m k 0) z ∙ sym (tr-at m (a + i) 1 (omega (arith, h)))
 
 -- the record of a place
 place-number : (on : MatchType) (m : List ℕ) (a n r : ℕ) → r ≡ labelPlace on m a + trWords * n → a + n ≡ (r - (recordBase m + wordOn on)) / trWords
@@ -142,13 +143,22 @@ module _ (on : MatchType) (m : List ℕ) (t : ℕ) (inside : t ≤ trCount m) (r
   unfolding withLabel
   kept x = ap (keepIf (λ u. eqb (label u) x)) listed
 
+  -- where anything is listed, record t is there
+  some-record : 0 < len → 0 < t
+  some-record h = go t refl
+    where
+      go : (n : ℕ) → t ≡ n → 0 < t
+      go zero e = absurd (omega (arith, h, ap length (list-end m t e)))
+      go (suc n) e = omega (arith, e)
+
   -- what `seek` requires
   pub straight-falls : (eps : ℕ) → eps ≤ len → NoFalls m (labelPlace on m (t + eps)) (len - eps)
   straight-falls eps h i j a b =
       let p = interval-falls label 0 t len falls (eps + i) (eps + j) (omega arith) (omega arith) in
       let y : label (t + (eps + i)) ≡ label (t + eps + i) = ap label (omega arith) in
       let z : label (t + (eps + j)) ≡ label (t + eps + j) = ap label (omega arith) in
-      omega (arith, p, y, z, place-label on m (t + eps) i, place-label on m (t + eps) j)
+      let r : 0 < t + eps = omega (arith, some-record (omega (arith, b))) in
+      omega (arith, p, y, z, place-label on m (t + eps) i r, place-label on m (t + eps) j r)
 
   -- and where the machine has as many words as its counts say, the room
   pub straight-place : (eps : ℕ) → eps ≤ len → length m ≡ headerWords + stateWords * stateCount m + trWords * trCount m → labelPlace on m (t + eps) + trWords * (len - eps) < length m + trWords
@@ -181,21 +191,21 @@ module _ (on : MatchType) (m : List ℕ) (t : ℕ) (inside : t ≤ trCount m) (r
     past-few : past ≤ len
     past-few = omega (arith, s .within, eps-few)
 
-    label-at : (i : ℕ) → eps ≤ i → labelAt m (labelPlace on m (t + eps)) (i - eps) ≡ label (t + i)
-    label-at i h = place-label on m (t + eps) (i - eps) ∙ ap label (omega (arith, h))
+    label-at : (i : ℕ) → eps ≤ i → i < len → labelAt m (labelPlace on m (t + eps)) (i - eps) ≡ label (t + i)
+    label-at i h l = place-label on m (t + eps) (i - eps) (omega (arith, some-record (omega (arith, l)))) ∙ ap label (omega (arith, h))
 
     past-below : (i : ℕ) → i < past → label (t + i) < x
     past-below i h = go (decLt i eps)
       where
         go : Dec (i < eps) → label (t + i) < x
         go (yes l) = omega (arith, eps-first i l, some)
-        go (no l) = let b = s .before (i - eps) (omega (arith, h, l)) in omega (arith, b, label-at i (omega (arith, l)))
+        go (no l) = let b = s .before (i - eps) (omega (arith, h, l)) in omega (arith, b, label-at i (omega (arith, l)) (omega (arith, h, past-few)))
 
     rest-above : (i : ℕ) → past ≤ i → i < len → x ≤ label (t + i)
-    rest-above i h l = let b = s .after (i - eps) (omega (arith, h)) (omega (arith, h, l)) in omega (arith, b, label-at i (omega (arith, h)))
+    rest-above i h l = let b = s .after (i - eps) (omega (arith, h)) (omega (arith, h, l)) in omega (arith, b, label-at i (omega (arith, h)) l)
 
-    word-at : getD m r 0 ≡ label (t + past)
-    word-at = ap (λ (k : ℕ). getD m k 0) (s .place) ∙ (place-label on m (t + eps) (s .number) ∙ ap label (omega arith))
+    word-at : past < len → getD m r 0 ≡ label (t + past)
+    word-at l = ap (λ (k : ℕ). getD m k 0) (s .place) ∙ (place-label on m (t + eps) (s .number) (omega (arith, some-record (omega (arith, l)))) ∙ ap label (omega arith))
 
     -- the three ends of the search: past the last record; at another label; at the label
     pub find-end : r ≡ labelPlace on m (t + eps) + trWords * (len - eps) → head0 (withLabel on m x t) ≡ 0
@@ -204,10 +214,10 @@ module _ (on : MatchType) (m : List ℕ) (t : ℕ) (inside : t ≤ trCount m) (r
     pub find-other : (r ≡ labelPlace on m (t + eps) + trWords * (len - eps) → ⊥) → (getD m r 0 ≡ x → ⊥) → head0 (withLabel on m x t) ≡ 0
     find-other e d =
         let l : past < len = omega (arith, s .place, s .within, eps-few, e) in
-        let b : x < label (t + past) = omega (arith, rest-above past (omega arith) l, word-at, d) in
+        let b : x < label (t + past) = omega (arith, rest-above past (omega arith) l, word-at l, d) in
         ap head0 (kept x ∙ found-other label x t len past past-few past-below (λ i h k. let q = interval-falls label 0 t len falls past i h k in omega (arith, q, b)))
 
     pub find-label : (r ≡ labelPlace on m (t + eps) + trWords * (len - eps) → ⊥) → getD m r 0 ≡ x → head0 (withLabel on m x t) ≡ (r - (recordBase m + wordOn on)) / trWords
     find-label e d =
         let l : past < len = omega (arith, s .place, s .within, eps-few, e) in
-        ap head0 (kept x) ∙ (found-label label x t len past past-few past-below l (sym word-at ∙ d) ∙ (omega arith ∙ place-number on m (t + eps) (s .number) r (s .place)))
+        ap head0 (kept x) ∙ (found-label label x t len past past-few past-below l (sym (word-at l) ∙ d) ∙ (omega arith ∙ place-number on m (t + eps) (s .number) r (s .place)))

@@ -5,9 +5,9 @@ use Prim.Native.Nat.{ℕ, _+_, _*_}
 use lib.Dec.{eqb}
 use Rattle.lists.specs.Lists.{every}
 use Rattle.words.specs.Matches.{MatchType, labelOn}
-use Rattle.words.specs.Machines.{trWords, nextOf, listFrom, machineOf, noFall}
+use Rattle.words.specs.Machines.{wordOn, trWords, nextOf, listFrom, machineOf, noFall}
 use Rattle.matchers.specs.Cursors.{recordsFrom}
-use Rattle.fst_reads.specs.Places.{recordBase, wordOn}
+use Rattle.fst_reads.specs.Places.{recordBase}
 
 -- no label falls from record t on, and none is below `low`
 unfoldable pub rising : MatchType → List ℕ → ℕ → ℕ → Bool

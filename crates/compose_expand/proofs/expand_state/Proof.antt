@@ -16,41 +16,41 @@ use Rattle.compose_expand.proofs.expand_state.Tie as tie
 
 returns : tie.Need-returns
 returns c =
-    let p = c .before .before .before .before .before .before .before .before .before .before .before .before .before .before .before .before .before .before .before .pre in
-    let e = fails (c .before .before .before .before .before .before .before .before .before .before .before .no-sigma .ensures) (c .before .before .before .before .before .before .before .before .before .before .if1 .taken) in
+    let p = c .before .before .before .before .before .before .before .before .before .before .before .before .before .before .before .before .before .before .before .before .pre in
+    let e = fails (c .before .before .before .before .before .before .before .before .before .before .before .plain-labels .ensures) (c .before .before .before .before .before .before .before .before .before .before .if1 .taken) in
     (c .before .before .before .before .before .before .expand-weighed .ensures, ((asked-sigma _ _ _ _ _ _ e, asked-sigma _ _ _ _ _ _ e), (p .2, p .3)))
 
 remembered-requires : tie.Need-remembered-requires
 remembered-requires c κs =
     let s = c .before .before .before .before .before .before .before .before .before .before .before .before .before .before in
-    let a = s .args in
+    let a = s .before .args in
     let m = memoryOf (a .heads .now) (a .states .now) (a .trs .now) in (
-      formed1 (a .options) (a .m1 .now) (a .m2 .now) (a .a1 .now) (a .a2 .now) (a .used) m (s .pre .0),
-      subst (λ (t : Triple). t .s1 < stateCount (a .m1 .now)) (sym (c .before .before .before .get-tuple .ensures)) (in-range (a .options) (a .m1 .now) (a .m2 .now) (a .a1 .now) (a .a2 .now) (a .used) m (s .pre .0) (a .n .0) (s .pre .1) .s1),
-      s .pre .2,
+      formed1 (a .options) (a .m1 .now) (a .m2 .now) (a .a1 .now) (a .a2 .now) (a .ignored .now) (a .used) m (s .before .pre .0),
+      subst (λ (t : Triple). t .s1 < stateCount (a .m1 .now)) (sym (c .before .before .before .get-tuple .ensures)) (in-range (a .options) (a .m1 .now) (a .m2 .now) (a .a1 .now) (a .a2 .now) (a .ignored .now) (a .used) m (s .before .pre .0) (a .n .0) (s .before .pre .1) .s1),
+      s .before .pre .2,
     )
 
 remembered-requires-2 : tie.Need-remembered-requires-2
 remembered-requires-2 c κs =
     let s = c .before .before .before .before .before .before .before .before .before .before .before .before .before .before .before .before in
-    let a = s .args in
+    let a = s .before .args in
     let m = memoryOf (a .heads .now) (a .states .now) (a .trs .now) in (
-      formed2 (a .options) (a .m1 .now) (a .m2 .now) (a .a1 .now) (a .a2 .now) (a .used) m (s .pre .0),
-      subst (λ (t : Triple). t .s2 < stateCount (a .m2 .now)) (sym (c .before .before .before .before .before .get-tuple .ensures)) (in-range (a .options) (a .m1 .now) (a .m2 .now) (a .a1 .now) (a .a2 .now) (a .used) m (s .pre .0) (a .n .0) (s .pre .1) .s2),
-      s .pre .3,
+      formed2 (a .options) (a .m1 .now) (a .m2 .now) (a .a1 .now) (a .a2 .now) (a .ignored .now) (a .used) m (s .before .pre .0),
+      subst (λ (t : Triple). t .s2 < stateCount (a .m2 .now)) (sym (c .before .before .before .before .before .get-tuple .ensures)) (in-range (a .options) (a .m1 .now) (a .m2 .now) (a .a1 .now) (a .a2 .now) (a .ignored .now) (a .used) m (s .before .pre .0) (a .n .0) (s .before .pre .1) .s2),
+      s .before .pre .3,
     )
 
 expand-known-requires : tie.Need-expand-known-requires
 expand-known-requires c κs =
     let s = c .before .before .before .before .before .before .before .before .before .before .before .before .before .before .before .before .before .before .before .before in
-    let a = s .args in
+    let a = s .before .args in
     let e = c .before .before .before .before .before .before .before .before .before .get-tuple .ensures in
     let f = c .before .before .before .before .before .remembered in
     let g = c .before .before .before .remembered2 in (
-      s .pre .0,
-      s .pre .1,
+      s .before .pre .0,
+      s .before .pre .1,
       e,
-      holds (c .before .before .before .before .before .before .before .before .before .before .before .before .no-sigma .ensures) (c .before .before .before .before .before .before .before .before .before .before .before .if1 .left),
+      holds (c .before .before .before .before .before .before .before .before .before .before .before .before .plain-labels .ensures) (c .before .before .before .before .before .before .before .before .before .before .before .if1 .left),
       subst (λ (t : Triple). TrueOf outputs (kindOf (a .options .kind)) (a .m1 .now) (t .s1) (f .result)) e (f .ensures .0),
       subst (λ (t : Triple). TrueOf inputs (kindOf (a .options .kind)) (a .m2 .now) (t .s2) (g .result)) e (g .ensures .0),
     )
@@ -60,7 +60,7 @@ returns-2 c =
     let t = c .before .before .before .before .before .before .before .before .before .before .before .before .before .before .before .before .get-tuple .ensures in
     let f = c .before .before .before .before .before .before .before .before .before .before .before .before .remembered in
     let g = c .before .before .before .before .before .before .before .before .before .before .remembered2 in
-    let e = holds (c .before .before .before .before .before .before .before .before .before .before .before .before .before .before .before .before .before .before .before .no-sigma .ensures) (c .before .before .before .before .before .before .before .before .before .before .before .before .before .before .before .before .before .before .if1 .left) in (
+    let e = holds (c .before .before .before .before .before .before .before .before .before .before .before .before .before .before .before .before .before .before .before .plain-labels .ensures) (c .before .before .before .before .before .before .before .before .before .before .before .before .before .before .before .before .before .before .if1 .left) in (
       c .before .before .before .before .before .before .expand-known .ensures,
       ((asked-plain _ _ _ _ _ _ _ _ _ e t (f .ensures .0) (f .ensures .1 .1), asked-plain _ _ _ _ _ _ _ _ _ e t (g .ensures .0) (g .ensures .1 .1)), (f .ensures .1 .0, g .ensures .1 .0)),
     )

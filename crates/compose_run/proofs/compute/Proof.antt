@@ -12,4 +12,4 @@ returns c = rw (← c .before .before .before .before .before .before .before .b
 pub compute-spec : {M : Type 1} → statement M
 compute-spec =
     tie.close
-    (tie.spec (λ c κs. search needs) (λ c κs. (c .before .before .before .before .before .before .before .before .before .before .before .before .before .before .pre, nothing-remembered _ _ _, nothing-remembered _ _ _)) (λ c. search needs) (λ c. search needs) (λ c. search needs) returns)
+    (tie.spec (λ c κs. search needs) (λ c κs. (c .before .before .before .before .before .before .before .before .before .before .before .before .before .before .before .pre, nothing-remembered _ _ _, nothing-remembered _ _ _)) (λ c. search needs) (λ c. search needs) (λ c. search needs) returns)

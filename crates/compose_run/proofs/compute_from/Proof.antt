@@ -19,21 +19,21 @@ use Rattle.compose_run.proofs.compute_from.Statement.{statement}
 use Rattle.compose_run.proofs.compute_from.Tie as tie
 
 abbrev Inv-loop : tie.InvT-loop
-Inv-loop m1 m2 a1 a2 options heads₀ states₀ trs₀ memo1₀ memo2₀ count latest₀ n₀ most₀ heads states trs memo1 memo2 latest n most =
+Inv-loop m1 m2 a1 a2 ignored options heads₀ states₀ trs₀ memo1₀ memo2₀ count latest₀ n₀ most₀ heads states trs memo1 memo2 latest n most =
     (length heads ≡ length heads₀) × (length states ≡ length states₀) × (length trs ≡ length trs₀)
-    × (entered (lentOf options m1 m2 a1 a2) (sessionUnder options latest) (memoryOf heads states trs) ≡ good (composing options m1 m2 a1 a2))
-    × (runFrom (lentOf options m1 m2 a1 a2) most n (sessionUnder options latest) (memoryOf heads states trs) ≡ runFrom (lentOf options m1 m2 a1 a2) count n₀ (sessionUnder options latest₀) (memoryOf heads₀ states₀ trs₀))
-    × (stopFrom (lentOf options m1 m2 a1 a2) most n (sessionUnder options latest) (memoryOf heads states trs) ≡ stopFrom (lentOf options m1 m2 a1 a2) count n₀ (sessionUnder options latest₀) (memoryOf heads₀ states₀ trs₀))
-    × (memoFrom outputs (lentOf options m1 m2 a1 a2) most n (sessionUnder options latest) (memoryOf heads states trs) memo1 ≡ memoFrom outputs (lentOf options m1 m2 a1 a2) count n₀ (sessionUnder options latest₀) (memoryOf heads₀ states₀ trs₀) memo1₀)
-    × (memoFrom inputs (lentOf options m1 m2 a1 a2) most n (sessionUnder options latest) (memoryOf heads states trs) memo2 ≡ memoFrom inputs (lentOf options m1 m2 a1 a2) count n₀ (sessionUnder options latest₀) (memoryOf heads₀ states₀ trs₀) memo2₀)
-    × Remembered outputs (lentOf options m1 m2 a1 a2) (sessionUnder options latest) memo1 × Remembered inputs (lentOf options m1 m2 a1 a2) (sessionUnder options latest) memo2
+    × (entered (lentOf options m1 m2 a1 a2 ignored) (sessionUnder options latest) (memoryOf heads states trs) ≡ good (composing options m1 m2 a1 a2 ignored))
+    × (runFrom (lentOf options m1 m2 a1 a2 ignored) most n (sessionUnder options latest) (memoryOf heads states trs) ≡ runFrom (lentOf options m1 m2 a1 a2 ignored) count n₀ (sessionUnder options latest₀) (memoryOf heads₀ states₀ trs₀))
+    × (stopFrom (lentOf options m1 m2 a1 a2 ignored) most n (sessionUnder options latest) (memoryOf heads states trs) ≡ stopFrom (lentOf options m1 m2 a1 a2 ignored) count n₀ (sessionUnder options latest₀) (memoryOf heads₀ states₀ trs₀))
+    × (memoFrom outputs (lentOf options m1 m2 a1 a2 ignored) most n (sessionUnder options latest) (memoryOf heads states trs) memo1 ≡ memoFrom outputs (lentOf options m1 m2 a1 a2 ignored) count n₀ (sessionUnder options latest₀) (memoryOf heads₀ states₀ trs₀) memo1₀)
+    × (memoFrom inputs (lentOf options m1 m2 a1 a2 ignored) most n (sessionUnder options latest) (memoryOf heads states trs) memo2 ≡ memoFrom inputs (lentOf options m1 m2 a1 a2 ignored) count n₀ (sessionUnder options latest₀) (memoryOf heads₀ states₀ trs₀) memo2₀)
+    × Remembered outputs (lentOf options m1 m2 a1 a2 ignored) (sessionUnder options latest) memo1 × Remembered inputs (lentOf options m1 m2 a1 a2 ignored) (sessionUnder options latest) memo2
 
 abbrev μ-loop : tie.MeasureT-loop
-μ-loop m1 m2 a1 a2 options heads₀ states₀ trs₀ memo1₀ memo2₀ count latest₀ n₀ most₀ heads states trs memo1 memo2 latest n most = most
+μ-loop m1 m2 a1 a2 ignored options heads₀ states₀ trs₀ memo1₀ memo2₀ count latest₀ n₀ most₀ heads states trs memo1 memo2 latest n most = most
 
 loop-holds : tie.Need-loop-holds Inv-loop μ-loop
 loop-holds c =
-    let p = c .before .before .before .before .before .before .before .pre in
+    let p = c .before .before .before .before .before .before .before .before .pre in
     (refl, refl, refl, p .0, refl, refl, refl, refl, p .1, p .2)
 
 returns : tie.Need-returns Inv-loop μ-loop

@@ -14,23 +14,23 @@ use Rattle.compose_run.proofs.expand_found.Tie as tie
 
 returns : tie.Need-returns
 returns c =
-    let x = c .before .before .before .before .before .before .before .before .before .before .before .before .before .args in
-    let p = c .before .before .before .before .before .before .before .before .before .before .before .before .before .pre in
+    let x = c .before .before .before .before .before .before .before .before .before .before .before .before .before .before .args in
+    let p = c .before .before .before .before .before .before .before .before .before .before .before .before .before .before .pre in
     let h = sym (c .before .before .before .before .is-expanded .ensures) ∙ c .before .before .before .if1 .taken in (
-      expand-listed (lentOf (x .options) (now (x .m1)) (now (x .m2)) (now (x .a1)) (now (x .a2))) (sessionUnder (x .options) (x .used)) (memoryOf (now (x .heads)) (now (x .states)) (now (x .trs))) (x .n .0) _ (partMeans (c .part-of .result)) (p .0) (p .1) h (c .part-of .ensures (now (x .heads)) (x .used .states)),
+      expand-listed (lentOf (x .options) (now (x .m1)) (now (x .m2)) (now (x .a1)) (now (x .a2)) (now (x .ignored))) (sessionUnder (x .options) (x .used)) (memoryOf (now (x .heads)) (now (x .states)) (now (x .trs))) (x .n .0) _ (partMeans (c .part-of .result)) (p .0) (p .1) h (c .part-of .ensures (now (x .heads)) (x .used .states)),
       ((memo-listed _ _ _ _ _ _ (p .1) h, memo-listed _ _ _ _ _ _ (p .1) h), (p .2, p .3)),
     )
 
 new-part-requires : tie.Need-new-part-requires
 new-part-requires c κs =
-    let p = c .before .before .before .before .before .before .before .before .before .before .before .before .before .before .before .before .before .before .before .before .before .before .before .before .before .pre in
+    let p = c .before .before .before .before .before .before .before .before .before .before .before .before .before .before .before .before .before .before .before .before .before .before .before .before .before .before .pre in
     let h = sym (c .before .before .before .before .before .before .before .before .before .before .before .before .before .before .before .before .is-expanded .ensures) ∙ c .before .before .before .before .before .before .before .before .before .before .before .before .before .before .before .if1 .left in
     one-new _ _ _ _ _ _ _ _ (p .0) (p .1) h (c .before .before .before .before .before .before .before .before .before .compute-from .ensures .0) _ (c .before .ran .given .1) .0
 
 returns-2 : tie.Need-returns-2
 returns-2 c =
-    let x = c .before .before .before .before .before .before .before .before .before .before .before .before .before .before .before .before .before .before .before .before .before .before .before .before .before .before .args in
-    let p = c .before .before .before .before .before .before .before .before .before .before .before .before .before .before .before .before .before .before .before .before .before .before .before .before .before .before .pre in
+    let x = c .before .before .before .before .before .before .before .before .before .before .before .before .before .before .before .before .before .before .before .before .before .before .before .before .before .before .before .args in
+    let p = c .before .before .before .before .before .before .before .before .before .before .before .before .before .before .before .before .before .before .before .before .before .before .before .before .before .before .before .pre in
     let h = sym (c .before .before .before .before .before .before .before .before .before .before .before .before .before .before .before .before .before .is-expanded .ensures) ∙ c .before .before .before .before .before .before .before .before .before .before .before .before .before .before .before .before .if1 .left in
     let w = c .before .before .before .before .before .before .before .before .before .before .compute-from .ensures in
     let q = one-new _ _ _ _ _ _ _ _ (p .0) (p .1) h (w .0) _ (c .before .before .ran .given .1) .1 in (
@@ -40,7 +40,7 @@ returns-2 c =
 
 returns-3 : tie.Need-returns-3
 returns-3 c =
-    let p = c .before .before .before .before .before .before .before .before .before .before .before .before .before .before .before .before .before .before .before .before .before .before .before .before .before .pre in
+    let p = c .before .before .before .before .before .before .before .before .before .before .before .before .before .before .before .before .before .before .before .before .before .before .before .before .before .before .pre in
     let h = sym (c .before .before .before .before .before .before .before .before .before .before .before .before .before .before .before .before .is-expanded .ensures) ∙ c .before .before .before .before .before .before .before .before .before .before .before .before .before .before .before .if1 .left in
     let w = c .before .before .before .before .before .before .before .before .before .compute-from .ensures in (
       one-refused _ _ _ _ _ _ _ _ (p .0) (p .1) h (w .0) _ _ (c .before .ran2 .given .1),
@@ -56,7 +56,7 @@ expand-found-spec =
     (λ c. search needs)
     (λ c. search needs)
     returns
-    (λ c κs. let p = c .before .before .before .before .before .before .before .before .before .before .before .before .before .before .before .pre in (p .0, p .2, p .3))
+    (λ c κs. let p = c .before .before .before .before .before .before .before .before .before .before .before .before .before .before .before .before .pre in (p .0, p .2, p .3))
     (λ c. search needs)
     new-part-requires
     (λ c. search needs)

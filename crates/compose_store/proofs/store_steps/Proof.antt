@@ -6,7 +6,7 @@ use lib.ListN.{length}
 use Rattle.words.specs.Labels.{good}
 use Rattle.calls.specs.Calls.{nextFor, storeStep, storeSteps}
 use Rattle.store_records.specs.Meaning.{stored}
-use Rattle.compose_fst_op.specs.Composing.{optionSettings, lentOf}
+use Rattle.compose_fst_op.specs.Composing.{lentOf}
 use Rattle.compose_moves.specs.Cursors.{stepsLeft, nextMeans}
 use Rattle.compose_moves.specs.Moves.{composeTrMeans}
 use Rattle.compose_store.specs.Meaning.{Accepted}
@@ -16,22 +16,22 @@ use Rattle.compose_store.proofs.store_steps.Statement.{statement}
 use Rattle.compose_store.proofs.store_steps.Tie as tie
 
 abbrev Inv-loop : tie.InvT-loop
-Inv-loop m1 m2 a1 a2 options heads₀ states₀ trs₀ grown₀ ahead₀ heads states trs grown ahead =
+Inv-loop m1 m2 a1 a2 ignored options heads₀ states₀ trs₀ grown₀ ahead₀ heads states trs grown ahead =
     (length heads ≡ length heads₀) × (length states ≡ length states₀) × (length trs ≡ length trs₀)
-    × Accepted (storeSteps (stored heads states trs (grown .states) (grown .trs)) (askedLeft (nextMeans (optionSettings options) (lentOf options m1 m2 a1 a2) ahead)))
-    × (storeSteps (stored heads states trs (grown .states) (grown .trs)) (askedLeft (nextMeans (optionSettings options) (lentOf options m1 m2 a1 a2) ahead))
-    ≡ storeSteps (stored heads₀ states₀ trs₀ (grown₀ .states) (grown₀ .trs)) (askedLeft (nextMeans (optionSettings options) (lentOf options m1 m2 a1 a2) ahead₀)))
+    × Accepted (storeSteps (stored heads states trs (grown .states) (grown .trs)) (askedLeft (nextMeans options (lentOf options m1 m2 a1 a2 ignored) ahead)))
+    × (storeSteps (stored heads states trs (grown .states) (grown .trs)) (askedLeft (nextMeans options (lentOf options m1 m2 a1 a2 ignored) ahead))
+    ≡ storeSteps (stored heads₀ states₀ trs₀ (grown₀ .states) (grown₀ .trs)) (askedLeft (nextMeans options (lentOf options m1 m2 a1 a2 ignored) ahead₀)))
 
 abbrev μ-loop : tie.MeasureT-loop
-μ-loop m1 m2 a1 a2 options heads₀ states₀ trs₀ grown₀ ahead₀ heads states trs grown ahead = length (askedLeft (nextMeans (optionSettings options) (lentOf options m1 m2 a1 a2) ahead))
+μ-loop m1 m2 a1 a2 ignored options heads₀ states₀ trs₀ grown₀ ahead₀ heads states trs grown ahead = length (askedLeft (nextMeans options (lentOf options m1 m2 a1 a2 ignored) ahead))
 
 loop-holds : tie.Need-loop-holds Inv-loop μ-loop
 loop-holds c =
-    let a = c .before .before .before .before .before .before .before .before .args in
-    let p = c .before .before .before .before .before .before .before .before .pre in
+    let a = c .before .before .before .before .before .before .before .before .before .args in
+    let p = c .before .before .before .before .before .before .before .before .before .pre in
     let e = c .next-step .ensures .0 in
-    let S = optionSettings (a .options) in
-    let L = lentOf (a .options) (a .m1 .now) (a .m2 .now) (a .a1 .now) (a .a2 .now) in
+    let S = a .options in
+    let L = lentOf (a .options) (a .m1 .now) (a .m2 .now) (a .a1 .now) (a .a2 .now) (a .ignored .now) in
     let d = stored (a .heads .now) (a .states .now) (a .trs .now) (a .used .states) (a .used .trs) in
     let all = stepsLeft S L (a .start) in
     let x = nextMeans S L (c .next-step .result) in
@@ -39,10 +39,10 @@ loop-holds c =
 
 returns : tie.Need-returns Inv-loop μ-loop
 returns c =
-    let a = c .before .before .before .before .before .before .before .before .before .before .before .args in
+    let a = c .before .before .before .before .before .before .before .before .before .before .before .before .args in
     let l = c .before .before .loop in
-    let S = optionSettings (a .options) in
-    let L = lentOf (a .options) (a .m1 .now) (a .m2 .now) (a .a1 .now) (a .a2 .now) in
+    let S = a .options in
+    let L = lentOf (a .options) (a .m1 .now) (a .m2 .now) (a .a1 .now) (a .a2 .now) (a .ignored .now) in
     let d = stored (a .heads .now) (a .states .now) (a .trs .now) (a .used .states) (a .used .trs) in
     sym (none-stored (stored (l .heads) (l .states) (l .trs) (l .grown .states) (l .grown .trs)))
     ∙ (rw (c .enum-told .given .1) at (l .inv .4))
@@ -55,11 +55,11 @@ returns-2 c =
 
 store-step-requires : tie.Need-store-step-requires Inv-loop μ-loop
 store-step-requires c κs =
-    let a = c .before .before .before .before .before .before .before .before .before .before .before .before .before .before .before .before .before .args in
+    let a = c .before .before .before .before .before .before .before .before .before .before .before .before .before .before .before .before .before .before .args in
     let l = c .before .before .before .before .before .before .before .before .loop in
     let n = c .before .before .before .before .before .before .ahead .given in
-    let S = optionSettings (a .options) in
-    let L = lentOf (a .options) (a .m1 .now) (a .m2 .now) (a .a1 .now) (a .a2 .now) in
+    let S = a .options in
+    let L = lentOf (a .options) (a .m1 .now) (a .m2 .now) (a .a1 .now) (a .a2 .now) (a .ignored .now) in
     let d = stored (l .heads) (l .states) (l .trs) (l .grown .states) (l .grown .trs) in
     let st = composeTrMeans (n .0 .0) in
     let others = stepsLeft S L (n .0 .1 .0) in
@@ -68,23 +68,23 @@ store-step-requires c κs =
 
 loop-less : tie.Need-loop-less Inv-loop μ-loop
 loop-less c =
-    let a = c .before .before .before .before .before .before .before .before .before .before .before .before .before .before .before .before .before .before .before .before .before .before .before .before .args in
+    let a = c .before .before .before .before .before .before .before .before .before .before .before .before .before .before .before .before .before .before .before .before .before .before .before .before .before .args in
     let l = c .before .before .before .before .before .before .before .before .before .before .before .before .before .before .before .loop in
     let n = c .before .before .before .before .before .before .before .before .before .before .before .before .before .ahead .given in
-    let S = optionSettings (a .options) in
-    let L = lentOf (a .options) (a .m1 .now) (a .m2 .now) (a .a1 .now) (a .a2 .now) in
+    let S = a .options in
+    let L = lentOf (a .options) (a .m1 .now) (a .m2 .now) (a .a1 .now) (a .a2 .now) (a .ignored .now) in
     let others = stepsLeft S L (n .0 .1 .0) in
     let less = left-less others (nextMeans S L (c .before .before .before .before .before .before .before .before .before .before .before .next-step2 .result)) (c .before .before .before .before .before .before .before .before .before .before .before .next-step2 .ensures .0) in
     rw (n .1) (omega (arith, less))
 
 loop-again : tie.Need-loop-again Inv-loop μ-loop
 loop-again c =
-    let a = c .before .before .before .before .before .before .before .before .before .before .before .before .before .before .before .before .before .before .before .before .before .before .before .before .args in
+    let a = c .before .before .before .before .before .before .before .before .before .before .before .before .before .before .before .before .before .before .before .before .before .before .before .before .before .args in
     let l = c .before .before .before .before .before .before .before .before .before .before .before .before .before .before .before .loop in
     let n = c .before .before .before .before .before .before .before .before .before .before .before .before .before .ahead .given in
     let w = c .before .before .before .before .before .before .store-step in
-    let S = optionSettings (a .options) in
-    let L = lentOf (a .options) (a .m1 .now) (a .m2 .now) (a .a1 .now) (a .a2 .now) in
+    let S = a .options in
+    let L = lentOf (a .options) (a .m1 .now) (a .m2 .now) (a .a1 .now) (a .a2 .now) (a .ignored .now) in
     let d = stored (l .heads) (l .states) (l .trs) (l .grown .states) (l .grown .trs) in
     let f = stored (w .last .0) (w .last .1 .0) (w .last .1 .1 .0) (w .result .states) (w .result .trs) in
     let st = composeTrMeans (n .0 .0) in

@@ -4,7 +4,7 @@ use Prim.Native.Nat.{ℕ, _+_, _-_, _^_, _≤_, _<_}
 use native.Mathlib.Omega.{arith}
 use Rattle.calls.specs.Store.{stateRoomWith}
 use Rattle.store_records.specs.Meaning.{stored}
-use Rattle.compose_fst_op.specs.Composing.{optionSettings, lentOf}
+use Rattle.compose_fst_op.specs.Composing.{lentOf}
 use Rattle.compose_moves.specs.Cursors.{stepsLeft}
 use Rattle.compose_weigh.specs.Weigh.{weighFrom, weighOf}
 use Rattle.compose_weigh.proofs.WindowLaws.{weigh-passed, few-records}
@@ -13,29 +13,29 @@ use Rattle.compose_weigh.proofs.weigh_quickly.Statement.{statement}
 use Rattle.compose_weigh.proofs.weigh_quickly.Tie as tie
 
 abbrev Inv-loop : tie.InvT-loop
-Inv-loop m1 m2 a1 a2 heads states trs w used cursor₀ count₀ grown₀ cursor count grown =
+Inv-loop m1 m2 a1 a2 ignored heads states trs w used cursor₀ count₀ grown₀ cursor count grown =
     (grown < 2 ^ 32) × (w .used .trs + count < 2 ^ 32)
-    × ((u : ℕ) × (u ≤ grown) × (weighFrom (stored heads states trs (w .used .states) (w .used .trs)) (stepsLeft (optionSettings (w .options)) (lentOf (w .options) m1 m2 a1 a2) (w .start)) count u (stepsLeft (optionSettings (w .options)) (lentOf (w .options) m1 m2 a1 a2) cursor)
-    ≡ weighOf (stored heads states trs (w .used .states) (w .used .trs)) (stepsLeft (optionSettings (w .options)) (lentOf (w .options) m1 m2 a1 a2) (w .start))))
+    × ((u : ℕ) × (u ≤ grown) × (weighFrom (stored heads states trs (w .used .states) (w .used .trs)) (stepsLeft (w .options) (lentOf (w .options) m1 m2 a1 a2 ignored) (w .start)) count u (stepsLeft (w .options) (lentOf (w .options) m1 m2 a1 a2 ignored) cursor)
+    ≡ weighOf (stored heads states trs (w .used .states) (w .used .trs)) (stepsLeft (w .options) (lentOf (w .options) m1 m2 a1 a2 ignored) (w .start))))
 
 abbrev μ-loop : tie.MeasureT-loop
-μ-loop m1 m2 a1 a2 heads states trs w used cursor₀ count₀ grown₀ cursor count grown = 2 ^ 32 - (w .used .trs + count)
+μ-loop m1 m2 a1 a2 ignored heads states trs w used cursor₀ count₀ grown₀ cursor count grown = 2 ^ 32 - (w .used .trs + count)
 
 loop-holds : tie.Need-loop-holds Inv-loop μ-loop
 unfolding weighOf
-loop-holds c = (search needs, search needs, (c .before .before .before .before .before .before .before .before .before .args .w .used .states, omega arith, refl))
+loop-holds c = (search needs, search needs, (c .before .before .before .before .before .before .before .before .before .before .args .w .used .states, omega arith, refl))
 
 returns : tie.Need-returns Inv-loop μ-loop
 returns c =
-    let a = c .before .before .before .before .before .before .before .before .before .before .before .before .before .before .args in
+    let a = c .before .before .before .before .before .before .before .before .before .before .before .before .before .before .before .args in
     let l = c .before .before .before .before .loop in
-    let S = optionSettings (a .w .options) in
-    let L = lentOf (a .w .options) (a .m1 .now) (a .m2 .now) (a .a1 .now) (a .a2 .now) in
+    let S = a .w .options in
+    let L = lentOf (a .w .options) (a .m1 .now) (a .m2 .now) (a .a1 .now) (a .a2 .now) (a .ignored .now) in
     sym (l .inv .2 .2) ∙ (rw (c .before .kept .given .1) at (c .before .before .before .kept-step .ensures (a .heads .now) (a .states .now))) (stepsLeft S L (a .w .start)) (l .inv .2 .0)
 
 loop-less : tie.Need-loop-less Inv-loop μ-loop
 loop-less c =
-    let a = c .before .before .before .before .before .before .before .before .before .before .before .before .before .before .before .before .before .before .before .before .args in
+    let a = c .before .before .before .before .before .before .before .before .before .before .before .before .before .before .before .before .before .before .before .before .before .args in
     let l = c .before .before .before .before .before .before .before .before .before .before .loop in
     let k = rw (c .before .before .before .before .before .before .before .kept2 .given .1) at (c .before .before .before .before .before .before .before .before .before .kept-step .ensures (a .heads .now) (a .states .now)) in
     let f = few-records (stored (a .heads .now) (a .states .now) (a .trs .now) (a .w .used .states) (a .w .used .trs)) (a .w .used .trs + l .count) (k .3) in
@@ -43,7 +43,7 @@ loop-less c =
 
 add-count : tie.Need-add-count Inv-loop μ-loop
 add-count c =
-    let a = c .before .before .before .before .before .before .before .before .before .before .before .before .before .before .before .before .before .before .before .before .args in
+    let a = c .before .before .before .before .before .before .before .before .before .before .before .before .before .before .before .before .before .before .before .before .before .args in
     let l = c .before .before .before .before .before .before .before .before .before .before .loop in
     let k = rw (c .before .before .before .before .before .before .before .kept2 .given .1) at (c .before .before .before .before .before .before .before .before .before .kept-step .ensures (a .heads .now) (a .states .now)) in
     let f = few-records (stored (a .heads .now) (a .states .now) (a .trs .now) (a .w .used .states) (a .w .used .trs)) (a .w .used .trs + l .count) (k .3) in
@@ -52,11 +52,11 @@ add-count c =
 loop-again : tie.Need-loop-again Inv-loop μ-loop
 unfolding stateRoomWith
 loop-again c =
-    let a = c .before .before .before .before .before .before .before .before .before .before .before .before .before .before .before .before .before .before .before .before .args in
+    let a = c .before .before .before .before .before .before .before .before .before .before .before .before .before .before .before .before .before .before .before .before .before .args in
     let l = c .before .before .before .before .before .before .before .before .before .before .loop in
     let n = c .before .counted .given in
-    let S = optionSettings (a .w .options) in
-    let L = lentOf (a .w .options) (a .m1 .now) (a .m2 .now) (a .a1 .now) (a .a2 .now) in
+    let S = a .w .options in
+    let L = lentOf (a .w .options) (a .m1 .now) (a .m2 .now) (a .a1 .now) (a .a2 .now) (a .ignored .now) in
     let d = stored (a .heads .now) (a .states .now) (a .trs .now) (a .w .used .states) (a .w .used .trs) in
     let k = rw (c .before .before .before .before .before .before .before .kept2 .given .1) at (c .before .before .before .before .before .before .before .before .before .kept-step .ensures (a .heads .now) (a .states .now)) in
     let f = few-records d (a .w .used .trs + l .count) (k .3) in

@@ -4,7 +4,7 @@ use lib.ListN.{replicate}
 use Rattle.calls.specs.Store.{roomOf, stateSize, find}
 use Rattle.store_records.specs.Meaning.{stored}
 use Rattle.triple_set.proofs.SetLaws.{headed-none}
-use Rattle.compose_fst_op.specs.Composing.{optionSettings, lentOf}
+use Rattle.compose_fst_op.specs.Composing.{lentOf}
 use Rattle.compose_moves.specs.Cursors.{stepsLeft}
 use Rattle.compose_weigh.specs.Weigh.{missing, isNew}
 use Rattle.compose_weigh.proofs.SetTurns.{set-room}
@@ -13,13 +13,13 @@ use Rattle.compose_weigh.proofs.weigh_window.Statement.{statement}
 use Rattle.compose_weigh.proofs.weigh_window.Tie as tie
 
 fill-requires : tie.Need-fill-requires
-fill-requires c κs = (c .before .before .before .before .before .before .before .before .before .pre, (headed-none 2039 12288 (omega arith), omega (arith, set-room)))
+fill-requires c κs = (c .before .before .before .before .before .before .before .before .before .before .pre, (headed-none 2039 12288 (omega arith), omega (arith, set-room)))
 
-sub-t28 : tie.Need-sub-t28
-sub-t28 c =
-    let a = c .before .before .before .before .before .before .before .before .before .before .before .before .before .before .before .before .before .before .args in
-    let S = optionSettings (a .w .options) in
-    let L = lentOf (a .w .options) (a .m1 .now) (a .m2 .now) (a .a1 .now) (a .a2 .now) in
+sub-t29 : tie.Need-sub-t29
+sub-t29 c =
+    let a = c .before .before .before .before .before .before .before .before .before .before .before .before .before .before .before .before .before .before .before .args in
+    let S = a .w .options in
+    let L = lentOf (a .w .options) (a .m1 .now) (a .m2 .now) (a .a1 .now) (a .a2 .now) (a .ignored .now) in
     let d = stored (a .heads .now) (a .states .now) (a .trs .now) (a .w .used .states) (a .w .used .trs) in
     let f = c .before .before .before .before .before .before .before .before .fill .ensures in
     let e = c .before .count-earlier .ensures (λ t. missing (find d t)) (f .0) (stepsLeft S L (a .from)) (roomOf stateSize (replicate 12288 0)) (omega (arith, set-room)) (f .2) in
@@ -28,9 +28,9 @@ sub-t28 c =
 returns : tie.Need-returns
 unfolding isNew
 returns c =
-    let a = c .before .before .before .before .before .before .before .before .before .before .before .before .before .before .before .before .before .before .args in
-    let S = optionSettings (a .w .options) in
-    let L = lentOf (a .w .options) (a .m1 .now) (a .m2 .now) (a .a1 .now) (a .a2 .now) in
+    let a = c .before .before .before .before .before .before .before .before .before .before .before .before .before .before .before .before .before .before .before .args in
+    let S = a .w .options in
+    let L = lentOf (a .w .options) (a .m1 .now) (a .m2 .now) (a .a1 .now) (a .a2 .now) (a .ignored .now) in
     let d = stored (a .heads .now) (a .states .now) (a .trs .now) (a .w .used .states) (a .w .used .trs) in
     let f = c .before .before .before .before .before .before .before .before .fill .ensures in
     let e = c .before .count-earlier .ensures (λ t. missing (find d t)) (f .0) (stepsLeft S L (a .from)) (roomOf stateSize (replicate 12288 0)) (omega (arith, set-room)) (f .2) in
@@ -46,5 +46,5 @@ weigh-window-spec =
     (λ c. search needs)
     (λ c. search needs)
     (λ c κs. search needs)
-    sub-t28
+    sub-t29
     returns)

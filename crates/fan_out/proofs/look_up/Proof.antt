@@ -1,5 +1,6 @@
 -- Settings of six words or 1; then the call, for the machine of the query or for none.
 use mathlib.Core.Path.{sym, _∙_}
+use mathlib.Core.List.{[]}
 use mathlib.Core.Option.{none}
 use denote.Ref.{now}
 use borrow.Author.Tests.{ne-eqb}
@@ -16,18 +17,18 @@ returns c = rw (ne-eqb _ _ (c .if1 .taken))
 
 returns-2 : tie.Need-returns-2
 returns-2 c =
-    let a = c .before .before .before .before .before .before .before .before .args in
-    let l = lentSlices (now (a .m1)) (now (a .m2)) none none in
-    c .fan-out .ensures ∙ (λ i. fanOutOf (c .before .before .read-settings .ensures i) l 0 0 0)
-    ∙ sym (line-unasked (now (a .settings)) l (now (a .query)) (c .before .before .before .if1 .left) (c .before .if2 .taken))
+    let a = c .before .before .before .before .before .before .before .before .before .args in
+    let l = lentSlices (now (a .m1)) (now (a .m2)) none none [] in
+    c .fan-out .ensures ∙ (λ i. fanOutOf (c .before .before .before .read-settings .ensures i) l 0 0 0)
+    ∙ sym (line-unasked (now (a .settings)) l (now (a .query)) (c .before .before .before .before .if1 .left) (c .before .before .if2 .taken))
 
 returns-3 : tie.Need-returns-3
 returns-3 c =
-    let a = c .before .before .before .before .before .before .before .before .before .before .before .args in
-    let l = lentSlices (now (a .m1)) (now (a .m2)) none none in
+    let a = c .before .before .before .before .before .before .before .before .before .before .before .before .args in
+    let l = lentSlices (now (a .m1)) (now (a .m2)) none none [] in
     c .fan-out2 .ensures
-    ∙ (λ i. fanOutOf (c .before .before .before .before .before .read-settings .ensures i) l (c .before .word3 .ensures i) (c .before .before .before .word .ensures i) (c .before .before .word2 .ensures i))
-    ∙ sym (line-is-call (now (a .settings)) l (now (a .query)) (c .before .before .before .before .before .before .if1 .left) (c .before .before .before .before .if2 .left))
+    ∙ (λ i. fanOutOf (c .before .before .before .before .before .before .read-settings .ensures i) l (c .before .word3 .ensures i) (c .before .before .before .before .word .ensures i) (c .before .before .before .word2 .ensures i))
+    ∙ sym (line-is-call (now (a .settings)) l (now (a .query)) (c .before .before .before .before .before .before .before .if1 .left) (c .before .before .before .before .before .if2 .left))
 
 pub look-up-spec : {M : Type 1} → statement M
 look-up-spec =
@@ -35,10 +36,16 @@ look-up-spec =
     (tie.spec
     returns
     (λ c κs. search needs)
+    (λ c. search needs)
+    (λ c. search needs)
+    (λ c. search needs)
     (λ c κs. search needs)
     returns-2
     (λ c κs. search needs)
     (λ c κs. search needs)
+    (λ c. search needs)
+    (λ c. search needs)
+    (λ c. search needs)
     (λ c κs. search needs)
     (λ c κs. search needs)
     returns-3)

@@ -11,8 +11,8 @@ use Rattle.fan_out_call.proofs.fan_out.Tie as tie
 
 fan-out-at-requires : tie.Need-fan-out-at-requires
 fan-out-at-requires c κs =
-    let a = c .before .before .before .before .before .before .before .args in
-    within-limit (settingsMeans (a .settings)) (lentSlices (now (a .m1)) (now (a .m2)) none none) _ (rw (c .enum-told .given .1) at (sym (c .before .before .side-for .ensures none none)))
+    let a = c .before .before .before .before .before .before .before .before .args in
+    within-limit (settingsMeans (a .settings)) (lentSlices (now (a .m1)) (now (a .m2)) none none (now (a .ignored))) _ (rw (c .enum-told .given .1) at (sym (c .before .before .side-for .ensures none none)))
 
 returns : tie.Need-returns
 unfolding fanOutOf

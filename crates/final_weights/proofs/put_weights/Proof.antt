@@ -13,20 +13,20 @@ use Rattle.final_weights.proofs.put_weights.Statement.{statement}
 use Rattle.final_weights.proofs.put_weights.Tie as tie
 
 abbrev Inv-loop : tie.InvT-loop
-Inv-loop session m1 m2 allowed1 allowed2 listed heads states trs out₀ count n₀ out n =
+Inv-loop session m1 m2 allowed1 allowed2 ignored listed heads states trs out₀ count n₀ out n =
     (n ≤ session .used .states)
     × (length out ≡ 2 * session .used .states)
-    × (put out (2 * n) (wordsFrom (lentWith m1 m2 allowed1 allowed2 listed) (sessionMeans session) (memoryOf heads states trs) n (session .used .states - n)) ≡ wordsFrom (lentWith m1 m2 allowed1 allowed2 listed) (sessionMeans session) (memoryOf heads states trs) 0 (session .used .states))
+    × (put out (2 * n) (wordsFrom (lentWith m1 m2 allowed1 allowed2 ignored listed) (sessionMeans session) (memoryOf heads states trs) n (session .used .states - n)) ≡ wordsFrom (lentWith m1 m2 allowed1 allowed2 ignored listed) (sessionMeans session) (memoryOf heads states trs) 0 (session .used .states))
 
 abbrev μ-loop : tie.MeasureT-loop
-μ-loop session m1 m2 allowed1 allowed2 listed heads states trs out₀ count n₀ out n = count - n
+μ-loop session m1 m2 allowed1 allowed2 ignored listed heads states trs out₀ count n₀ out n = count - n
 
 loop-holds : tie.Need-loop-holds Inv-loop μ-loop
-loop-holds c = let sized = c .before .before .before .before .before .before .before .before .before .pre .1 in (search needs, sized, words-start _ _ _ _ _ sized)
+loop-holds c = let sized = c .before .before .before .before .before .before .before .before .before .before .pre .1 in (search needs, sized, words-start _ _ _ _ _ sized)
 
 loop-again : tie.Need-loop-again Inv-loop μ-loop
 loop-again c =
-    let a = c .before .before .before .before .before .before .before .before .before .before .before .before .before .before .before .before .args in
+    let a = c .before .before .before .before .before .before .before .before .before .before .before .before .before .before .before .before .before .args in
     let below : c .before .before .before .before .before .before .loop .n < a .session .used .states = search needs in
     let m = memoryOf (a .heads .now) (a .states .now) (a .trs .now) in (
       omega arith,

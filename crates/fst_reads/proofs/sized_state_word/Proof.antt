@@ -1,5 +1,5 @@
 -- A word of a state is in range.
-use Rattle.words.specs.Machines.{stateWord}
+use Rattle.words.proofs.FormLaws.{state-at}
 use Rattle.fst_reads.proofs.Inside.{sized}
 use borrow.Author.Needs.{needs}
 use Rattle.fst_reads.proofs.sized_state_word.Statement.{statement}
@@ -15,8 +15,7 @@ shared-slice-read-result : tie.Need-shared-slice-read-result
 shared-slice-read-result c = search (needs, sized _ (c .before .before .pre .0))
 
 returns : tie.Need-returns
-unfolding stateWord
-returns c = cc
+returns c = cc (state-at _ (c .before .before .args .s .0) (c .before .before .args .k) (c .before .before .pre .1))
 
 pub sized-state-word-spec : {M : Type 1} → statement M
 sized-state-word-spec =

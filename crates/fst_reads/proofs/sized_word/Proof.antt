@@ -1,5 +1,5 @@
 -- A word of a record is in range.
-use Rattle.words.specs.Machines.{trWord}
+use Rattle.words.proofs.FormLaws.{tr-at}
 use Rattle.fst_reads.proofs.Inside.{sized}
 use borrow.Author.Needs.{needs}
 use Rattle.fst_reads.proofs.sized_word.Statement.{statement}
@@ -29,8 +29,7 @@ shared-slice-read-result c = search (needs, sized _ (c .before .pre .0))
 
 -- src/lib.rt:47:1
 returns : tie.Need-returns
-unfolding trWord
-returns c = cc
+returns c = cc (tr-at _ (c .before .args .t) (c .before .args .k) (c .before .pre .2 .0))
 
 pub sized-word-spec : {M : Type 1} → statement M
 sized-word-spec =

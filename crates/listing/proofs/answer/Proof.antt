@@ -7,9 +7,9 @@ use Rattle.listing.proofs.answer.Tie as tie
 
 returns : tie.Need-returns
 returns c =
-    let p = c .before .before .before .before .before .before .before .before .before .before .before .before .before .before .before .line-words .ensures in
-    let q = c .before .before .before .before .before .before .before .before .before .before .before .line-words2 .ensures in
-    let t = c .before .before .before .before .before .before .before .line-words3 .ensures in
+    let p = c .before .before .before .before .before .before .before .before .before .before .before .before .before .before .before .before .line-words .ensures in
+    let q = c .before .before .before .before .before .before .before .before .before .before .before .before .line-words2 .ensures in
+    let t = c .before .before .before .before .before .before .before .before .line-words3 .ensures in
     let w = c .listing .ensures in
     (same-text (λ k. endedBytes (p .0 k) (q .0 k) (t .0 k)) (w .0), (w .1, (p .1 .1, q .1 .1, t .1 .1)))
 
@@ -20,6 +20,9 @@ answer-spec =
     (λ c κs. search needs)
     (λ c κs. search needs)
     (λ c κs. search needs)
+    (λ c. search needs)
+    (λ c. search needs)
+    (λ c. search needs)
     (λ c. search needs)
     (λ c. search needs)
     (λ c. search needs)

@@ -15,19 +15,19 @@ use Rattle.listing.proofs.listing.Tie as tie
 
 returns : tie.Need-returns
 returns c =
-    let a = c .before .before .before .before .before .before .before .before .args in
+    let a = c .before .before .before .before .before .before .before .before .before .args in
     let w = c .put-refused in
     let h : w .result ≤ length (w .last .0) = search needs in
-    (same-text (sym (bytes-one (refusedLine 1)) ∙ ap bytesOf (not-six (a .words .now) (lentWith (a .m1 .now) (a .m2 .now) (a .allowed1 .now) (a .allowed2 .now) (a .listed)) (c .before .before .if1 .taken))) (w .ensures .0), counts (w .result) (w .last .0) h)
+    (same-text (sym (bytes-one (refusedLine 1)) ∙ ap bytesOf (not-six (a .words .now) (lentWith (a .m1 .now) (a .m2 .now) (a .allowed1 .now) (a .allowed2 .now) (a .ignored .now) (a .listed)) (c .before .before .if1 .taken))) (w .ensures .0), counts (w .result) (w .last .0) h)
 
 open-listing-requires : tie.Need-open-listing-requires
 open-listing-requires c κs = record { state-words = refl; tr-words = refl; bytes = search needs }
 
 returns-2 : tie.Need-returns-2
 returns-2 c =
-    let a = c .before .before .before .before .before .before .before .before .before .before .before .before .before .before .before .args in
+    let a = c .before .before .before .before .before .before .before .before .before .before .before .before .before .before .before .before .args in
     let w = c .before .before .before .open-listing in
-    (same-text (ap bytesOf (six (a .words .now) (lentWith (a .m1 .now) (a .m2 .now) (a .allowed1 .now) (a .allowed2 .now) (a .listed)) _ (c .before .before .before .before .before .before .before .before .read-settings .ensures) (c .before .before .before .before .before .before .before .before .before .if1 .left))) (w .ensures .0), counts (w .result) (w .last .1 .1 .1 .1 .1 .1 .1 .1 .1 .0) (w .ensures .1 .0))
+    (same-text (ap bytesOf (six (a .words .now) (lentWith (a .m1 .now) (a .m2 .now) (a .allowed1 .now) (a .allowed2 .now) (a .ignored .now) (a .listed)) _ (c .before .before .before .before .before .before .before .before .read-settings .ensures) (c .before .before .before .before .before .before .before .before .before .if1 .left))) (w .ensures .0), counts (w .result) (w .last .1 .1 .1 .1 .1 .1 .1 .1 .1 .1 .0) (w .ensures .1 .0))
 
 pub listing-spec : {M : Type 1} → statement M
 listing-spec =

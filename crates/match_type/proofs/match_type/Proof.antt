@@ -7,16 +7,18 @@ use Rattle.words.specs.Labels.{epsLabel, noLabel}
 use Rattle.words.specs.Matches.{outputs}
 use Rattle.words.specs.Machines.{machineOf, sorted}
 use Rattle.words.specs.Sides.{sideOf}
+use Rattle.fst.specs.Meaning.{readAs}
+use Rattle.fst.specs.declared.MatchType.the-variants.{MatchOutput}
 use borrow.Author.Needs.{needs}
 use Rattle.match_type.proofs.match_type.Statement.{statement}
 use Rattle.match_type.proofs.match_type.Tie as tie
 
 -- what the tests that were passed say
-no-eps : (c : tie.Else1) → let a = c .before .before .before .before .args in eqb (a .sigma1 .0) epsLabel || eqb (a .sigma2 .0) epsLabel ≡ false
+no-eps : (c : tie.Else1) → let a = c .before .before .before .before .before .before .before .args in eqb (a .sigmas .first .0) epsLabel || eqb (a .sigmas .second .0) epsLabel ≡ false
 no-eps c = rw (← c .before .has-eps .ensures) (c .if1 .left)
 
-ordered1 : (c : tie.Else2) → let a = c .before .before .before .before .before .before .args in
-    not (eqb (a .sigma1 .0) noLabel) && not (sorted outputs (machineOf (now (a .m1)))) ≡ false
+ordered1 : (c : tie.Else2) → let a = c .before .before .before .before .before .before .before .before .before .args in
+    not (eqb (a .sigmas .first .0) noLabel) && not (sorted outputs (machineOf (readAs MatchOutput (a .sigmas) (now (a .ignored)) (now (a .m1))))) ≡ false
 ordered1 c = rw (← c .before .lacks-order .ensures) (c .if2 .left)
 
 returns : tie.Need-returns

@@ -19,10 +19,10 @@ returns c = rw (ne-eqb _ _ (c .if1 .taken))
 returns-2 : tie.Need-returns-2
 unfolding runWords
 returns-2 c =
-    let x = c .before .before .before .before .before .before .before .before .before .before .before .before .before .before .before .before .before .before .before .before .before .before .before .before .before .before .args in
+    let x = c .before .before .before .before .before .before .before .before .before .before .before .before .before .before .before .before .before .before .before .before .before .before .before .before .before .before .before .args in
     let m = memoryOf (now (x .heads)) (now (x .states)) (now (x .trs)) in
     rw (eq-eqb _ _ (c .before .before .before .before .before .before .before .before .before .before .before .before .before .before .before .before .before .if1 .left))
-    (c .before .before .leave .ensures _ ∙ ap (inWords (λ u. accepted) []) (c .before .before .before .before .before .before .before .before .before .before .run .ensures ∙ (λ i. runOf (lentWith (now (x .m1)) (now (x .m2)) (now (x .allowed1)) (now (x .allowed2)) (c .before .before .before .before .before .before .before .before .before .before .before .before .before .before .listed-by .ensures i)) (c .before .before .before .before .before .before .before .before .before .before .before .before .before .before .before .read-session .ensures i) m)))
+    (c .before .before .leave .ensures _ ∙ ap (inWords (λ u. accepted) []) (c .before .before .before .before .before .before .before .before .before .before .run .ensures ∙ (λ i. runOf (lentWith (now (x .m1)) (now (x .m2)) (now (x .allowed1)) (now (x .allowed2)) (now (x .ignored)) (c .before .before .before .before .before .before .before .before .before .before .before .before .before .before .listed-by .ensures i)) (c .before .before .before .before .before .before .before .before .before .before .before .before .before .before .before .read-session .ensures i) m)))
 
 pub rinkolza-run-spec : {M : Type 1} → statement M
 rinkolza-run-spec =

@@ -7,15 +7,15 @@ use Rattle.compose_fst_op.proofs.finals.compute_final_weight.Tie as tie
 
 returns : tie.Need-returns
 unfolding finalAt
-returns c = λ a1 a2. rw (fails (c .before .is-final .ensures) (c .if1 .taken))
+returns c = λ a1 a2 ignored. rw (fails (c .before .is-final .ensures) (c .if1 .taken))
 
 returns-2 : tie.Need-returns-2
 unfolding finalAt
-returns-2 c = λ a1 a2. rw (holds (c .before .before .before .is-final .ensures) (c .before .before .if1 .left), fails (c .before .is-final2 .ensures) (c .if2 .taken))
+returns-2 c = λ a1 a2 ignored. rw (holds (c .before .before .before .is-final .ensures) (c .before .before .if1 .left), fails (c .before .is-final2 .ensures) (c .if2 .taken))
 
 returns-3 : tie.Need-returns-3
 unfolding finalAt
-returns-3 c = λ a1 a2. rw (holds (c .before .before .before .before .before .before .is-final .ensures) (c .before .before .before .before .before .if1 .left), holds (c .before .before .before .before .is-final2 .ensures) (c .before .before .before .if2 .left), ← c .before .before .final-weight .ensures, ← c .before .final-weight2 .ensures) (c .times-final .ensures)
+returns-3 c = λ a1 a2 ignored. rw (holds (c .before .before .before .before .before .before .is-final .ensures) (c .before .before .before .before .before .if1 .left), holds (c .before .before .before .before .is-final2 .ensures) (c .before .before .before .if2 .left), ← c .before .before .final-weight .ensures, ← c .before .final-weight2 .ensures) (c .times-final .ensures)
 
 pub compute-final-weight-spec : {M : Type 1} → statement M
 compute-final-weight-spec =

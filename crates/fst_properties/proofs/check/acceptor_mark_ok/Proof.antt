@@ -10,7 +10,7 @@ returns : tie.Need-returns
 returns c = rw (← c .before .acceptor-mark .ensures, c .match .keys1)
 
 returns-2 : tie.Need-returns-2
-returns-2 c = rw (← c .before .before .acceptor-mark .ensures, c .before .match .keys2) (c .acceptor .ensures)
+returns-2 c = rw (← c .before .before .acceptor-mark .ensures, c .before .match .keys2) (c .lent-acceptor .ensures)
 
 returns-3 : tie.Need-returns-3
 returns-3 c = let e : c .before .acceptor-mark .result ≡ suc (suc (c .before .acceptor-mark .result - 2)) = omega arith in rw (← c .before .acceptor-mark .ensures, e)

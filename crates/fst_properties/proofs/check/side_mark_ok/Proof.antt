@@ -16,10 +16,10 @@ returns-2 : tie.Need-returns-2
 returns-2 c = rw (← c .before .side-mark .ensures, c .match .keys1)
 
 returns-3 : tie.Need-returns-3
-returns-3 c = rw (← c .before .before .before .side-mark .ensures, c .before .before .match .keys2) (c .sorted .ensures)
+returns-3 c = rw (← c .before .before .before .side-mark .ensures, c .before .before .match .keys2) (c .lent-sorted .ensures)
 
 returns-4 : tie.Need-returns-4
-returns-4 c = rw (← c .before .before .side-mark .ensures, c .before .match .keys3, c .sorted2 .ensures)
+returns-4 c = rw (← c .before .before .side-mark .ensures, c .before .match .keys3, c .lent-sorted2 .ensures)
 
 returns-5 : tie.Need-returns-5
 returns-5 c = let e : c .before .side-mark .result ≡ suc (suc (suc (c .before .side-mark .result - 3))) = omega arith in rw (← c .before .side-mark .ensures, e)

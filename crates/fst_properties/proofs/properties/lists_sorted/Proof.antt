@@ -12,7 +12,8 @@ use lib.ListN.{length}
 use Rattle.lists.specs.Lists.{every, interval}
 use Rattle.words.specs.Machines.{trCount, nextOf, listFrom, listOf, machineOf, sorted}
 use Rattle.words.proofs.ListLaws.{link, first-inside, list-turn}
-use Rattle.fst.specs.Meaning.{onOf}
+use Rattle.words.proofs.ReplacedLaws.{read-length, read-states, read-first, read-next}
+use Rattle.fst.specs.Meaning.{onOf, readAs, ignoredUnder}
 use Rattle.lists.proofs.Runs.{run-turn, run-end, run-cut}
 use Rattle.fst_properties.proofs.Bits.{none-seen}
 use Rattle.fst_properties.proofs.Falls.{listSorted, sorted-lists, far-list}
@@ -22,33 +23,36 @@ use Rattle.fst_properties.proofs.properties.lists_sorted.Statement.{sta
 use Rattle.fst_properties.proofs.properties.lists_sorted.Tie as tie
 
 abbrev Inv-list : tie.InvT-list
-Inv-list m on records n seen₀ ok₀ s low₀ t₀ seen ok low t =
+Inv-list m on sigmas ignored records n seen₀ ok₀ s low₀ t₀ seen ok low t =
+    let words = readAs on sigmas ignored m in
     (ok ≡ true)
     × (s < n)
-    × (t ≤ trCount m)
-    × Walked (onOf on) m records seen (low .0) t
-    × (fromOn (onOf on) m (low .0) t && every (listSorted (onOf on) m) (interval (s + 1) (n - (s + 1))) ≡ sorted (onOf on) (machineOf m))
+    × (t ≤ trCount words)
+    × Walked (onOf on) words records seen (low .0) t
+    × (fromOn (onOf on) words (low .0) t && every (listSorted (onOf on) words) (interval (s + 1) (n - (s + 1))) ≡ sorted (onOf on) (machineOf words))
 
 abbrev μ-list : tie.MeasureT-list
-μ-list m on records n seen₀ ok₀ s low₀ t₀ seen ok low t = length (listFrom m t)
+μ-list m on sigmas ignored records n seen₀ ok₀ s low₀ t₀ seen ok low t = length (listFrom (readAs on sigmas ignored m) t)
 
 abbrev Inv-states : tie.InvT-states
-Inv-states m on records n seen₀ ok₀ s₀ seen ok s =
-    (ok ≡ true) × (s ≤ n) × SeenSorted (onOf on) m records seen × (every (listSorted (onOf on) m) (interval s (n - s)) ≡ sorted (onOf on) (machineOf m))
+Inv-states m on sigmas ignored records n seen₀ ok₀ s₀ seen ok s =
+    let words = readAs on sigmas ignored m in
+    (ok ≡ true) × (s ≤ n) × SeenSorted (onOf on) words records seen × (every (listSorted (onOf on) words) (interval s (n - s)) ≡ sorted (onOf on) (machineOf words))
 
 abbrev μ-states : tie.MeasureT-states
-μ-states m on records n seen₀ ok₀ s₀ seen ok s = n - s
+μ-states m on sigmas ignored records n seen₀ ok₀ s₀ seen ok s = n - s
 
 -- in a turn of the inner loop, the list is this record and the list from its link
 turn : (c : tie.In-list Inv-list μ-list Inv-states μ-states) →
-    let m = now (c .before .before .before .before .before .before .before .before .args .m) in
+    let a = c .before .before .before .before .before .before .before .before .before .args in
+    let m = readAs (a .on) (a .sigmas) (now (a .ignored)) (now (a .m)) in
     let t = c .before .list .t in listFrom m t ≡ t ∷ listFrom m (nextOf m t)
 turn c = list-turn _ _ (c .list-test .taken) (c .before .list .inv .2)
 
 -- where the inner loop is left, nothing falls in what is left of the list: it is empty, or an earlier walk saw it
 ended : (c : tie.Left-list Inv-list μ-list Inv-states μ-states) →
-    let a = c .before .before .before .before .before .before .before .before .args in
-    let l = c .before .list in fromOn (onOf (a .on)) (now (a .m)) (l .low .0) (l .t) ≡ true
+    let a = c .before .before .before .before .before .before .before .before .before .args in
+    let l = c .before .list in fromOn (onOf (a .on)) (readAs (a .on) (a .sigmas) (now (a .ignored)) (now (a .m))) (l .low .0) (l .t) ≡ true
 ended c =
     let l = c .before .list .inv in
     ⊎-elim
@@ -57,24 +61,29 @@ ended c =
     (c .list-test .came)
 
 states-holds : tie.Need-states-holds Inv-list μ-list Inv-states μ-states
-states-holds c = (
-  refl,
-  omega arith,
-  λ u h. absurd (none-seen _ 2048 u h),
-  rw (sub-zero, c .least .ensures, c .before .num-states .ensures, sorted-lists) (run-cut (listSorted _ _) 0 _ _ (far-list _ _)),
-)
+states-holds c =
+    let a = c .before .before .before .before .args in
+    let g = ignoredUnder (a .sigmas) (now (a .ignored)) in (
+      refl,
+      omega arith,
+      λ u h. absurd (none-seen _ 2048 u h),
+      rw (sub-zero, c .least .ensures, c .before .num-states .ensures, ← read-states (onOf (a .on)) g (now (a .m)), ← read-length (onOf (a .on)) g (now (a .m)), sorted-lists)
+          (run-cut (listSorted _ _) 0 _ _ (far-list _ _)),
+    )
 
 list-holds : tie.Need-list-holds Inv-list μ-list Inv-states μ-states
 unfolding listSorted listOf fromOn
 list-holds c =
     let l = c .before .before .states .inv in
     let h = c .before .states-test .taken in
-    let a = c .before .before .before .before .before .before .args in
-    rw (c .first-tr .ensures)
-    (l .0, h, first-inside _ _, begins _ _ _ _ _ _ (l .2), sym (run-turn (listSorted (onOf (a .on)) (now (a .m))) _ _ _ h) ∙ l .3)
+    let a = c .before .before .before .before .before .before .before .args in
+    rw (c .first-tr .ensures, ← read-first (onOf (a .on)) (ignoredUnder (a .sigmas) (now (a .ignored))) (now (a .m)) (c .before .before .states .s))
+    (l .0, h, first-inside _ _, begins _ _ _ _ _ _ (l .2), sym (run-turn (listSorted (onOf (a .on)) (readAs (a .on) (a .sigmas) (now (a .ignored)) (now (a .m)))) _ _ _ h) ∙ l .3)
 
 list-less : tie.Need-list-less Inv-list μ-list Inv-states μ-states
-list-less c = rw (c .next-tr .ensures) (omega (arith, ap length (turn (c .before .before .before .before .before .before .before .before .before .before))))
+list-less c =
+    let a = c .before .before .before .before .before .before .before .before .before .before .before .before .before .before .before .before .before .before .before .args in
+    rw (c .next-tr .ensures, ← read-next (onOf (a .on)) (ignoredUnder (a .sigmas) (now (a .ignored))) (now (a .m)) (c .before .before .before .before .before .before .before .before .before .before .before .list .t)) (omega (arith, ap length (turn (c .before .before .before .before .before .before .before .before .before .before))))
 
 list-again : tie.Need-list-again Inv-list μ-list Inv-states μ-states
 list-again c =
@@ -82,7 +91,8 @@ list-again c =
     let l = p .before .before .list .inv in
     let e = p .before .list-test .taken in
     let g = rw (p .inner-label .ensures) at (c .before .before .before .before .before .before .if1 .left) in
-    rw (c .next-tr .ensures, p .inner-label .ensures, c .before .see .ensures)
+    let a = c .before .before .before .before .before .before .before .before .before .before .before .before .before .before .before .before .before .before .before .args in
+    rw (c .next-tr .ensures, ← read-next (onOf (a .on)) (ignoredUnder (a .sigmas) (now (a .ignored))) (now (a .m)) (c .before .before .before .before .before .before .before .before .before .before .before .list .t), p .inner-label .ensures, c .before .see .ensures)
     (l .0, l .1, link _ _ .inside, goes-on _ _ _ _ _ _ (l .3) e (l .2) g, rw (from-turn _ _ _ _ e (l .2), le-leb _ _ g) at (l .4))
 
 states-again : tie.Need-states-again Inv-list μ-list Inv-states μ-states

@@ -7,7 +7,7 @@ returns : tie.Need-returns
 returns c = rw (c .before .enum-told .given .1) (c .same-labels .ensures)
 
 returns-2 : tie.Need-returns-2
-returns-2 c = rw (c .before .before .test .given .1) (c .rises .ensures)
+returns-2 c = rw (c .before .enum-told2 .given .1) (c .rises .ensures)
 
 pub passes-spec : {M : Type 1} → statement M
 passes-spec =

@@ -11,15 +11,15 @@ use Rattle.lazy_fst.proofs.Session.expand.Tie as tie
 
 expand-alone-requires : tie.Need-expand-alone-requires
 expand-alone-requires c κs =
-    let x = c .before .before .before .before .before .before .before .before .before .before .before .before .before .before .before .before .args in
-    let l = lentWith (now (x .m1)) (now (x .m2)) (now (x .allowed1)) (now (x .allowed2)) (x .listed) in
+    let x = c .before .before .before .before .before .before .before .before .before .before .before .before .before .before .before .before .before .args in
+    let l = lentWith (now (x .m1)) (now (x .m2)) (now (x .allowed1)) (now (x .allowed2)) (now (x .ignored)) (x .listed) in
     let m = memoryOf (now (x .heads)) (now (x .states)) (now (x .trs)) in
     passes-by l (x .self) m (c .before .before .before .before .before .enter .result) (c .before .before .before .enum-told .given .0 .0) (c .before .before .before .before .before .enter .ensures (l .allowed1) (l .allowed2)) (c .before .before .before .enum-told .given .1)
 
 returns : tie.Need-returns
 returns c =
-    let x = c .before .before .before .before .before .before .before .before .before .before .before .before .before .before .args in
-    let l = lentWith (now (x .m1)) (now (x .m2)) (now (x .allowed1)) (now (x .allowed2)) (x .listed) in
+    let x = c .before .before .before .before .before .before .before .before .before .before .before .before .before .before .before .args in
+    let l = lentWith (now (x .m1)) (now (x .m2)) (now (x .allowed1)) (now (x .allowed2)) (now (x .ignored)) (x .listed) in
     let m = memoryOf (now (x .heads)) (now (x .states)) (now (x .trs)) in
     stopped-expand l (sessionMeans (x .self)) m _ (sym (c .before .before .before .enter .ensures (l .allowed1) (l .allowed2)) ∙ ap (enteredMeans (x .self .settings) l) (c .before .entered .given .1)) (x .n .0)
 

@@ -17,7 +17,7 @@ use Rattle.lazy_fst.proofs.opening.begin.Tie as tie
 
 returns : tie.Need-returns
 unfolding begunWith stateRoomWith startAt
-returns c = λ a1 a2 trs. rw (← c .before .before .before .before .before .before .before .compute-start .ensures, c .before .before .before .before .before .first .given .1, ← c .before .lacks-room .ensures, c .if1 .taken)
+returns c = λ a1 a2 g trs. rw (← c .before .before .before .before .before .before .before .compute-start .ensures, c .before .before .before .before .before .first .given .1, ← c .before .lacks-room .ensures, c .if1 .taken)
 
 add-state-requires : tie.Need-add-state-requires
 add-state-requires c κs =
@@ -28,12 +28,12 @@ add-state-requires c κs =
 
 returns-2 : tie.Need-returns-2
 unfolding begunWith cleared startAt
-returns-2 c = λ a1 a2 trs. rw (← c .before .before .before .before .before .before .before .compute-start .ensures, c .before .before .before .before .before .enum-told .given .1, c .before .before .before .clear-heads .ensures, c .fresh .ensures)
+returns-2 c = λ a1 a2 g trs. rw (← c .before .before .before .before .before .before .before .compute-start .ensures, c .before .before .before .before .before .enum-told .given .1, c .before .before .before .clear-heads .ensures, c .fresh .ensures)
 
 returns-3 : tie.Need-returns-3
 unfolding begunWith cleared stateRoomWith startAt
 returns-3 c =
-    λ a1 a2 trs.
+    λ a1 a2 g trs.
     rw (← c .before .before .before .before .before .before .before .before .before .before .before .before .before .before .before .before .before .before .before .compute-start .ensures, c .before .before .before .before .before .before .before .before .before .before .before .before .before .before .before .before .before .first .given .1, ← c .before .before .before .before .before .before .before .before .before .before .before .before .before .lacks-room .ensures, c .before .before .before .before .before .before .before .before .before .before .before .before .if1 .left, ← c .before .before .before .before .before .before .before .before .before .before .clear-heads2 .ensures, ← c .before .before .before .before .before .add-state .ensures trs 0, c .fresh2 .ensures)
 
 pub begin-spec : {M : Type 1} → statement M

@@ -16,26 +16,26 @@ use Rattle.listing.proofs.lines.put_one.Statement.{statement}
 use Rattle.listing.proofs.lines.put_one.Tie as tie
 
 put-weighed-requires : tie.Need-put-weighed-requires
-put-weighed-requires c κs = omega (arith, c .before .before .before .before .before .before .before .before .before .before .before .pre .0)
+put-weighed-requires c κs = omega (arith, c .before .before .before .before .before .before .before .before .before .before .before .before .pre .0)
 
 put-trs-requires : tie.Need-put-trs-requires
 put-trs-requires c κs =
-    let a = c .before .before .before .before .before .before .before .before .before .before .before .before .before .before .before .before .args in
+    let a = c .before .before .before .before .before .before .before .before .before .before .before .before .before .before .before .before .before .args in
     let w = c .before .before .before .before .put-weighed in
     let e = ap (λ (x : List ℕ). length x / trSize) (c .before .trusted-records .ensures .0) in
-    let t = tr-lines-length (recordsOf (lentWith (a .m1 .now) (a .m2 .now) (a .allowed1 .now) (a .allowed2 .now) (a .listed)) (sessionMeans (a .session)) (memoryOf (a .heads .now) (a .states .now) (a .trs .now)) (a .n .0)) in
+    let t = tr-lines-length (recordsOf (lentWith (a .m1 .now) (a .m2 .now) (a .allowed1 .now) (a .allowed2 .now) (a .ignored .now) (a .listed)) (sessionMeans (a .session)) (memoryOf (a .heads .now) (a .states .now) (a .trs .now)) (a .n .0)) in
     let s : length (w .last .0) ≡ length (a .out .now) = search needs in
-    omega (arith, c .before .before .before .before .before .before .before .before .before .before .before .before .before .before .before .before .pre .0, w .ensures .1, e, t, s)
+    omega (arith, c .before .before .before .before .before .before .before .before .before .before .before .before .before .before .before .before .before .pre .0, w .ensures .1, e, t, s)
 
 returns : tie.Need-returns
 returns c =
-    let a = c .before .before .before .before .before .before .before .before .before .before .before .before .before .before .before .before .before .before .before .args in
+    let a = c .before .before .before .before .before .before .before .before .before .before .before .before .before .before .before .before .before .before .before .before .args in
     let w = c .before .before .before .before .before .before .before .put-weighed in
     let v = c .before .before .put-trs in
     let r = c .before .before .before .before .trusted-records in
     let e = ap (λ (x : List ℕ). length x / trSize) (r .ensures .0) in
-    let t = tr-lines-length (recordsOf (lentWith (a .m1 .now) (a .m2 .now) (a .allowed1 .now) (a .allowed2 .now) (a .listed)) (sessionMeans (a .session)) (memoryOf (a .heads .now) (a .states .now) (a .trs .now)) (a .n .0)) in (
-      same-text (one-state (lentWith (a .m1 .now) (a .m2 .now) (a .allowed1 .now) (a .allowed2 .now) (a .listed)) (sessionMeans (a .session)) (memoryOf (a .heads .now) (a .states .now) (a .trs .now)) (a .n .0) _ _ _ (c .before .before .before .before .before .before .before .before .get-tuple .ensures) (c .before .before .before .before .before .before .before .before .before .before .trusted-final-weight .ensures) (r .ensures .0)) (then (w .ensures .0 (memoryOf (a .heads .now) (a .states .now) (a .trs .now))) (v .ensures .0)),
+    let t = tr-lines-length (recordsOf (lentWith (a .m1 .now) (a .m2 .now) (a .allowed1 .now) (a .allowed2 .now) (a .ignored .now) (a .listed)) (sessionMeans (a .session)) (memoryOf (a .heads .now) (a .states .now) (a .trs .now)) (a .n .0)) in (
+      same-text (one-state (lentWith (a .m1 .now) (a .m2 .now) (a .allowed1 .now) (a .allowed2 .now) (a .ignored .now) (a .listed)) (sessionMeans (a .session)) (memoryOf (a .heads .now) (a .states .now) (a .trs .now)) (a .n .0) _ _ _ (c .before .before .before .before .before .before .before .before .get-tuple .ensures) (c .before .before .before .before .before .before .before .before .before .before .trusted-final-weight .ensures) (r .ensures .0)) (then (w .ensures .0 (memoryOf (a .heads .now) (a .states .now) (a .trs .now))) (v .ensures .0)),
       omega (arith, w .ensures .1, v .ensures .1, e, t),
     )
 

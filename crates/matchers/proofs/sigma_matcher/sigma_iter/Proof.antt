@@ -1,8 +1,10 @@
 -- Refusal 11, or the cursor with the label's own matches and the sigma matches after them.
-use mathlib.Core.Path.{refl}
+use mathlib.Core.Path.{refl, sym, _∙_}
 use denote.Ref.{now}
+use Rattle.words.specs.Machines.{sideMark}
 use Rattle.words.specs.Sigmas.{lookup}
-use Rattle.fst.specs.Meaning.{onOf}
+use Rattle.words.proofs.ReplacedLaws.{read-first}
+use Rattle.fst.specs.Meaning.{onOf, readAs, ignoredUnder}
 use Rattle.matchers.specs.Meaning.{lookupItems, allowedOf}
 use Rattle.matchers.specs.Cursors.{ownLeft, sigmaLeft, itemsLeft, matchesLeft}
 use Rattle.matchers.proofs.Starts.{sigma-start}
@@ -17,10 +19,12 @@ returns c = (rw (← c .before .is-sigma .ensures, c .if1 .taken), tt)
 returns-2 : tie.Need-returns-2
 unfolding lookupItems lookup itemsLeft matchesLeft ownLeft sigmaLeft
 returns-2 c =
-    let a = c .before .before .before .before .before .before .before .before .before .before .before .before .args in
-    let m = now (a .m) in
+    let a = c .before .before .before .before .before .before .before .before .before .before .before .before .before .args in
+    let m = readAs (a .on) (a .sigmas) (now (a .ignored)) (now (a .m)) in
     let allowed = allowedOf (a .sigma .listed) (now (a .allowed)) in
-    rw (← c .before .before .before .before .before .before .before .before .is-sigma .ensures, c .before .before .before .before .before .before .before .if1 .left, c .before .before .rewrites-both .ensures, c .before .before .before .sigma-from .ensures, c .before .before .before .before .seek .ensures, c .before .before .before .before .before .looked .ensures, c .before .before .before .before .before .before .first-tr .ensures, sigma-start (onOf (a .on)) m (a .sigma .label .0) (a .sigma .mode) allowed (a .s .0) (a .label .0)) (refl, refl)
+    let first = c .before .before .before .before .before .before .first-tr .ensures ∙ sym (read-first (onOf (a .on)) (ignoredUnder (a .sigmas) (now (a .ignored))) (now (a .m)) (a .s .0)) in
+    rw (← c .before .before .before .before .before .before .before .before .is-sigma .ensures, c .before .before .before .before .before .before .before .if1 .left, c .before .before .rewrites-both .ensures, c .before .before .before .sigma-from .ensures, c .before .before .before .before .seek .ensures, c .before .before .before .before .before .looked .ensures, first, sigma-start (onOf (a .on)) m (sideMark (onOf (a .on)) m) (a .sigma .acceptor) (a .sigma .label .0) (a .sigma .mode) allowed (a .s .0) (a .label .0))
+    (refl, refl)
 
 pub sigma-iter-spec : {M : Type 1} → statement M
 sigma-iter-spec =

@@ -33,7 +33,7 @@ same-length-2 : tie.Need-same-length-2
 same-length-2 c = search needs
 
 returns : tie.Need-returns
-returns c = rw (c .new-line .ensures, lt-ltb (c .before .before .before .before .before .before .before .before .before .before .before .before .before .before .args .place .at) 5 (c .before .if1 .taken)) refl
+returns c = rw (c .new-line .ensures, lt-ltb (c .before .before .before .before .before .before .before .before .before .before .before .before .before .before .args .place .at) 6 (c .before .if1 .taken)) refl
 
 answer-requires : tie.Need-answer-requires
 answer-requires c κs = search needs
@@ -48,7 +48,7 @@ same-length-4 : tie.Need-same-length-4
 same-length-4 c = search needs
 
 returns-2 : tie.Need-returns-2
-returns-2 c = c .new-place .ensures ∙ rw (le-ltb (c .before .before .before .before .before .before .before .before .before .before .before .before .before .before .before .before .before .args .place .at) 5 (c .before .before .before .before .if1 .left)) refl
+returns-2 c = c .new-place .ensures ∙ rw (le-ltb (c .before .before .before .before .before .before .before .before .before .before .before .before .before .before .before .before .before .args .place .at) 6 (c .before .before .before .before .if1 .left)) refl
 
 pub end-line-spec : {M : Type 1} → statement M
 end-line-spec =

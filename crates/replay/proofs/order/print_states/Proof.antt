@@ -7,10 +7,10 @@ use Rattle.replay.proofs.order.print_states.Statement.{statement}
 use Rattle.replay.proofs.order.print_states.Tie as tie
 
 abbrev Inv-loop : tie.InvT-loop
-Inv-loop session m1 m2 allowed1 allowed2 listed heads states trs line₀ count n₀ line n = (n ≤ count) × (length line ≡ length line₀)
+Inv-loop session m1 m2 allowed1 allowed2 ignored listed heads states trs line₀ count n₀ line n = (n ≤ count) × (length line ≡ length line₀)
 
 abbrev μ-loop : tie.MeasureT-loop
-μ-loop session m1 m2 allowed1 allowed2 listed heads states trs line₀ count n₀ line n = count - n
+μ-loop session m1 m2 allowed1 allowed2 ignored listed heads states trs line₀ count n₀ line n = count - n
 
 pub print-states-spec : {M : Type 1} → statement M
 print-states-spec =

@@ -20,9 +20,9 @@ returns-2 c = rw (eq-eqb _ _ (c .before .if1 .left), ne-eqb _ _ (c .if2 .taken))
 returns-3 : tie.Need-returns-3
 unfolding fanOutWords
 returns-3 c =
-    let x = c .before .before .before .before .before .before .before .before .before .before .before .before .before .before .before .args in
+    let x = c .before .before .before .before .before .before .before .before .before .before .before .before .before .before .before .before .args in
     rw (eq-eqb _ _ (c .before .before .before .before .before .before .before .before .if1 .left), eq-eqb _ _ (c .before .before .before .before .before .before .before .if2 .left))
-    (c .before .before .leave-count .ensures ∙ ap (inCount (now (x .answer))) (c .before .before .before .before .fan-out .ensures ∙ (λ i. fanOutOf (c .before .before .before .before .before .before .read-settings .ensures i) (lentWith (now (x .m1)) (now (x .m2)) (now (x .allowed1)) (now (x .allowed2)) (c .before .before .before .before .before .listed-by .ensures i)) (x .machine) (x .state) (x .label))))
+    (c .before .before .leave-count .ensures ∙ ap (inCount (now (x .answer))) (c .before .before .before .before .fan-out .ensures ∙ (λ i. fanOutOf (c .before .before .before .before .before .before .read-settings .ensures i) (lentWith (now (x .m1)) (now (x .m2)) (now (x .allowed1)) (now (x .allowed2)) (now (x .ignored)) (c .before .before .before .before .before .listed-by .ensures i)) (x .machine) (x .state) (x .label))))
 
 pub rinkolza-fan-out-spec : {M : Type 1} → statement M
 rinkolza-fan-out-spec =
