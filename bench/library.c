@@ -1,7 +1,9 @@
 // The library on a case of three lines, as `composed` reads them; best of REPEATS. With 0 repeats nothing is composed:
 // that is what reading the case costs.
 //
-// library REPEATS HEADS MODE < case
+// library REPEATS HEADS MODE [IGNORED] < case
+//
+// IGNORED labels are ignored, falling from MAX - 1: none that a case has.
 //
 // Every mode opens. Then `open` does no more; `run` runs; `trusted` runs without the checks; `lazy` expands every state
 // by a call of its own, without the checks; `checks` runs and then asks for the final weight of state 0. `room` expands
@@ -18,15 +20,15 @@ typedef struct {
   uint32_t *at;
   size_t n;
 } slice;
-static slice settings, m1, m2, session, heads, states, trs, answer;
+static slice settings, m1, m2, ignored, session, heads, states, trs, answer;
 static uint32_t memo1[RINKOLZA_MEMO_WORDS], memo2[RINKOLZA_MEMO_WORDS];
-#define MACHINES m1.at, m1.n, m2.at, m2.n, NULL, 0, 0, NULL, 0, 0
+#define MACHINES m1.at, m1.n, m2.at, m2.n, NULL, 0, 0, NULL, 0, 0, ignored.at, ignored.n
 #define MEMORY heads.at, heads.n, states.at, states.n, trs.at, trs.n
 #define LENT session.at, session.n, MACHINES, MEMORY
 #define ANSWER answer.at, answer.n
 
 static slice lent(size_t n) {
-  slice s = {malloc(4 * n), n};
+  slice s = {malloc(n ? 4 * n : 1), n};
   if (!s.at) exit(2);
   return s;
 }
@@ -149,10 +151,12 @@ static void room(int repeats) {
 }
 
 int main(int argc, char **argv) {
-  if (argc != 4) return 2;
+  if (argc != 4 && argc != 5) return 2;
   int repeats = atoi(argv[1]);
   const char *mode = argv[3];
   settings = line(), m1 = line(), m2 = line();
+  ignored = lent(argc == 5 ? atoi(argv[4]) : 0);
+  for (size_t i = 0; i < ignored.n; i++) ignored.at[i] = RINKOLZA_MAX - 1 - i;
   session = lent(RINKOLZA_SESSION_WORDS), answer = lent(RINKOLZA_ANSWER_WORDS), heads = lent(atoi(argv[2]));
   states = lent(4000000 * RINKOLZA_STATE_WORDS), trs = lent(4000000 * RINKOLZA_TR_WORDS);
   memset(session.at, 0, 4 * session.n);

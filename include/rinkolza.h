@@ -26,7 +26,7 @@
  *   at the same time, as long as no slice that one call may write is lent to
  *   the other.
  * - A call returns 0 where it is accepted, else the number of the refusal
- *   (RINKOLZA_REFUSED_..., 1 to 13). A refused call changes no word of any
+ *   (RINKOLZA_REFUSED_..., 1 to 13 or 18). A refused call changes no word of any
  *   slice. The exceptions are rinkolza_run and rinkolza_trusted_run: refused
  *   at a state, they keep the expansions before it, with the session that
  *   belongs to them; and the memos, which may change in any call that is lent
@@ -88,7 +88,8 @@
  * supplies label 0, weight one and its own state. The filter keeps a move and
  * gives the next f, or drops it. "none" means that the machine's state has no
  * epsilon on its inner side, "all" that it has only such and is not final; the
- * order within a cell counts:
+ * order within a cell counts. With ignored labels (see below) all this is said of
+ * the inner labels after replacement:
  *
  *   move          sequence            alternate           match
  *   1 alone       f=0: 0; else drop   all2: drop;         f=0: none2: 0; all2: drop;
@@ -111,7 +112,8 @@
  *
  * A reading of a machine is a path from its start to a final weight, with no
  * weight that is zero. Two readings, one of each machine, agree where the second
- * reads what the first writes, epsilons left out. Where all found states are
+ * reads what the first writes, epsilons left out (and ignored labels, where there
+ * are any: they count as epsilons there). Where all found states are
  * expanded, no final weight is refused with 12 and no sigma label is set:
  *
  *   sequence, alternate, match
@@ -141,7 +143,8 @@
  * its own by RINKOLZA_REWRITE_MATCHED, and by RINKOLZA_REWRITE_BY_MARK where
  * machine 2's acceptor mark is 0. With sigma on machine 1, with sigma on machine
  * 2 and side output, or where an output of machine 1 is the sigma label, nothing
- * is claimed of readings.
+ * is claimed of readings. With ignored labels, outputs, the side and the mark are
+ * those after replacement.
  *
  * ---------------------------------------------------------------------------
  * Settings, 6 words (const, for rinkolza_open and rinkolza_fan_out)
@@ -172,6 +175,48 @@
  * any order. `has1`, `has2` say whether there is a list: 0, no list, and every
  * label is allowed; anything else, the list counts, and an empty one allows no
  * label. Lend the same lists at every call of a session.
+ *
+ * ---------------------------------------------------------------------------
+ * Ignored labels (const, one list for both machines, lent at every call)
+ *
+ * Any words in any order, each as often as one likes; but 0 and RINKOLZA_NO_LABEL
+ * are refused: 18. A label that stands in the list counts as 0, epsilon, on machine
+ * 1's outputs and on machine 2's inputs, the inner labels: so joiners and soft
+ * hyphens, which no rule is to notice. Machine 1's inputs and machine 2's outputs
+ * stay as they are. The list is counted among the settings: give every call after
+ * an opening the list that the opening was given.
+ *
+ * An empty list changes nothing at all. With any other every answer is that of
+ * the two machines with those labels replaced by 0, and:
+ *
+ * - machine 1's output mark and machine 2's input mark are read as 0, whatever
+ *   they are, also where nothing is replaced;
+ * - an acceptor mark is read as 0 where some transition record, in a list or in
+ *   none, then has its input and its output apart; else it is read as it is;
+ * - sortedness is judged after replacement: for the side and for 5 to 7. Labels
+ *   2, 5 are no longer sorted where 5 is ignored;
+ * - whether a machine is malformed, 2 and 3, and so whether a mark is false, is
+ *   judged on the words as they are lent;
+ * - a sigma label is replaced as any other. Its transitions are epsilons then and
+ *   match no letter, and no label that is walked is sigma any longer; the setting
+ *   stays, and 5 and 6 are judged as ever. Allowed lists stay as they are lent;
+ * - the label that rinkolza_fan_out is asked for is not replaced: where it is
+ *   ignored it has no matches of its own, and sigma's where it is allowed; where
+ *   it is the sigma label it is refused, 11, as ever.
+ *
+ * Beware: since the two marks are read as 0, no list but the empty one leaves the
+ * side "both", and side input there is only where machine 1's outputs are not
+ * sorted after replacement. With a sigma label on machine 2 any list, though it
+ * has no label of either machine, may so change the side to output. Machine 2 is
+ * walked then, and its sigma is a label like others: a total may change.
+ *
+ * Cost: the whole list is gone through for each inner label that is read, so that
+ * a list of k words costs up to k comparisons more for each transition that is
+ * read. Its order is of no use, and words that stand in it twice cost as others do.
+ * And an expansion weighs each of its moves before it stores any, as with a sigma
+ * label: each look-up goes through the whole of a state's list. With thousands of
+ * transitions in both lists that is seconds in place of milliseconds; the label 0
+ * in the machines, in place of those to be ignored, costs nothing.
  *
  * ---------------------------------------------------------------------------
  * The session, 9 words
@@ -238,13 +283,15 @@
  *
  * A call that checks goes through both machines and all used memory that it is
  * lent, whatever it is asked for. The functions rinkolza_trusted_... answer the
- * same without the checks 1 to 8. They ask that these checks pass. That is proved
+ * same without the checks 1 to 8 and 18. They ask that these checks pass. That is
+ * proved
  * (OwnedClaim in crates/readings/specs/Owned.antt) for a caller that after an
  * accepted rinkolza_open keeps to this:
  *
- * - every call, of whatever sort, accepted or refused, gets the machines and the
- *   allowed lists, with has1 and has2, that this opening got; but a further
- *   opening may get others, and where it is accepted all begins anew;
+ * - every call, of whatever sort, accepted or refused, gets the machines, the
+ *   allowed lists, with has1 and has2, and the ignored labels that this opening
+ *   got; but a further opening may get others, and where it is accepted all begins
+ *   anew;
  * - it gets the session, the heads, the states and the trs as the call before
  *   left them, or the states and trs lengthened at their ends;
  * - nobody but these calls writes to any of them.
@@ -279,16 +326,19 @@
  * ---------------------------------------------------------------------------
  * The order of the checks
  *
- *   rinkolza_open          1 to 7 in their order, then 13 (not where a machine
+ * 18 stands after 3 and before 4 in every call that makes these.
+ *
+ *   rinkolza_open          1, 2, 3, 18, 4 to 7, then 13 (not where a machine
  *                          has no start: then no state is found)
- *   rinkolza_expand        1 to 9 in their order; a state that is expanded is
+ *   rinkolza_expand        1, 2, 3, 18, 4 to 9; a state that is expanded is
  *                          then answered as stored; else 10, then in the order
  *                          of the moves 11 before a walked label's matches, and
  *                          12, 13 for each move that is kept
- *   rinkolza_final_weight  1 to 9, then 12
- *   rinkolza_run           1 to 8, then as for the expansions that it makes
- *   rinkolza_records       1 to 9, each of which gives an empty part
- *   rinkolza_fan_out       1 to 7, then 9, then 11
+ *   rinkolza_final_weight  1, 2, 3, 18, 4 to 9, then 12
+ *   rinkolza_run           1, 2, 3, 18, 4 to 8, then as for the expansions that
+ *                          it makes
+ *   rinkolza_records       1, 2, 3, 18, 4 to 9, each of which gives an empty part
+ *   rinkolza_fan_out       1, 2, 3, 18, 4 to 7, then 9, then 11
  *   rinkolza_trusted_...   1 for lengths, then as above from 9 on
  */
 #ifndef RINKOLZA_H
@@ -389,13 +439,16 @@ extern "C" {
 #define RINKOLZA_REFUSED_WEIGHT UINT32_C(12)
 /* a record or, at opening, a head is lacking */
 #define RINKOLZA_REFUSED_NO_ROOM UINT32_C(13)
+/* the list of ignored labels holds 0 or RINKOLZA_NO_LABEL; judged after 3 and
+ * before 4 */
+#define RINKOLZA_REFUSED_IGNORED UINT32_C(18)
 
 /*
  * Opens a session with the six settings: chooses the side, clears the heads,
  * and stores the composed start as state 0, where both machines have a start.
  * The words of `session` are not read. Accepted: they are the new session.
- * The allowed lists play no part yet.
- * Refusals: 1 to 7, 13.
+ * The allowed lists play no part yet; the ignored labels do.
+ * Refusals: 1 to 7 and 18, 13.
  */
 uint32_t rinkolza_open(const uint32_t *settings, size_t settings_len,
                        uint32_t *session, size_t session_len,
@@ -403,6 +456,7 @@ uint32_t rinkolza_open(const uint32_t *settings, size_t settings_len,
                        const uint32_t *m2, size_t m2_len,
                        const uint32_t *allowed1, size_t allowed1_len, uint32_t has1,
                        const uint32_t *allowed2, size_t allowed2_len, uint32_t has2,
+                       const uint32_t *ignored, size_t ignored_len,
                        uint32_t *heads, size_t heads_len,
                        uint32_t *states, size_t states_len,
                        uint32_t *trs, size_t trs_len);
@@ -413,13 +467,14 @@ uint32_t rinkolza_open(const uint32_t *settings, size_t settings_len,
  * number of the first of its transition records, counted from 1 (0: it has
  * none), answer[1] their count. A state that is expanded already is answered
  * as stored, and nothing changes.
- * Refusals: 1 to 13.
+ * Refusals: 1 to 13, 18.
  */
 uint32_t rinkolza_expand(uint32_t *session, size_t session_len,
                          const uint32_t *m1, size_t m1_len,
                          const uint32_t *m2, size_t m2_len,
                          const uint32_t *allowed1, size_t allowed1_len, uint32_t has1,
                          const uint32_t *allowed2, size_t allowed2_len, uint32_t has2,
+                         const uint32_t *ignored, size_t ignored_len,
                          uint32_t *heads, size_t heads_len,
                          uint32_t *states, size_t states_len,
                          uint32_t *trs, size_t trs_len,
@@ -430,13 +485,14 @@ uint32_t rinkolza_expand(uint32_t *session, size_t session_len,
  * The final weight of state n, expanded or not. Accepted: answer[0] is 1 and
  * answer[1] the weight, or both are 0 where the composed state is not final.
  * Session and memory stay as they are.
- * Refusals: 1 to 9, 12.
+ * Refusals: 1 to 9 and 18, 12.
  */
 uint32_t rinkolza_final_weight(const uint32_t *session, size_t session_len,
                                const uint32_t *m1, size_t m1_len,
                                const uint32_t *m2, size_t m2_len,
                                const uint32_t *allowed1, size_t allowed1_len, uint32_t has1,
                                const uint32_t *allowed2, size_t allowed2_len, uint32_t has2,
+                               const uint32_t *ignored, size_t ignored_len,
                                const uint32_t *heads, size_t heads_len,
                                const uint32_t *states, size_t states_len,
                                const uint32_t *trs, size_t trs_len,
@@ -446,14 +502,15 @@ uint32_t rinkolza_final_weight(const uint32_t *session, size_t session_len,
 /*
  * Expands states in number order until none is left or one is refused. Refused
  * at a state (10 to 13), it keeps the expansions before it: session and memory
- * are then as those left them. Refused by 1 to 8, it changes nothing.
- * Refusals: 1 to 8, 10 to 13.
+ * are then as those left them. Refused by 1 to 8 or 18, it changes nothing.
+ * Refusals: 1 to 8 and 18, 10 to 13.
  */
 uint32_t rinkolza_run(uint32_t *session, size_t session_len,
                       const uint32_t *m1, size_t m1_len,
                       const uint32_t *m2, size_t m2_len,
                       const uint32_t *allowed1, size_t allowed1_len, uint32_t has1,
                       const uint32_t *allowed2, size_t allowed2_len, uint32_t has2,
+                      const uint32_t *ignored, size_t ignored_len,
                       uint32_t *heads, size_t heads_len,
                       uint32_t *states, size_t states_len,
                       uint32_t *trs, size_t trs_len);
@@ -461,8 +518,8 @@ uint32_t rinkolza_run(uint32_t *session, size_t session_len,
 /*
  * Hands back the transition records of state n: answer[0] is the number of the
  * first, counted from 1, answer[1] their count. Both are 0 where n is not
- * expanded, where it has no transitions, where 1 to 9 would stand, or where the
- * session has another length than 9; which of these it is, rinkolza_expand
+ * expanded, where it has no transitions, where 1 to 9 or 18 would stand, or where
+ * the session has another length than 9; which of these it is, rinkolza_expand
  * tells. An answer of another length than 2 is not written to. Session and
  * memory stay as they are.
  */
@@ -471,6 +528,7 @@ void rinkolza_records(const uint32_t *session, size_t session_len,
                       const uint32_t *m2, size_t m2_len,
                       const uint32_t *allowed1, size_t allowed1_len, uint32_t has1,
                       const uint32_t *allowed2, size_t allowed2_len, uint32_t has2,
+                      const uint32_t *ignored, size_t ignored_len,
                       const uint32_t *heads, size_t heads_len,
                       const uint32_t *states, size_t states_len,
                       const uint32_t *trs, size_t trs_len,
@@ -482,12 +540,12 @@ void rinkolza_records(const uint32_t *session, size_t session_len,
  * the loop and sigma matches included. Machine 1 is looked up on its outputs,
  * machine 2 on its inputs, each with its own sigma label and allowed list,
  * whatever the side; on an unsorted side every transition with the label counts.
- * Label 0: the loop, by which the machine rests, and the epsilon transitions;
- * label RINKOLZA_NO_LABEL: the epsilon transitions alone. Accepted: answer[0] is
- * the number. It is lent no memory and no session; as an opening does, it goes
+ * Label 0: the loop, by which the machine rests, and the epsilon transitions,
+ * those with an ignored label among them; label RINKOLZA_NO_LABEL: these
+ * transitions alone. Accepted: answer[0] is the number. It is lent no memory and no session; as an opening does, it goes
  * through both machines.
- * Refusals: 1 to 7 as an opening's (1 also where settings is not of 6 words or
- * answer not of 1), then 9 where machine is neither 1 nor 2 or the state is not
+ * Refusals: 1 to 7 and 18 as an opening's (1 also where settings is not of 6 words
+ * or answer not of 1), then 9 where machine is neither 1 nor 2 or the state is not
  * below the machine's S, then 11 where the label is that machine's sigma label.
  */
 uint32_t rinkolza_fan_out(const uint32_t *settings, size_t settings_len,
@@ -495,12 +553,13 @@ uint32_t rinkolza_fan_out(const uint32_t *settings, size_t settings_len,
                           const uint32_t *m2, size_t m2_len,
                           const uint32_t *allowed1, size_t allowed1_len, uint32_t has1,
                           const uint32_t *allowed2, size_t allowed2_len, uint32_t has2,
+                          const uint32_t *ignored, size_t ignored_len,
                           uint32_t machine, uint32_t state, uint32_t label,
                           uint32_t *answer, size_t answer_len);
 
 /*
- * As rinkolza_expand, without the checks 1 to 8, which must pass. The memos are
- * read and written: zeros after the opening, then as these calls leave them.
+ * As rinkolza_expand, without the checks 1 to 8 and 18, which must pass. The memos
+ * are read and written: zeros after the opening, then as these calls leave them.
  * Refusals: 1 for a length, 9 to 13.
  */
 uint32_t rinkolza_trusted_expand(uint32_t *session, size_t session_len,
@@ -508,6 +567,7 @@ uint32_t rinkolza_trusted_expand(uint32_t *session, size_t session_len,
                                  const uint32_t *m2, size_t m2_len,
                                  const uint32_t *allowed1, size_t allowed1_len, uint32_t has1,
                                  const uint32_t *allowed2, size_t allowed2_len, uint32_t has2,
+                                 const uint32_t *ignored, size_t ignored_len,
                                  uint32_t *heads, size_t heads_len,
                                  uint32_t *states, size_t states_len,
                                  uint32_t *trs, size_t trs_len,
@@ -516,7 +576,7 @@ uint32_t rinkolza_trusted_expand(uint32_t *session, size_t session_len,
                                  uint32_t *answer, size_t answer_len);
 
 /*
- * As rinkolza_final_weight, without the checks 1 to 8, which must pass.
+ * As rinkolza_final_weight, without the checks 1 to 8 and 18, which must pass.
  * Refusals: 1 for a length, 9, 12.
  */
 uint32_t rinkolza_trusted_final_weight(const uint32_t *session, size_t session_len,
@@ -524,6 +584,7 @@ uint32_t rinkolza_trusted_final_weight(const uint32_t *session, size_t session_l
                                        const uint32_t *m2, size_t m2_len,
                                        const uint32_t *allowed1, size_t allowed1_len, uint32_t has1,
                                        const uint32_t *allowed2, size_t allowed2_len, uint32_t has2,
+                                       const uint32_t *ignored, size_t ignored_len,
                                        const uint32_t *heads, size_t heads_len,
                                        const uint32_t *states, size_t states_len,
                                        const uint32_t *trs, size_t trs_len,
@@ -531,13 +592,14 @@ uint32_t rinkolza_trusted_final_weight(const uint32_t *session, size_t session_l
                                        uint32_t *answer, size_t answer_len);
 
 /*
- * As rinkolza_records, without the checks 1 to 8, which must pass.
+ * As rinkolza_records, without the checks 1 to 8 and 18, which must pass.
  */
 void rinkolza_trusted_records(const uint32_t *session, size_t session_len,
                               const uint32_t *m1, size_t m1_len,
                               const uint32_t *m2, size_t m2_len,
                               const uint32_t *allowed1, size_t allowed1_len, uint32_t has1,
                               const uint32_t *allowed2, size_t allowed2_len, uint32_t has2,
+                              const uint32_t *ignored, size_t ignored_len,
                               const uint32_t *heads, size_t heads_len,
                               const uint32_t *states, size_t states_len,
                               const uint32_t *trs, size_t trs_len,
@@ -545,8 +607,8 @@ void rinkolza_trusted_records(const uint32_t *session, size_t session_len,
                               uint32_t *answer, size_t answer_len);
 
 /*
- * The final weights of all found states in one go, without the checks 1 to 8,
- * which must pass. The answer has exactly 2 words for each found state:
+ * The final weights of all found states in one go, without the checks 1 to 8 and
+ * 18, which must pass. The answer has exactly 2 words for each found state:
  * answer[2 * n] and answer[2 * n + 1] are what rinkolza_final_weight answers
  * for state n. Session and memory stay as they are.
  * Refusals: 1 for a length, 12 where any of the weights is too large; the
@@ -557,14 +619,15 @@ uint32_t rinkolza_trusted_final_weights(const uint32_t *session, size_t session_
                                         const uint32_t *m2, size_t m2_len,
                                         const uint32_t *allowed1, size_t allowed1_len, uint32_t has1,
                                         const uint32_t *allowed2, size_t allowed2_len, uint32_t has2,
+                                        const uint32_t *ignored, size_t ignored_len,
                                         const uint32_t *heads, size_t heads_len,
                                         const uint32_t *states, size_t states_len,
                                         const uint32_t *trs, size_t trs_len,
                                         uint32_t *answer, size_t answer_len);
 
 /*
- * A piece of a run, without the checks 1 to 8, which must pass: from state n
- * on, in number order, at most k states are expanded, until none is left or one
+ * A piece of a run, without the checks 1 to 8 and 18, which must pass: from state
+ * n on, in number order, at most k states are expanded, until none is left or one
  * is refused. A state that is expanded already counts as one of the k; to pass
  * it costs no more than to read its flag. Refused at a state (10 to 13), it
  * keeps the expansions before it: session and memory are then as those left
@@ -581,6 +644,7 @@ uint32_t rinkolza_trusted_run(uint32_t *session, size_t session_len,
                               const uint32_t *m2, size_t m2_len,
                               const uint32_t *allowed1, size_t allowed1_len, uint32_t has1,
                               const uint32_t *allowed2, size_t allowed2_len, uint32_t has2,
+                              const uint32_t *ignored, size_t ignored_len,
                               uint32_t *heads, size_t heads_len,
                               uint32_t *states, size_t states_len,
                               uint32_t *trs, size_t trs_len,

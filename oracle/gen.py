@@ -1,16 +1,17 @@
 #!/usr/bin/env python3
 """Random cases for the oracle and for the programs `composed` and `replay`.
 
-gen.py SEED COUNT --mixed [--filters6]
+gen.py SEED COUNT --mixed|--ignoring [--filters6]
 gen.py SEED COUNT [--lists] [--order] [--filters6] [--damage] [--size N]
 gen.py SEED --big S1 T1 S2 T2 LABELS [--kind K] [--filter F] [--eps P]
 
-The first form prints COUNT cases of six lines, as `replay` reads them: "-" (a
+The first form prints COUNT cases of seven lines, as `replay` reads them: "-" (a
 whole listing) or state numbers (expansions in that order), the settings, the
-two allowed lists ("-": no list), both machines. They are drawn with an aim
-(AIMS below), so that sigma in all modes, alone and after a label's own matches,
-both ways of deciding under side "both", epsilons beside empty states, every
-refusal and full memory turn up often. The second form prints COUNT groups of
+two allowed lists ("-": no list), the ignored labels (none), both machines. They
+are drawn with an aim (AIMS below), so that sigma in all modes, alone and after a
+label's own matches, both ways of deciding under side "both", epsilons beside
+empty states, every refusal and full memory turn up often; with --ignoring
+labels are ignored (QUIET below). The second form prints COUNT groups of
 lines for `oracle --many`: with --order a line of state numbers, then the
 settings, then with --lists the two allowed lists, then both machines; --damage
 breaks about one machine in three. In both, --filters6 also draws the filters 3
@@ -353,6 +354,52 @@ def full_fan(rng, filters):
     return [[kind, rng.choice(filters), MAX, 0, MAX, 0], None, None] + machines
 
 
+def inner_labels(m, side):
+    """The labels above 0 of a side of a machine, if the words are one."""
+    return [x for x in m[6 + 3 * m[0] + side::5] if x not in (0, MAX)] if len(m) > 6 else []
+
+
+def ignored_of(rng, settings, machines):
+    """Ignored labels (request 2.7), at least one: such as the inner sides have, sigma among them, such as neither has, many and some twice; seldom a list with
+    0 or MAX, which is refused."""
+    own = sum((inner_labels(m, 1 - k) for k, m in enumerate(machines)), [])
+    sigmas = [x for x in (settings[2], settings[4]) if x not in (0, MAX)] if len(settings) == 6 else []
+    other = [rng.choice([6, 7, 50, 70000, MAX - 1]) for _ in range(rng.randint(1, 2))]
+    x = rng.random()
+    if x < 0.1:
+        return other
+    out = [rng.choice(own or other) for _ in range(rng.choice([1, 1, 2, 3]))]
+    if x < 0.2:
+        out = sigmas or out
+    elif x < 0.3:
+        out += sigmas
+    elif x < 0.4:
+        out += [rng.choice(own + other) for _ in range(rng.randint(8, 24))]
+    elif x < 0.5:
+        out.insert(rng.randint(0, len(out)), rng.choice([0, MAX]))
+    elif x < 0.6:
+        out += other
+    rng.shuffle(out)
+    return out
+
+
+def silent_case(rng, filters, size=2):
+    """Sigma on machine 2, which is sorted, and a machine 1 that is not: where labels are ignored the side is input only then. Machine 1 may hand on the sigma
+    label, which is no letter where it is ignored."""
+    kind = rng.randint(0, 1)
+    first = machine(rng, kind, 1, MAX, size, True, "none", labels=(1, 2, 3, 4), foreign=rng.choice([MAX, 9]), epsilons=(0.0, 0.2))
+    second = machine(rng, kind, 0, 9, size, True, "inner", labels=rng.choice([(1, 2), (2, 3, 4)]), epsilons=(0.0, 0.2), same=0.6, share=0.4)
+    return [[kind, rng.choice(filters), MAX, 0, 9, rng.randint(0, 2)], allowed_of(rng), allowed_of(rng), first, second]
+
+
+def acceptor_case(rng, filters, size=2):
+    """Sigma on an acceptor, which is often marked as one, rewritten as the mark says. A label of it that is ignored takes the mark from it."""
+    kind, own = rng.randint(0, 1), rng.randint(0, 1)
+    m = [machine(rng, kind, 1 - k, 9, size, True, "inner", labels=(1, 2), epsilons=(0.0,), same=1.0, share=0.5) if k == own else
+         machine(rng, kind, 1 - k, MAX, size, True, "none" if own else "inner", labels=(2, 3, 4), epsilons=(0.0, 0.2)) for k in (0, 1)]
+    return [[kind, rng.choice(filters), *((9, 0, MAX, 0) if own == 0 else (MAX, 0, 9, 0))], None, None] + m
+
+
 def widened(rng, lines):
     """The same case with larger labels in the same order; 0 and MAX stay."""
     new = sorted(rng.sample(range(1, MAX), 9))
@@ -371,13 +418,30 @@ AIMS = [(any_case, 30), (sigma_case, 34), (own_and_sigma_case, 12), (epsilon_cas
 
 
 def mixed(rng, filters):
-    """A case of six lines: an aim, and a whole listing or an order."""
+    """A case of seven lines: an aim, and a whole listing or an order. No label is ignored."""
     aim = rng.choices([a for a, _ in AIMS], [n for _, n in AIMS])[0]
     order = order_of(rng) if aim is not full_states and rng.random() < 0.45 else None
     lines = aim(rng, filters)
     if aim is not damaged_case and rng.random() < 0.1:
         lines = widened(rng, lines)
-    return [order] + lines
+    return [order] + lines[:3] + [[]] + lines[3:]
+
+
+# the same of the cases with ignored labels
+QUIET = [(any_case, 24), (sigma_case, 24), (own_and_sigma_case, 16), (silent_case, 30), (acceptor_case, 40), (epsilon_case, 8),
+         (unsorted_case, 20), (large_case, 4), (damaged_case, 4)]
+
+
+def quiet_case(rng, filters, aims=QUIET):
+    """Settings, allowed lists, ignored labels and machines, drawn with an aim."""
+    aim = rng.choices([a for a, _ in aims], [n for _, n in aims])[0]
+    settings, *lists, m1, m2 = aim(rng, filters)
+    return [settings, *lists, ignored_of(rng, settings, [m1, m2]), m1, m2]
+
+
+def ignoring(rng, filters):
+    """A case of seven lines with ignored labels: an aim, and a whole listing or an order."""
+    return [order_of(rng) if rng.random() < 0.6 else None, *quiet_case(rng, filters)]
 
 
 def text(line):
@@ -430,8 +494,10 @@ def main():
     args = {a[2:]: True for a in argv[2:]}
     args["size"] = names["--size"]
     args["filters"] = ALL if args.get("filters6") else BASE
+    drawn = {"mixed": mixed, "ignoring": ignoring}
     for _ in range(int(argv[1])):
-        for line in mixed(rng, args["filters"]) if args.get("mixed") else case(rng, args):
+        whole = next((draw(rng, args["filters"]) for name, draw in drawn.items() if args.get(name)), None)
+        for line in whole or case(rng, args):
             print(text(line))
 
 

@@ -5,14 +5,19 @@
 """
 import os
 import re
+from itertools import product
 
 from machine import MAX, Words
-from model import MOVES, filtered
+from model import MOVES, Lent, filtered
 from gen import FILTERS
 
 ROOT = os.path.dirname(os.path.dirname(os.path.abspath(__file__)))
 SOURCE = open(os.path.join(ROOT, "crates/bad_input/src/main.rt")).read()
 BODIES = dict(re.findall(r"fn (\w+)\(\) \{\n(.*?)\n\}", SOURCE, re.S))
+
+
+# the lists under which each is read: as in show.rt
+LISTS = ([], [5, 1, 9, 5], [MAX, 0])
 
 
 def number(w):
@@ -31,39 +36,40 @@ def cases():
                 yield arrays[call][:int(part)] if part else arrays[call]
 
 
-def side(w, sigma1, sigma2):
-    """Machine 1 and machine 2 are the same words."""
+def side(a, b, sigma1, sigma2):
+    """Machine 1 and machine 2 are the same words, read by outputs and by inputs."""
     if sigma1 == 0 or sigma2 == 0:
         return 4
-    if sigma1 != MAX and not w.sorted(1):
+    if sigma1 != MAX and not a.sorted(1):
         return 5
-    if sigma2 != MAX and not w.sorted(0):
+    if sigma2 != MAX and not b.sorted(0):
         return 6
-    marks = (w.word(4) == 1, w.word(3) == 1)
+    marks = (a.word(4) == 1, b.word(3) == 1)
     if marks == (True, True):
         return 3
     if marks[0] or marks[1]:
         return 2 if marks[0] else 1
-    return 2 if w.sorted(1) else 1 if w.sorted(0) else 7
+    return 2 if a.sorted(1) else 1 if b.sorted(0) else 7
 
 
 def line(letter, *numbers):
     print(" ".join([letter] + [str(int(n)) for n in numbers]))
 
 
-def machine(m):
-    w = Words(m)
-    line("p", w.well_formed(), w.sorted(0), w.sorted(1), w.acceptor())
+def machine(m, ignored):
+    """As it stands, and as it is read by its outputs (a) and by its inputs (b)."""
+    w, (a, b) = Words(m), Lent(m, m, None, None, ignored).read(None)
+    line("p", w.well_formed(), b.sorted(0), a.sorted(1), b.acceptor(), a.acceptor())
     start = w.word(2)
-    line("h", w.word(2 ** 64 - 1), w.S, w.T, start, w.word(3), w.word(4), w.word(3), w.word(4), w.word(5), *([1, start - 1] if start else [0]))
+    marks = w.word(3), w.word(4), b.word(3), a.word(4), w.word(5), b.word(5), a.word(5)
+    line("h", w.word(2 ** 64 - 1), w.S, w.T, start, *marks, *([1, start - 1] if start else [0]))
     for s in (0, MAX):
         line("s", w.state(s, 0), w.state(s, MAX), w.first(s), len(w.list(s)), w.state(s, 1) == 1, w.state(s, 2),
-             w.none(0, s), w.none(1, s), w.all(0, s), w.all(1, s))
+             b.none(0, s), a.none(1, s), b.all(0, s), a.all(1, s))
     for t in (0, 1, MAX):
-        transition = [w.tr(t, k) for k in range(4)]
-        line("r", w.tr(t, 4), w.tr(t, MAX), w.next(t), *([w.tr(t, 0)] * 2 + transition), *([w.tr(t, 1)] * 2 + transition))
-    line("f", w.none(1, MAX), w.all(1, MAX), w.none(0, 0), w.all(0, 0))
-    line("m", *([side(w, MAX, MAX), side(w, 7, MAX), side(w, MAX, 7), side(w, 7, 0)] if w.well_formed() else []))
+        line("r", w.tr(t, 4), w.tr(t, MAX), w.next(t), *(x for k, read in ((0, b), (1, a)) for x in (w.tr(t, k), read.tr(t, k), *(read.tr(t, j) for j in range(4)))))
+    line("f", a.none(1, MAX), a.all(1, MAX), b.none(0, 0), b.all(0, 0))
+    line("m", *([side(a, b, *sigmas) for sigmas in ((MAX, MAX), (7, MAX), (MAX, 7), (7, 0))] if w.well_formed() else []))
 
 
 def times(kind, a, b):
@@ -88,7 +94,7 @@ def cells(filter):
     line("c", *out)
 
 
-for m in cases():
-    machine(m)
+for m, ignored in product(cases(), LISTS):
+    machine(m, ignored)
 for name, k in re.findall(r"(weights|cells)\((\w+)\);", BODIES["main"]):
     {"weights": weights, "cells": cells}[name](number(k))

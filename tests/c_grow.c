@@ -7,8 +7,8 @@
 #include "../include/rinkolza.h"
 
 #define LEN(a) (sizeof(a) / sizeof((a)[0]))
-/* What every call is lent: the machines, no allowed lists, memory. */
-#define LENT m1, LEN(m1), m2, LEN(m2), NULL, 0, 0, NULL, 0, 0, heads, LEN(heads), states, RINKOLZA_STATE_WORDS * room, trs, RINKOLZA_TR_WORDS * room
+/* What every call is lent: the machines, no allowed lists, no ignored labels, memory. */
+#define LENT m1, LEN(m1), m2, LEN(m2), NULL, 0, 0, NULL, 0, 0, NULL, 0, heads, LEN(heads), states, RINKOLZA_STATE_WORDS * room, trs, RINKOLZA_TR_WORDS * room
 
 static const uint32_t settings[6] = {RINKOLZA_COST, RINKOLZA_SEQUENCE, RINKOLZA_NO_LABEL, 0, RINKOLZA_NO_LABEL, 0};
 static const uint32_t m1[] = {3, 2, 1, 0, 0, 0, 1, 0, 0, 2, 0, 0, 0, 1, 0, 1, 0, 1, 1, 0, 2, 5, 2, 2, 0};

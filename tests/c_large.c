@@ -10,8 +10,8 @@
 #define STATES UINT32_C(1000000)
 #define M1_WORDS (6 + 3 * (size_t)STATES + 5 * 2 * (size_t)STATES)
 #define NONE RINKOLZA_MAX
-/* What every call is lent: the machines, no allowed lists, memory. */
-#define LENT m1, M1_WORDS, m2, LEN(m2), NULL, 0, 0, NULL, 0, 0, heads, HEADS, states, RINKOLZA_STATE_WORDS * state_room, trs, RINKOLZA_TR_WORDS * tr_room
+/* What every call is lent: the machines, no allowed lists, no ignored labels, memory. */
+#define LENT m1, M1_WORDS, m2, LEN(m2), NULL, 0, 0, NULL, 0, 0, NULL, 0, heads, HEADS, states, RINKOLZA_STATE_WORDS * state_room, trs, RINKOLZA_TR_WORDS * tr_room
 #define LEN(a) (sizeof(a) / sizeof((a)[0]))
 /* As many as can be used, S1 + 31 S2. */
 #define HEADS (STATES + 31 * 2)

@@ -5,14 +5,14 @@
 
 Name the module in crates/calls/proofs/Lib.antt of a scratch copy and check `calls`. RUST is the folder of rustfst's sources, or the program that oracle/build
 made around it; oracle/gen.py draws machines, settings and orders. Two sorts of cases: what `composed` prints; and an opening, expansions in a drawn order, then
-the records and the final weight of every found state, on slices of drawn lengths and content. Of the second, refusals, lists and final weights are those
+the records and the final weight of every found state, on slices of drawn lengths and content, half of them with ignored labels. Of the second, refusals, lists and final weights are those
 answers; where they stand in memory is worked out here.
 """
 import random
 import sys
 
 import rust
-from gen import ALL, some_case
+from gen import ALL, QUIET, damaged_case, quiet_case, some_case
 from model import EXPANDED, FIRST, SIDES, STATE_WORDS, TR_WORDS, state_record
 from reference import reference
 from state_cases import parsed
@@ -47,7 +47,7 @@ def line(text):
 def printing(oracle, seed, count):
     rng = random.Random(int(seed))
     cases = [some_case(rng, ALL) for _ in range(int(count))]
-    for (settings, _, _, m1, m2), one in zip(cases, reference(oracle, [[None, c[0], None, None, *c[3:]] for c in cases])):
+    for (settings, _, _, m1, m2), one in zip(cases, reference(oracle, [rust.whole(None, c[0], None, None, *c[3:]) for c in cases])):
         yield f"printing {antt(settings)} {antt(m1)} {antt(m2)} {seq(map(line, one.answer.splitlines()))}", one.ours
 
 
@@ -91,14 +91,14 @@ def calling(oracle, seed, count):
     draw = random.Random(int(seed))
     for _ in range(int(count)):
         orders, room = [draw.randint(0, 5) for _ in range(8)], (draw.randint(1, 9), draw.randint(0, 14))
-        given = some_case(draw, ALL)
+        given = rust.whole(None, *some_case(draw, ALL))[1:] if draw.random() < 0.5 else quiet_case(draw, ALL, [aim for aim in QUIET if aim[0] is not damaged_case])
         for one in reference(oracle, [[orders, *given]], room):
             yield calls(draw, room, orders, given, *parsed(one.answer)), one.ours
 
 
 def calls(draw, room, orders, given, side, said, states):
-    settings, lists, machines = antt(given[0]), [option(ws) for ws in given[1:3]], [antt(m) for m in given[3:]]
-    lent = f"(record {{ m1 = {machines[0]}; m2 = {machines[1]}; allowed1 = {lists[0]}; allowed2 = {lists[1]} }})"
+    settings, lists, ignored, machines = antt(given[0]), [option(ws) for ws in given[1:3]], antt(given[3]), [antt(m) for m in given[4:]]
+    lent = f"(record {{ m1 = {machines[0]}; m2 = {machines[1]}; allowed1 = {lists[0]}; allowed2 = {lists[1]}; ignored = {ignored} }})"
     mem = Slices(draw, *room)
     asked, replies = [f"opening (settingsOf {settings}) {lent}"], []
 

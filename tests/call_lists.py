@@ -6,7 +6,7 @@
 
 What must be printed is worked out by the model in model.py. RUST is the folder of rustfst's sources, or the program that oracle/build made around it; it knows
 no sessions and no memory, so what is compared with it are the side, the lists and final weights, where it is the reference (reference.py). Fan-outs of look-ups
-(request 2.6) stand after openings, and in lists of their own.
+(request 2.6) stand after openings, and in lists of their own. Labels are ignored (request 2.7) in further lists, where the labels may change between calls.
 """
 import os
 import random
@@ -18,13 +18,16 @@ from itertools import product
 import rust
 from fan_outs import drawn_query, of_fan_out, of_fan_outs
 from features import BOTH, Watched, of_cell, of_sigmas
-from gen import ADDED, ALL, FILTERS, own_and_sigma_case, sigma_case, unsorted_case
+from gen import ADDED, ALL, FILTERS, QUIET, damaged_case, ignored_of, own_and_sigma_case, quiet_case, sigma_case, unsorted_case
+from ignored import checked, of_ignored, of_ignored_checks, of_ignored_moves, of_list
 from machine import LIMIT, MAX, Words
 from model import EXPANDED, FILTER_STATE, FIRST, MOVES, STATE_WORDS, TR_WORDS, Lent, World, fan_out, filtered
 from reference import reference
 from state_cases import parsed
 
 SEED, CASES, OPENINGS = 1, 80, 3000
+# the sizes of the arrays of the program
+WORDS, BYTES = 49152, 131072
 # the lists of fan-outs alone that are drawn, to take few of them, and the fan-outs in each
 FAN_OUT_LISTS, IN_EACH = 2000, 6
 # the numbers that each call must answer somewhere in the lists
@@ -35,6 +38,11 @@ ANY_F = [of_cell(filter, move, f, filtered(filter, move, None, None, f)) for fil
 SIGMAS, OFTEN = [*of_sigmas(), *(f"{BOTH}, refused {n}" for n in (11, 12, 13))], 3
 # and so of the fan-out of a look-up
 FAN_OUTS = [*of_fan_outs()]
+# and of ignored labels: the lists that are drawn, to take few of them, and the calls that must be refused 18; what a fan-out of an ignored label shows
+IGNORING_LISTS = 8000
+OF_IGNORED = [of_list(f"fan-out of an ignored label, {what}") for what in ("no match", "sigma matches", "refused 11")]
+EMPTY_PART = of_list("an empty part where the list is refused")
+IGNORED = [*((letter, 18) for letter in "oefrc"), *of_ignored_checks(), *of_ignored_moves(), *OF_IGNORED, EMPTY_PART]
 
 
 def weight(draw, kind):
@@ -101,6 +109,11 @@ def fan_out_inputs(draw):
     return unsorted_case(draw, ALL, 3) if draw.random() < 0.3 else drawn_inputs(draw)
 
 
+def ignoring_inputs(draw):
+    """With ignored labels; damage is done by the lists themselves."""
+    return quiet_case(draw, ALL, [aim for aim in QUIET if aim[0] is not damaged_case])
+
+
 ODD = (0, 1, 2, 3, 4, 5, len(FILTERS), 7, 8, 9, 65536, LIMIT, LIMIT + 1, 2 ** 31, MAX)
 
 
@@ -121,6 +134,8 @@ class Case:
             self.lend(k)
         self.listing(0)
         self.listing(1)
+        if self.lent.ignored:
+            self.ignore(self.lent.ignored)
 
     def ask(self, code, *words):
         self.asked.append([1 + len(words), code, *words])
@@ -132,7 +147,17 @@ class Case:
         own = self.lent.allowed[k]
         self.ask(4 + k, *([0] if own is None else [1] + own))
 
-    def answered(self, letter, words):
+    def ignore(self, labels):
+        """Without this line no label is ignored."""
+        self.lent.ignored = labels
+        self.ask(15, *labels)
+
+    def answered(self, letter, words, settings=None):
+        """What a call answered; an opening and a fan-out are given settings, the others have the session's."""
+        settings = self.world.session[:6] if settings is None else settings
+        self.passed.update(of_ignored(settings, self.lent))
+        if letter == "p" and checked(settings, self.lent)[0] == 18:
+            self.passed.add(EMPTY_PART)
         self.seen.append([letter, *words, "/", *self.world.session, "/", self.world.mixed()])
         if words[:1] == [0]:
             self.passed |= self.passing
@@ -142,7 +167,7 @@ class Case:
 
     def open(self, settings):
         self.ask(8, *settings)
-        self.answered("o", self.world.calling(self.world.open, settings, self.lent))
+        self.answered("o", self.world.calling(self.world.open, settings, self.lent), settings)
         if self.asking.random() < 0.25:
             self.fan_out(settings)
 
@@ -150,8 +175,10 @@ class Case:
         query = drawn_query(self.asking, settings, self.lent)
         self.ask(14, *settings, *query)
         answer = self.world.calling(fan_out, settings, self.lent, query)
-        self.answered("c", answer)
+        self.answered("c", answer, settings)
         self.passed.update(of_fan_out(settings, self.lent, query, answer[0]))
+        if query[2] in self.lent.ignored and answer[0] in (0, 11):
+            self.passed.add(OF_IGNORED[2 if answer[0] else answer[1] > 0])
 
     def call(self):
         found = self.world.session[7]
@@ -268,6 +295,40 @@ class Case:
         self.show()
         return self
 
+    def ignore_otherwise(self):
+        """Other labels, mostly refused ones or none; what changes them back."""
+        draw, old = self.draw, self.lent.ignored
+        new = list(old)
+        new.insert(draw.randint(0, len(new)), draw.choice((0, MAX)))
+        self.ignore(draw.choice((new, new, [], ignored_of(draw, self.settings, self.lent.words))))
+        return lambda: self.ignore(old)
+
+    def play_ignoring(self):
+        """Calls with ignored labels, which change now and then for a call or two; machines and session are damaged too."""
+        draw = self.draw
+        if draw.random() < 0.1:
+            self.call()
+        self.open(self.settings)
+        for _ in range(draw.randint(2, 6)):
+            what = draw.random()
+            if what < 0.35:
+                back = self.ignore_otherwise() if draw.random() < 0.7 else self.damage()
+                for _ in range(draw.randint(1, 2)):
+                    self.call()
+                if draw.random() < 0.2:
+                    self.fan_out(self.settings)
+                back()
+            elif what < 0.5:
+                back = self.ignore_otherwise() if draw.random() < 0.5 else lambda: None
+                self.open_again()
+                back()
+            elif what < 0.65:
+                self.fan_out(self.settings)
+            else:
+                self.call()
+        self.show()
+        return self
+
     def fan_outs(self):
         """Fan-outs alone: with the settings, with another word among them, with a damaged machine."""
         for _ in range(IN_EACH):
@@ -293,15 +354,27 @@ def cases():
         if new or len(found) < CASES:
             found.append(c)
             lacking -= new
-    return found + fan_out_cases(found)
+    found += fan_out_cases(found)
+    return found + ignoring_cases()
 
 
 def fan_out_cases(before):
-    """Lists of fan-outs alone, so that with the lists before them each sort stands in OFTEN: always the one that shows most of what is lacking for its length.
-    Fails where those drawn do not show it."""
-    draw, found = random.Random(SEED), []
+    """Lists of fan-outs alone, so that with the lists before them each sort stands in OFTEN."""
+    draw = random.Random(SEED)
     drawn = [Case(draw, draw, fan_out_inputs).fan_outs() for _ in range(FAN_OUT_LISTS)]
-    lacking = Counter(dict.fromkeys(FAN_OUTS, OFTEN)) - Counter(row for c in before for row in c.shown())
+    return few_of(drawn, Counter(dict.fromkeys(FAN_OUTS, OFTEN)) - Counter(row for c in before for row in c.shown()))
+
+
+def ignoring_cases():
+    """Lists with ignored labels, each sort in OFTEN of them."""
+    draw = random.Random(SEED)
+    drawn = [Case(draw, draw, ignoring_inputs).play_ignoring() for _ in range(IGNORING_LISTS)]
+    return few_of(drawn, Counter(dict.fromkeys(IGNORED, OFTEN)))
+
+
+def few_of(drawn, lacking):
+    """Of the lists that are drawn always the one that shows most of what is lacking for its length. Fails where they do not show it."""
+    found = []
     while lacking:
         c = max(drawn, key=lambda c: len(lacking & Counter(c.shown())) / sum(map(len, c.asked)))
         new = lacking & Counter(c.shown())
@@ -314,22 +387,23 @@ def fan_out_cases(before):
 
 def compare(oracle):
     draw = random.Random(SEED)
-    drawn = [Case(draw) for _ in range(OPENINGS)]
-    asked = [[range(8), c.settings, *c.lent.allowed, *c.lent.words] for c in drawn]
+    drawn = [Case(draw, inputs=inputs) for inputs in (drawn_inputs, ignoring_inputs) for _ in range(OPENINGS)]
+    asked = [[range(8), c.settings, *c.lent.allowed, c.lent.ignored, *c.lent.words] for c in drawn]
     theirs = [parsed(one.answer) for one in reference(oracle, asked) if not one.ours]
     expansions = sum(len(answers) for _, answers, _ in theirs)
-    print(f"{len(theirs)} openings and {expansions} expansions answered as the Rust answers; {OPENINGS - len(theirs)} openings are ours")
+    print(f"{len(theirs)} openings and {expansions} expansions answered as the Rust answers; {len(drawn) - len(theirs)} openings are ours")
 
 
 def main():
     if sys.argv[1:2] == ["--rust"]:
         return compare(rust.oracle_at(sys.argv[2]))
     found = cases()
-    for row, n in sorted(Counter(row for c in found for row in c.shown().intersection([BOTH, *SIGMAS, *FAN_OUTS])).items()):
+    for row, n in sorted(Counter(str(row) for c in found for row in c.shown().intersection([BOTH, *SIGMAS, *FAN_OUTS, *IGNORED])).items()):
         print(f"{n:4} {row}")
-    # the sizes of the arrays of the program
     asked = [" ".join(map(str, r)) for c in found for r in c.asked]
-    assert sum(len(r.split()) for r in asked) <= 32768 and sum(len(r) + 1 for r in asked) <= 98304
+    words, size = sum(len(r.split()) for r in asked), sum(len(r) + 1 for r in asked)
+    print(f"{len(found)} lists, {words} words and {size} bytes in")
+    assert words <= WORDS and size <= BYTES
     folder = os.path.join(rust.ROOT, "crates/call_lists")
     for name, rows in (("stdin", (r for c in found for r in c.asked)), ("stdout", (r for c in found for r in c.seen))):
         with open(os.path.join(folder, name), "w") as f:

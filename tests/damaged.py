@@ -326,8 +326,8 @@ def undamaged(rng):
     """Settings and two machines."""
     while True:
         case = mixed(rng, ALL)
-        if sum(map(len, case[4:])) < 400:
-            return [list(case[1])] + [list(m) for m in case[4:]]
+        if sum(map(len, case[5:])) < 400:
+            return [list(case[1])] + [list(m) for m in case[5:]]
 
 
 def drawn(rng):
@@ -391,7 +391,7 @@ def printed(rng, path, data):
 def wanted(oracle, inputs):
     """The answer to each input, and the Rust's to the same words."""
     means = [meaning(data) for data in inputs]
-    found = reference(oracle, [[None, m[0], None, None, *m[1:]] for m in means if isinstance(m, list)])
+    found = reference(oracle, [rust.whole(None, m[0], None, None, *m[1:]) for m in means if isinstance(m, list)])
     for m in means:
         if isinstance(m, int):
             yield f"refused {m}\n", f"refused {m}\n"

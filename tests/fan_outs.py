@@ -108,7 +108,7 @@ def main():
     args = words.parse_args()
     path, rng, counts, differences, began = program(args.fan_out, "fan_out"), random.Random(args.seed), Counter(), 0, time.time()
     for _ in range(args.cases):
-        _, settings, _, _, *machines = mixed(rng, ALL)
+        _, settings, _, _, _, *machines = mixed(rng, ALL)
         lent = Lent(*machines, None, None)
         query = drawn_query(rng, settings, lent)
         text = rust.text([settings, *machines, query])

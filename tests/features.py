@@ -1,10 +1,11 @@
-"""What a case of `replay` shows: names of the rows of document 01 and of requests 2.1 and 2.4 that it goes through, by the model in model.py and the answer."""
+"""What a case of `replay` shows: names of the rows of document 01 and of requests 2.1, 2.4 and 2.7 that it goes through, by the model in model.py and the answer."""
 from collections import Counter
 from functools import cache
 from itertools import product
 
+import ignored as quiet
 from machine import MAX, Words
-from model import MOVES, SIDES, Composition, Lent, Refused, filtered, side_for
+from model import MOVES, SIDES, Composition, Lent, Read, Refused, filtered, side_for
 from gen import ALL, FILTERS
 
 # a look-up at which request 2.4's definition is the reference, not the Rust
@@ -75,11 +76,11 @@ def required():
     yield from of_sigmas()
 
 
-class Kept(Words):
+class Kept(Read):
     """A machine that works out each state's list, "none" and "all" once."""
 
-    def __init__(self, m):
-        super().__init__(m)
+    def __init__(self, *read):
+        super().__init__(*read)
         self.list, self.none, self.all = (cache(f) for f in (super().list, super().none, super().all))
 
 
@@ -88,8 +89,8 @@ class Watched(Composition):
 
     def __init__(self, seen, settings, lent, side):
         super().__init__(settings, lent, side)
-        self.machines = [Kept(m) for m in lent.words]
-        self.seen = seen
+        self.machines = lent.read(settings, Kept)
+        self.lent, self.seen = lent, seen
 
     def looked_up(self, s1, s2):
         m = super().looked_up(s1, s2)
@@ -113,6 +114,8 @@ class Watched(Composition):
         sigma, allowed, mode = self.sigma[k], self.allowed[k], mode_of(self.mode[k], self.machines[k].word(5))
         own, rest = self.labelled(k, s, x), self.sigma_matches(k, s, x)
         rows = [f"rewritten, {mode}"]
+        if rest and self.lent.ignored and self.mode[k] == 0 and Words(self.lent.words[k]).word(5):
+            yield quiet.of_machine(k, quiet.REWRITTEN if self.machines[k].apart else quiet.REWRITTEN_STILL)
         if any(self.record(k, t)[:2] == [sigma] * 2 for t in self.labelled(k, s, sigma)):
             rows.append(f"held on both sides, {mode}")
         if own and rest:
@@ -130,6 +133,7 @@ class Watched(Composition):
     def cell(self, move, states, f):
         to = super().cell(move, states, f)
         self.seen.add(of_cell(self.filter, move, f, to))
+        self.seen.update(self.of_replaced(move, states))
         if move in (0, 1):
             other = self.machines[1 - move]
             s = states[1 - move]
@@ -138,6 +142,13 @@ class Watched(Composition):
             if other.state(s, 1) == 1 and other.state(s, 2) == self.zero() and all(other.tr(t, move) == 0 for t in other.list(s)):
                 self.seen.add(of_move(self.filter, move, " beside a final weight zero without which \"all\" would hold"))
         return to
+
+    def of_replaced(self, move, states):
+        """What a move by an epsilon shows, where the state has a label that is replaced."""
+        for k in (0, 1) if self.lent.ignored and move != "label" else ():
+            raw = Words(self.lent.words[k])
+            if move in (k, "both") and any(raw.tr(t, 1 - k) in self.lent.ignored for t in raw.list(states[k])):
+                yield quiet.of_filter(self.filter, k)
 
     def times(self, a, b):
         exact = a + b if self.kind == 0 else a * b
@@ -213,7 +224,7 @@ def of_ours(way, lines, seen):
 
 def features(case, answer, seen):
     """What a case shows, by its answer and what the model passed."""
-    order, settings, allowed, machines = case[0], case[1], case[2:4], case[4:6]
+    order, settings, allowed, ignored, machines = case[0], case[1], case[2:4], case[4], case[5:7]
     lines = answer.rstrip("\n").split("\n")
     way = WAYS[order is not None]
     if BOTH in seen:
@@ -231,11 +242,14 @@ def features(case, answer, seen):
         found.update(of_order(lines))
     if "end 0 0" in lines:
         found.add("no state found")
+    found.update(quiet.of_ignored(settings, Lent(*machines, *allowed, ignored)))
+    if quiet.of_list("side input") in found or quiet.of_list("side output") in found:
+        found.add(quiet.of_list(way))
     if len(settings) != 6:
         return found
     found |= {f"kind {settings[0]}", f"filter {settings[1]}"} if settings[0] < 2 and settings[1] in ALL else set()
     try:
-        side = side_for(settings, Lent(*machines, *allowed))
+        side = side_for(settings, Lent(*machines, *allowed, ignored))
     except Refused:
         return found
     found.update(of_opening(settings, side, way))

@@ -9,7 +9,8 @@ def word_at(m, i):
 
 
 class Words:
-    """Document 01's machine in words; a word past the end is 0, and a first or next that breaks its rule is 0."""
+    """Document 01's machine in words; a word past the end is 0, as are those of a state that is not there and of record 0, and a first or next that breaks its
+    rule is 0."""
 
     def __init__(self, m):
         self.m, self.S, self.T = m, word_at(m, 0), word_at(m, 1)
@@ -18,10 +19,10 @@ class Words:
         return word_at(self.m, i)
 
     def state(self, s, k):
-        return self.word(6 + 3 * s + k)
+        return self.word(6 + 3 * s + k) if s < self.S else 0
 
     def tr(self, t, k):
-        return self.word(6 + 3 * self.S + 5 * (t - 1) + k)
+        return self.word(6 + 3 * self.S + 5 * (t - 1) + k) if t else 0
 
     def first(self, s):
         return self.state(s, 0) if self.state(s, 0) <= self.T else 0

@@ -1,4 +1,5 @@
-"""Document 01's calls with request 2.1's filters, 2.4's sigma and 2.6's fan-out, worked out from their text: the checks, the moves, the memory."""
+"""Document 01's calls with request 2.1's filters, 2.4's sigma, 2.6's fan-out and 2.7's ignored labels, worked out from their text: the checks, the moves, the
+memory."""
 from machine import LIMIT, MAX, Words
 from gen import FILTERS
 
@@ -25,24 +26,53 @@ def refuse(test, number):
         raise Refused(number)
 
 
-class Lent:
-    """The two machines and their allowed lists (None: no list)."""
+class Read(Words):
+    """A machine as it is read under a list of ignored labels (request 2.7): those of `silent` count as 0 on the side `inner`. With a list, which is empty where
+    `silent` is None, the mark of that side is read as 0, and so is an acceptor mark that is true no longer."""
 
-    def __init__(self, m1, m2, allowed1, allowed2):
-        self.words, self.allowed = [m1, m2], [allowed1, allowed2]
+    def __init__(self, m, inner, silent):
+        super().__init__(m)
+        self.inner, self.silent = inner, silent
+        self.apart = silent is not None and not self.acceptor()
+
+    def tr(self, t, k):
+        x = super().tr(t, k)
+        return 0 if k == self.inner and self.silent is not None and x in self.silent else x
+
+    def word(self, i):
+        unread = self.silent is not None and (i == 3 + self.inner or i == 5 and self.apart)
+        return 0 if unread else super().word(i)
+
+
+class Lent:
+    """The two machines, their allowed lists (None: no list) and the ignored labels."""
+
+    def __init__(self, m1, m2, allowed1, allowed2, ignored=()):
+        self.words, self.allowed, self.ignored = [m1, m2], [allowed1, allowed2], list(ignored)
 
     def machines(self):
+        """As they are lent."""
         return Words(self.words[0]), Words(self.words[1])
+
+    def silent(self, settings):
+        """The labels that are replaced; None where the list is empty."""
+        return set(self.ignored) if self.ignored else None
+
+    def read(self, settings, sort=Read):
+        """As they are read: machine 1 by its outputs, machine 2 by its inputs."""
+        return [sort(m, 1 - k, self.silent(settings)) for k, m in enumerate(self.words)]
 
 
 def side_for(settings, lent):
-    """Checks 1 to 7; the number of the side."""
+    """Checks 1 to 7, with 18 after 3; the number of the side."""
     refuse(len(settings) != 6, 1)
     kind, filter, sigma1, mode1, sigma2, mode2 = settings
     refuse(kind > 1 or filter >= len(FILTERS) or mode1 > 2 or mode2 > 2, 1)
     a, b = lent.machines()
     refuse(not a.well_formed(), 2)
     refuse(not b.well_formed(), 3)
+    refuse(0 in lent.ignored or MAX in lent.ignored, 18)
+    a, b = lent.read(settings)
     refuse(sigma1 == 0 or sigma2 == 0, 4)
     refuse(sigma1 != MAX and not a.sorted(1), 5)
     refuse(sigma2 != MAX and not b.sorted(0), 6)
@@ -80,7 +110,7 @@ class Composition:
     def __init__(self, settings, lent, side):
         self.kind, self.filter = settings[:2]
         self.sigma, self.mode = (settings[2], settings[4]), (settings[3], settings[5])
-        self.machines, self.allowed, self.side = lent.machines(), lent.allowed, side
+        self.machines, self.allowed, self.side = lent.read(settings), lent.allowed, side
 
     def inner(self, k, t):
         """The inner label of machine k's record t: an output of machine 1, an input of machine 2."""
@@ -184,7 +214,7 @@ class Composition:
 
 
 def fan_out(settings, lent, query):
-    """Request 2.6 for a query of machine (1 or 2), state and label: checks 1 to 7, then 9 for a query not of three words, another machine or a state not below
+    """Request 2.6 for a query of machine (1 or 2), state and label: checks 1 to 7 and 18, then 9 for a query not of three words, another machine or a state not below
     S, then the look-up with its 11."""
     c = Composition(settings, lent, side_for(settings, lent))
     refuse(query is None or len(query) != 3, 9)
@@ -245,7 +275,7 @@ class World:
         return True
 
     def entered(self, lent):
-        """Checks 1 to 8."""
+        """Checks 1 to 8 and 18."""
         side = side_for(self.session[:6], lent)
         a, b = lent.machines()
         used, last = self.session[7:9]

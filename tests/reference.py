@@ -1,10 +1,12 @@
 """The answer that stands for a case of `replay`: the Rust's where no label that is looked up has both own matches and allowed sigma matches, and there the
-model in model.py must give the same; elsewhere the definition's (request 2.4), worked out by the model, which is called ours."""
+model in model.py must give the same; elsewhere the definition's (request 2.4), worked out by the model, which is called ours. Where labels are ignored (request
+2.7) the Rust, which knows of none, is asked with the machines replaced; a list that is refused, 18, is found here."""
 from functools import partial
 from typing import NamedTuple
 
 import rust
 from features import BOTH, Watched, features
+from ignored import asked
 from model import SIDES, STATE_WORDS, TR_WORDS, Composition, Lent, Refused, World, refuse
 
 # the words that a machine line may have; heads, on which no answer depends
@@ -49,8 +51,8 @@ def ordered(w, lent, c, order):
 
 def worked(case, room):
     """The model's answer to a case, in the oracle's form, and the features that it passed."""
-    order, settings, *lists, m1, m2 = case
-    seen, lent = set(), Lent(*(m if len(m) <= LINE else [] for m in (m1, m2)), *lists)
+    order, settings, *lists, ignored, m1, m2 = case
+    seen, lent = set(), Lent(*(m if len(m) <= LINE else [] for m in (m1, m2)), *lists, ignored)
     w = World([0] * HEADS, [0] * (STATE_WORDS * room[0]), [0] * (TR_WORDS * room[1]), [0] * 9, partial(Watched, seen))
     try:
         w.open(settings, lent)
@@ -62,9 +64,16 @@ def worked(case, room):
     return "".join(line + "\n" for line in lines), seen
 
 
+def answers(oracle, cases, room=rust.ROOM, reading=rust.READING):
+    """What the Rust answers to each case: to the replaced machines."""
+    read = [asked(case) for case in cases]
+    found = iter(rust.answers(oracle, [case for case in read if case is not None], room, reading))
+    return ["refused 18\n" if case is None else next(found) for case in read]
+
+
 def reference(oracle, cases, room=rust.ROOM):
     """For each case the answer that stands. Stops where the Rust and the model should agree and do not."""
-    for case, theirs in zip(cases, rust.answers(oracle, cases, room)):
+    for case, theirs in zip(cases, answers(oracle, cases, room)):
         answer, seen = worked(case, room)
         ours = BOTH in seen
         assert ours or answer == theirs, f"the model is wrong:\n{rust.text(case)}the Rust:\n{theirs}the model:\n{answer}"
@@ -73,7 +82,7 @@ def reference(oracle, cases, room=rust.ROOM):
 
 def looked_at(oracle, cases):
     """For each case its reference and all its features."""
-    plain = rust.answers(oracle, cases, reading=rust.PLAIN)
+    plain = answers(oracle, cases, reading=rust.PLAIN)
     for case, one, other in zip(cases, reference(oracle, cases), plain):
         found = features(case, one.answer, one.seen)
         if one.ours and one.rust != one.answer:

@@ -8,8 +8,9 @@ numbers, which are the definition's (tests/reference.py), and for the last case,
 First the proved cases of document 01 but for the ninth, which needs a smaller memory than the form has; every chosen input of tests/state_cases.py, document
 01's "run only" case and its slips among them; the inputs of docs/DIFFERENCES.md; memory filled to the last record and one beyond. Then cases drawn by
 oracle/gen.py from SEED, until each feature that tests/features.py names stands in WANTED of them (but for memory that is nearly full, whose answers are long).
-All this for document 01's filters, then for request 2.1's. A case that tests/ours.txt numbers counts for features that are ours alone. The exit status is 1
-where a feature stands in fewer, or a filter's opening is accepted in fewer than LEAST. The same sources give the same files.
+All this for document 01's filters, then for request 2.1's. Then cases with ignored labels (request 2.7), until each feature that tests/ignored.py names stands in
+QUIETLY of them; of these the Rust is asked with the machines replaced. A case that tests/ours.txt numbers counts for features that are ours alone. The exit
+status is 1 where a feature stands in fewer, or a filter's opening is accepted in fewer than LEAST. The same sources give the same files.
 """
 import os
 import random
@@ -20,11 +21,12 @@ from collections import Counter
 import rust
 import state_cases
 from features import BOTH, LONG, WAYS, of_filter, required
-from gen import ADDED, ALL, BASE, FILTERS, listed, mixed
-from reference import looked_at, worked
+from gen import ADDED, ALL, BASE, FILTERS, ignoring, listed, mixed
+from ignored import QUIET, of_ignored_checks, of_ignored_moves, of_list
+from reference import answers, looked_at, worked
 from state_cases import MAX, ONE1, ONE2
 
-SEED, WANTED, LEAST = 12, 20, 60
+SEED, WANTED, QUIETLY, LEAST = 12, 20, 6, 60
 BATCH, DRAWS = 2000, 20000
 # bytes of a drawn case and its answer: large ones only where a feature is lacking in small ones
 SMALL, LARGE = 480, 2000
@@ -35,7 +37,7 @@ def plain(kind, filter):
 
 
 def listing(settings, m1, m2, allowed1=None, allowed2=None):
-    return [None, list(settings), allowed1, allowed2, list(m1), list(m2)]
+    return rust.whole(None, list(settings), allowed1, allowed2, list(m1), list(m2))
 
 
 def weighing(w):
@@ -129,30 +131,35 @@ class Collection:
             self.taken[text] = reference
             self.counts.update(found)
 
-    def drawn(self, filters):
+    def drawn(self, draw, filters):
         """The cases with these filters drawn from the seed, small ones first."""
         rng, small, large = random.Random(SEED), [], []
         for _ in range(DRAWS // BATCH):
-            for one in looked_at(self.oracle, [mixed(rng, filters) for _ in range(BATCH)]):
+            for one in looked_at(self.oracle, [draw(rng, filters) for _ in range(BATCH)]):
                 size = len(rust.text(one[0])) + len(one[1].answer)
                 (small if size <= SMALL else large if size <= LARGE else []).append(one)
         return small + large
 
     def fill(self, filters):
         """Cases with these filters for each feature that is wanted, the rarest first."""
+        self.fill_by(mixed, filters, WANTED, lambda name: name not in LONG)
+
+    def fill_by(self, draw, filters, wanted, counts):
         holding = {}
-        for one in self.drawn(filters):
-            for name in one[2].difference(LONG):
+        for one in self.drawn(draw, filters):
+            for name in filter(counts, one[2]):
                 holding.setdefault(name, []).append(one)
         for name in sorted(holding, key=lambda name: (len(holding[name]), name)):
             for one in holding[name]:
-                if self.counts[name] < WANTED:
+                if self.counts[name] < wanted:
                     self.take(*one)
 
     def lacking(self):
         """What stands in too few cases."""
-        names = (set(self.counts) | set(required())) - set(LONG)
-        yield from sorted(f"{name} ({self.counts[name]})" for name in names if self.counts[name] < WANTED)
+        quiet = {*of_ignored_checks(), *of_ignored_moves(), *map(of_list, WAYS), "listing refused 18", "opening refused 18"}
+        loud = {*(name for name in self.counts if not name.startswith(QUIET)), *required()} - {*LONG, *quiet}
+        for names, wanted in ((loud, WANTED), (quiet, QUIETLY)):
+            yield from sorted(f"{name} ({self.counts[name]})" for name in names if self.counts[name] < wanted)
         for filter in ALL:
             opened = sum(self.counts[of_filter(filter, way)] for way in WAYS)
             if opened < LEAST:
@@ -182,19 +189,19 @@ def check():
     """Holds every answer, and the numbers of ours, to the model."""
     words = [None if line == "-\n" else [int(w) for w in line.split()] for line in open(STDIN)]
     ours = {int(n) for line in open(OURS).readlines()[1:] for n in line.split()}
-    answers = rust.split(open(STDOUT).read())
-    for n, answer in enumerate(answers, 1):
-        case = words[6 * n - 6:6 * n]
-        mine, seen = worked(case + [[]] * (6 - len(case)), rust.ROOM)
+    theirs = rust.split(open(STDOUT).read())
+    for n, answer in enumerate(theirs, 1):
+        case = words[7 * n - 7:7 * n]
+        mine, seen = worked(case + [[]] * (7 - len(case)), rust.ROOM)
         assert mine == answer and (BOTH in seen) == (n in ours), f"case {n}:\n{rust.text(case)}the file:\n{answer}the model:\n{mine}"
-    print(f"{len(answers)} answers are the model's, and {len(ours)} of them ours")
+    print(f"{len(theirs)} answers are the model's, and {len(ours)} of them ours")
 
 
 def main():
     if sys.argv[1:] == ["--check"]:
         return check()
     oracle = rust.oracle_at(sys.argv[1])
-    for (case, holds), answer in zip(list(stars()), rust.answers(oracle, [c for c, _ in stars()])):
+    for (case, holds), answer in zip(list(stars()), answers(oracle, [c for c, _ in stars()])):
         assert holds(answer), (case, answer)
     all_, own = Collection(oracle), 0
     for filters in (BASE, ADDED):
@@ -203,12 +210,14 @@ def main():
             all_.take(*one)
         all_.fill(filters)
         own += len(cases)
+    before = len(all_.taken)
+    all_.fill_by(ignoring, ALL, QUIETLY, lambda name: name.startswith(QUIET))
     write(all_.taken)
     for name, count in sorted(all_.counts.items()):
         print(f"{count:6} {name}")
     lacking, ours = list(all_.lacking()), sum(one.ours for one in all_.taken.values())
     print(f"in too few cases: {', '.join(lacking) or 'nothing'}")
-    print(f"{len(all_.taken)} cases, {own} of them chosen; {len(all_.taken) - ours} answers are the Rust's and {ours} ours; "
+    print(f"{len(all_.taken)} cases, {own} of them chosen, {len(all_.taken) - before} with ignored labels; {len(all_.taken) - ours} answers are the Rust's and {ours} ours; "
           f"{os.path.getsize(STDIN)} bytes in, {os.path.getsize(STDOUT)} bytes out; seed {SEED}")
     sys.exit(1 if lacking else 0)
 

@@ -25,9 +25,14 @@ def oracle_at(path):
     return built(path) if os.path.isdir(path) else path
 
 
+def whole(order, settings, allowed1, allowed2, m1, m2):
+    """A case without ignored labels."""
+    return [order, settings, allowed1, allowed2, [], m1, m2]
+
+
 def text(case):
-    """A case of six lines: "-" (a whole listing) or state numbers (expansions in that order); the settings; two allowed lists ("-": no
-    list); both machines. None is "-"."""
+    """A case of seven lines: "-" (a whole listing) or state numbers (expansions in that order); the settings; two allowed lists ("-": no
+    list); the ignored labels; both machines. Or what the oracle is asked, which knows no ignored labels. None is "-"."""
     return "".join(("-" if line is None else " ".join(map(str, line))) + "\n" for line in case)
 
 
@@ -38,7 +43,7 @@ def split(answers):
 
 
 def answers(oracle, cases, room=ROOM, reading=READING):
-    """What the Rust answers to each case. Stops where the oracle does: that is a finding by itself."""
+    """What the Rust answers to each case, of six lines. Stops where the oracle does: that is a finding by itself."""
     out = [None] * len(cases)
     asked = ["--many", "--lists", f"--room={room[0]}:{room[1]}", *reading]
     for command, places in (("composed", [k for k, c in enumerate(cases) if c[0] is None]),

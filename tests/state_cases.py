@@ -166,7 +166,7 @@ def entry(settings, a1, a2, m1, m2, triple, want):
 def chosen(oracle):
     """For each chosen case what it shows, its entry, and whether the answer is ours."""
     inputs = list(cases())
-    for (what, *given, n), one in zip(inputs, reference(oracle, [[range(n + 1), *given] for _, *given, n in inputs])):
+    for (what, *given, n), one in zip(inputs, reference(oracle, [rust.whole(range(n + 1), *given) for _, *given, n in inputs])):
         side, answers, states = parsed(one.answer)
         triple, answer = ((0, 0, 0), None) if isinstance(side, int) else (states[n][0], answers[n])
         yield what, entry(*given, triple, wants(side, answer, states, n)), one.ours
@@ -175,8 +175,8 @@ def chosen(oracle):
 def drawn(oracle, seed, count):
     """The same of the first twelve states of drawn machines."""
     rng = random.Random(int(seed))
-    inputs = [[range(12), *some_case(rng, ALL)] for _ in range(int(count))]
-    for (_, *given), one in zip(inputs, reference(oracle, inputs)):
+    inputs = [some_case(rng, ALL) for _ in range(int(count))]
+    for given, one in zip(inputs, reference(oracle, [rust.whole(range(12), *given) for given in inputs])):
         side, answers, states = parsed(one.answer)
         if isinstance(side, int):
             if side in (4, 5, 6, 7):

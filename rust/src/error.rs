@@ -35,10 +35,12 @@ pub enum Refusal {
     TooLarge = 12,
     /// 13: a record or, at opening, a head is lacking.
     NoRoom = 13,
+    /// 18: the ignored labels hold 0 or 4294967295. It is judged after 3 and before 4.
+    Ignored = 18,
 }
 
 /// All refusals, in the order of their numbers.
-const ALL: [Refusal; 13] = [
+const ALL: [Refusal; 14] = [
     Refusal::Settings,
     Refusal::FirstMalformed,
     Refusal::SecondMalformed,
@@ -52,15 +54,16 @@ const ALL: [Refusal; 13] = [
     Refusal::SigmaWalked,
     Refusal::TooLarge,
     Refusal::NoRoom,
+    Refusal::Ignored,
 ];
 
 impl Refusal {
-    /// The refusal's number, from 1 to 13, as in the library's header.
+    /// The refusal's number, from 1 to 13 or 18, as in the library's header.
     pub fn number(self) -> u32 {
         self as u32
     }
 
-    /// The refusal with this number; none outside 1 to 13.
+    /// The refusal with this number; none where no refusal has it.
     pub fn from_number(number: u32) -> Option<Refusal> {
         ALL.into_iter().find(|refusal| refusal.number() == number)
     }
@@ -98,6 +101,9 @@ impl Refusal {
                 "a weight is too large: a sum of finite costs reaches 4294967295, or a count is above it"
             }
             Refusal::NoRoom => "no room: a state or transition record, or at opening a head, is lacking",
+            Refusal::Ignored => {
+                "a label to ignore is 0, which is epsilon already, or 4294967295, which is no label"
+            }
         }
     }
 }
@@ -207,13 +213,15 @@ mod tests {
 
     #[test]
     fn numbers_and_words() {
-        for number in 1..=13 {
+        for number in (1..=13).chain([18]) {
             let refusal = Refusal::from_number(number).expect("a refusal has this number");
             assert_eq!(refusal.number(), number);
             assert!(!refusal.meaning().is_empty());
         }
         assert_eq!(Refusal::from_number(0), None);
-        assert_eq!(Refusal::from_number(14), None);
+        assert!((14..18)
+            .chain(19..99)
+            .all(|number| Refusal::from_number(number).is_none()));
         let error = Error::Refused {
             refusal: Refusal::TooLarge,
             state: Some(4),

@@ -288,18 +288,26 @@ impl Machine {
 
     /// Whether no label falls within any list.
     pub fn is_sorted(&self, by: By) -> bool {
-        self.states.iter().all(|state| {
-            state
-                .trs
-                .windows(2)
-                .all(|w| w[0].label(by) <= w[1].label(by))
-        })
+        self.is_sorted_as(by, |label| label)
+    }
+
+    /// Whether what the labels count as falls within no list.
+    pub(crate) fn is_sorted_as(&self, by: By, counts: impl Fn(u32) -> u32) -> bool {
+        let is_sorted = |state: &State| state.trs.is_sorted_by_key(|tr| counts(tr.label(by)));
+        self.states.iter().all(is_sorted)
     }
 
     /// Sorts every list; transitions with equal labels stay in their order.
     pub fn sort(&mut self, by: By) {
         for state in &mut self.states {
             state.trs.sort_by_key(|tr| tr.label(by));
+        }
+    }
+
+    /// Sorts every list by what the labels count as; transitions of which that is equal stay in their order.
+    pub(crate) fn sort_as(&mut self, by: By, counts: impl Fn(u32) -> u32) {
+        for state in &mut self.states {
+            state.trs.sort_by_cached_key(|tr| counts(tr.label(by)));
         }
     }
 

@@ -1,4 +1,5 @@
-//! What a composition is made of: the machines' words, sorted where asked for, the settings and the allowed lists.
+//! What a composition is made of: the machines' words, sorted where asked for, the settings, the allowed lists and the
+//! ignored labels.
 
 #![forbid(unsafe_code)]
 
@@ -41,6 +42,8 @@ pub struct Inputs {
     pub allowed1: Option<Vec<u32>>,
     /// The labels that the second machine's sigma may match; none: every label.
     pub allowed2: Option<Vec<u32>>,
+    /// The labels that count as 0 on the first machine's outputs and the second's inputs, see [`Options::ignored`].
+    pub ignored: Vec<u32>,
 }
 
 impl Inputs {
@@ -48,11 +51,12 @@ impl Inputs {
     pub fn of(first: &Machine, second: &Machine, options: &Options) -> Inputs {
         let (sort1, sort2) = to_sort(first, second, options);
         Inputs {
-            first: marked(first, sort1.then_some(By::Output)),
-            second: marked(second, sort2.then_some(By::Input)),
+            first: marked(first, sort1.then_some(By::Output), options),
+            second: marked(second, sort2.then_some(By::Input), options),
             settings: options.words(),
             allowed1: options.sigma1.allowed.clone(),
             allowed2: options.sigma2.allowed.clone(),
+            ignored: options.ignored.clone(),
         }
     }
 
@@ -63,6 +67,7 @@ impl Inputs {
             second: &self.second,
             allowed1: self.allowed1.as_deref(),
             allowed2: self.allowed2.as_deref(),
+            ignored: &self.ignored,
         }
     }
 
@@ -74,12 +79,15 @@ impl Inputs {
     /// for the machine at rest (the loop) and one for each epsilon transition, [`NO_LABEL`](crate::NO_LABEL) the latter
     /// alone. These are the matches that an expansion pairs with each transition that it walks.
     ///
+    /// Transitions with an ignored label count among the epsilons. The label that is asked for is not replaced: an ignored
+    /// one has no transitions of its own.
+    ///
     /// Nothing is opened for it and nothing kept: each call goes through both machines, as an opening does.
     ///
     /// # Errors
     ///
-    /// [`Error::Refused`] by the numbers 1 to 7, as by an opening; then by [`Refusal::NotFound`] where the machine has no
-    /// such state; then by [`Refusal::SigmaWalked`] where the label is the machine's sigma label. It names no composed
+    /// [`Error::Refused`] by the numbers 1 to 7 or 18, as by an opening; then by [`Refusal::NotFound`] where the machine has
+    /// no such state; then by [`Refusal::SigmaWalked`] where the label is the machine's sigma label. It names no composed
     /// state.
     ///
     /// ```
@@ -103,29 +111,33 @@ impl Inputs {
     }
 }
 
-/// Which of the two machines are to be sorted by their inner labels.
+/// Which of the two machines are to be sorted by their inner labels, ignored ones taken for 0.
 pub fn to_sort(first: &Machine, second: &Machine, options: &Options) -> (bool, bool) {
-    let sorted1 = first.is_sorted(By::Output);
-    let sorted2 = second.is_sorted(By::Input);
+    let sorted = |machine: &Machine, by| machine.is_sorted_as(by, |label| options.heard(label));
+    let (sorted1, sorted2) = (sorted(first, By::Output), sorted(second, By::Input));
+    let (sigma1, sigma2) = (options.sigma1.label, options.sigma2.label);
     match options.sort {
         Sort::Never => (false, false),
         Sort::Both => (!sorted1, !sorted2),
         Sort::WhereNeeded => {
             let neither = !sorted1 && !sorted2;
+            // Where labels are ignored, a first machine that is sorted is looked up, and the second's sigma is not.
+            let both = options.ignored.is_empty() || sigma2.is_none();
             (
-                neither || (!sorted1 && options.sigma1.label.is_some()),
-                neither || (!sorted2 && options.sigma2.label.is_some()),
+                (neither && both) || (!sorted1 && sigma1.is_some()),
+                neither || (!sorted2 && sigma2.is_some()),
             )
         }
     }
 }
 
-fn marked(machine: &Machine, sort: Option<By>) -> Vec<u32> {
+/// The machine's words, with marks that are true of its labels as they are: so the library wants them, whatever is ignored.
+fn marked(machine: &Machine, sort: Option<By>, options: &Options) -> Vec<u32> {
     match sort {
         None => words::encode(machine, Marks::True),
         Some(by) => {
             let mut sorted = machine.clone();
-            sorted.sort(by);
+            sorted.sort_as(by, |label| options.heard(label));
             words::encode(&sorted, Marks::True)
         }
     }

@@ -76,9 +76,10 @@ impl Composition {
     ///
     /// # Errors
     ///
-    /// [`Error::Refused`] by [`Refusal::SigmaZero`], [`Refusal::FirstUnsorted`], [`Refusal::SecondUnsorted`] or
-    /// [`Refusal::NoSide`] (the last three under [`Sort::Never`](crate::Sort::Never) alone), or by [`Refusal::NoRoom`]
-    /// where `room` and `most` leave none for a state or a head; [`Error::Memory`] where there is no memory for the room.
+    /// [`Error::Refused`] by [`Refusal::Ignored`], [`Refusal::SigmaZero`], [`Refusal::FirstUnsorted`],
+    /// [`Refusal::SecondUnsorted`] or [`Refusal::NoSide`] (the last three under [`Sort::Never`](crate::Sort::Never) alone), or
+    /// by [`Refusal::NoRoom`] where `room` and `most` leave none for a state or a head; [`Error::Memory`] where there is no
+    /// memory for the room.
     pub fn open(
         first: &Machine,
         second: &Machine,
@@ -94,7 +95,7 @@ impl Composition {
     ///
     /// # Errors
     ///
-    /// [`Error::Refused`] by the numbers 1 to 7 or 13; [`Error::Memory`] where there is no memory for the room.
+    /// [`Error::Refused`] by the numbers 1 to 7, 13 or 18; [`Error::Memory`] where there is no memory for the room.
     pub fn open_words(inputs: Inputs, room: Room, most: Room) -> Result<Composition, Error> {
         let most = most.within(Room::LARGEST);
         let room = suited(room.within(Room::LARGEST), &inputs, most);

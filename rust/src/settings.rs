@@ -1,8 +1,8 @@
-//! How to compose: weights, filter, sigma labels, sorting, room.
+//! How to compose: weights, filter, sigma labels, ignored labels, sorting, room.
 
 #![forbid(unsafe_code)]
 
-use crate::machine::LARGEST_COUNT;
+use crate::machine::{EPSILON, LARGEST_COUNT};
 
 /// What weights are.
 #[derive(Clone, Copy, Debug, Default, PartialEq, Eq)]
@@ -129,8 +129,9 @@ pub enum Rewrite {
 /// `Alternate` and `Match` list each two readings that agree once, and no others. Two agree then where, epsilons left
 /// out, the second reads as many labels as the first writes and, place by place, these are equal, or the second's is
 /// sigma and the first's is allowed. (The side must be `Input` or `Both`, as it always is after
-/// [`Composition::open`](crate::Composition::open) with such a sigma.) With sigma on the first machine, or where the first
-/// writes the second's sigma label, nothing is claimed of readings.
+/// [`Composition::open`](crate::Composition::open) with such a sigma and no ignored labels; with some it may be `Output`,
+/// where the second's sigma is a label like others, see [`Options::ignored`].) With sigma on the first machine, or where the
+/// first writes the second's sigma label, nothing is claimed of readings.
 #[derive(Clone, Debug, Default, PartialEq, Eq)]
 #[non_exhaustive]
 pub struct Sigma {
@@ -166,12 +167,13 @@ impl Sigma {
     }
 }
 
-/// Which machines are sorted by their inner labels before they are composed.
+/// Which machines are sorted by their inner labels before they are composed. An ignored label counts as 0 there too.
 #[derive(Clone, Copy, Debug, Default, PartialEq, Eq)]
 #[non_exhaustive]
 pub enum Sort {
     /// Both where neither is sorted, and one that has a sigma label and is not; else none, so that the lists stay in
-    /// the order in which they were given.
+    /// the order in which they were given. Where labels are ignored and neither is sorted, but the second alone has a sigma
+    /// label, it alone is: a sorted first one would make that sigma a label like others.
     #[default]
     WhereNeeded,
     /// Both.
@@ -269,6 +271,43 @@ pub struct Options {
     pub sigma1: Sigma,
     /// The second machine's sigma, on its inputs.
     pub sigma2: Sigma,
+    /// Labels that count as epsilon on the first machine's outputs and on the second's inputs, the inner labels: joiners,
+    /// soft hyphens and other marks that no rule is to notice. In any order, each as often as one likes; but
+    /// [`EPSILON`](crate::EPSILON) and [`NO_LABEL`](crate::NO_LABEL) are refused by
+    /// [`Refusal::Ignored`](crate::Refusal::Ignored). None, as by default, change nothing.
+    ///
+    /// With some, the composition is that of the two machines with these labels replaced by 0 on their inner sides. What
+    /// the first machine reads and the second writes stays. Two readings agree where their inner labels do after that. A
+    /// sigma label is replaced as any other: its transitions are epsilons then, and match no letter. A machine counts as an
+    /// acceptor, for [`Rewrite::Auto`], where its inputs are its outputs after that too.
+    ///
+    /// ```
+    /// use rinkolza::{compose, text, Format, Options};
+    ///
+    /// // A text with a soft hyphen, 7, between 2 and 3; the rules know letters alone.
+    /// let word = text::read("0 1 2 2\n1 2 7 7\n2 3 3 3\n3\n", "word", &Format::default())?;
+    /// let rules = text::read("0 1 2 2 5\n1 2 3 3 4\n2\n", "rules", &Format::default())?;
+    /// let options = Options::new().with_ignored([7]);
+    /// let composed = compose(&word, &rules, &options)?;
+    /// assert_eq!(
+    ///     text::write(&composed, &Format::default())?,
+    ///     "0\t1\t2\t2\t5\n1\t2\t7\t0\n2\t3\t3\t3\t4\n3\n"
+    /// );
+    /// # Ok::<(), rinkolza::Error>(())
+    /// ```
+    ///
+    /// # Warning
+    ///
+    /// Any ignored label, though neither machine has it, shuts out the side [`Both`](crate::Side::Both), and leaves
+    /// [`Input`](crate::Side::Input) only where the first machine's outputs are not sorted, ignored labels taken for 0. With
+    /// a sigma on the second machine the side may so become [`Output`](crate::Side::Output), where that sigma is a label like
+    /// others and matches no letter: readings are lost, and totals change. Who needs both puts the label 0 into the
+    /// machines in place of those to be ignored, and leaves this empty.
+    ///
+    /// It costs time. With any ignored label the library goes through both states' whole lists for each label that it looks
+    /// up, as it does with a sigma, and through all ignored labels for each inner label that it reads: where states have
+    /// thousands of transitions, that is seconds in place of milliseconds. The label 0 in their place costs nothing.
+    pub ignored: Vec<u32>,
     /// What is sorted first.
     pub sort: Sort,
     /// The room to begin with; records grow where they do not suffice. Heads stay as they are at the opening. Of what it
@@ -287,6 +326,7 @@ impl Default for Options {
             filter: Filter::default(),
             sigma1: Sigma::default(),
             sigma2: Sigma::default(),
+            ignored: Vec::new(),
             sort: Sort::default(),
             room: Room {
                 heads: 0,
@@ -299,8 +339,8 @@ impl Default for Options {
 }
 
 impl Options {
-    /// Costs, the filter sequence, no sigma, sorted where needed, room as the machines ask for, and records that grow up
-    /// to [`Room::LARGEST`].
+    /// Costs, the filter sequence, no sigma, no ignored labels, sorted where needed, room as the machines ask for, and
+    /// records that grow up to [`Room::LARGEST`].
     pub fn new() -> Options {
         Options::default()
     }
@@ -333,6 +373,13 @@ impl Options {
         self
     }
 
+    /// With these labels ignored, see [`Options::ignored`], which has a warning for those who set a sigma too.
+    #[must_use]
+    pub fn with_ignored(mut self, labels: impl Into<Vec<u32>>) -> Options {
+        self.ignored = labels.into();
+        self
+    }
+
     /// With this sorting before.
     #[must_use]
     pub fn with_sort(mut self, sort: Sort) -> Options {
@@ -352,6 +399,14 @@ impl Options {
     pub fn with_most(mut self, most: Room) -> Options {
         self.most = most;
         self
+    }
+
+    /// What an inner label counts as: [`EPSILON`](crate::EPSILON) where it is ignored, else itself.
+    pub fn heard(&self, label: u32) -> u32 {
+        match self.ignored.contains(&label) {
+            true => EPSILON,
+            false => label,
+        }
     }
 
     /// The six words of the library's settings: kind, filter, sigma 1, mode 1, sigma 2, mode 2; 4294967295 is no sigma.

@@ -13,7 +13,7 @@ use crate::prepare::Inputs;
 use crate::settings::Room;
 use std::fmt;
 
-/// What is lent at every call: the machines' words and the allowed lists.
+/// What is lent at every call: the machines' words, the allowed lists and the ignored labels.
 #[derive(Clone, Copy, Debug)]
 pub struct Lent<'a> {
     /// The first machine.
@@ -24,6 +24,9 @@ pub struct Lent<'a> {
     pub allowed1: Option<&'a [u32]>,
     /// The labels that the second machine's sigma may match; none: every label.
     pub allowed2: Option<&'a [u32]>,
+    /// The labels that count as 0 on the first machine's outputs and the second's inputs, see
+    /// [`Options::ignored`](crate::Options::ignored).
+    pub ignored: &'a [u32],
 }
 
 /// The words of a state record: the first machine's state, the second's, the filter's, expanded (0 or 1), first
@@ -141,6 +144,8 @@ macro_rules! call {
                 list2.as_ptr(),
                 list2.len(),
                 has2,
+                $lent.ignored.as_ptr(),
+                $lent.ignored.len(),
                 $memory.heads.$ptr(),
                 $memory.heads.len(),
                 $memory.states.$ptr(),
@@ -175,7 +180,7 @@ pub fn open(
 ///
 /// # Errors
 ///
-/// The refusal's number, from 1 to 13; session and memory stay.
+/// The refusal's number, from 1 to 13, or 18; session and memory stay.
 pub fn expand(
     lent: &Lent<'_>,
     session: &mut Session,
@@ -201,7 +206,7 @@ pub fn expand(
 ///
 /// # Errors
 ///
-/// The refusal's number: 1 to 9, or 12.
+/// The refusal's number: 1 to 9, 12 or 18.
 pub fn final_weight(
     lent: &Lent<'_>,
     session: &Session,
@@ -230,7 +235,7 @@ pub fn run(lent: &Lent<'_>, session: &mut Session, memory: &mut Memory) -> u32 {
 }
 
 /// The records of state n, [`TR_WORDS`] words each, as a part of the transition slice; empty where it is not expanded or a
-/// check from 1 to 9 would refuse.
+/// check from 1 to 9, or 18, would refuse.
 pub fn records<'m>(lent: &Lent<'_>, session: &Session, memory: &'m Memory, n: u32) -> &'m [u32] {
     let mut answer = [0; 2];
     call!(
@@ -251,8 +256,8 @@ pub fn records<'m>(lent: &Lent<'_>, session: &Session, memory: &'m Memory, n: u3
 ///
 /// # Errors
 ///
-/// The refusal's number: 1 to 7 as an opening's; 9 where there is no such machine or state; 11 where the label is that
-/// machine's sigma label.
+/// The refusal's number: 1 to 7 or 18 as an opening's; 9 where there is no such machine or state; 11 where the label is
+/// that machine's sigma label.
 pub fn fan_out(
     settings: &[u32; 6],
     lent: &Lent<'_>,
@@ -278,6 +283,8 @@ pub fn fan_out(
             list2.as_ptr(),
             list2.len(),
             has2,
+            lent.ignored.as_ptr(),
+            lent.ignored.len(),
             machine,
             state,
             label,
@@ -293,7 +300,7 @@ pub fn fan_out(
 
 /// A composition that owns its inputs, session and memory, so that its calls need not check them.
 ///
-/// The calls that do not check ask that the checks 1 to 8 pass. That is proved (`OwnedClaim` in
+/// The calls that do not check ask that the checks 1 to 8 and 18 pass. That is proved (`OwnedClaim` in
 /// `crates/readings/specs/Owned.antt`) after an accepted opening, where every call gets the same machines and lists and
 /// the session and memory as the call before left them, or with words added behind the states and the transitions; and
 /// it holds here by construction: the one way to a value is an accepted opening (or a copy of a value, word for word),
@@ -356,7 +363,7 @@ pub struct Piece {
 macro_rules! trusted {
     ($name:ident, $ptr:ident, $own:expr, [$($after:expr),*]) => {{
         let lent = $own.inputs.lent();
-        // SAFETY: beside what `call!` says, the checks 1 to 8 pass and the memos are as they must be, see `Owned`.
+        // SAFETY: beside what `call!` says, the checks 1 to 8 and 18 pass and the memos are as they must be, see `Owned`.
         call!($name, $ptr, [], $own.session, lent, $own.memory, [$($after),*])
     }};
 }
@@ -366,7 +373,7 @@ impl Owned {
     ///
     /// # Errors
     ///
-    /// [`Error::Refused`] by the numbers 1 to 7 or 13; [`Error::Memory`] where there is no memory for the room.
+    /// [`Error::Refused`] by the numbers 1 to 7, 13 or 18; [`Error::Memory`] where there is no memory for the room.
     pub fn open(inputs: Inputs, room: Room) -> Result<Owned, Error> {
         let mut session = Session::default();
         let mut memory = Memory::new(room.within(Room::LARGEST))?;
@@ -552,6 +559,8 @@ extern "C" {
         allowed2: *const u32,
         allowed2_len: usize,
         has2: u32,
+        ignored: *const u32,
+        ignored_len: usize,
         heads: *mut u32,
         heads_len: usize,
         states: *mut u32,
@@ -573,6 +582,8 @@ extern "C" {
         allowed2: *const u32,
         allowed2_len: usize,
         has2: u32,
+        ignored: *const u32,
+        ignored_len: usize,
         heads: *mut u32,
         heads_len: usize,
         states: *mut u32,
@@ -597,6 +608,8 @@ extern "C" {
         allowed2: *const u32,
         allowed2_len: usize,
         has2: u32,
+        ignored: *const u32,
+        ignored_len: usize,
         heads: *const u32,
         heads_len: usize,
         states: *const u32,
@@ -621,6 +634,8 @@ extern "C" {
         allowed2: *const u32,
         allowed2_len: usize,
         has2: u32,
+        ignored: *const u32,
+        ignored_len: usize,
         heads: *mut u32,
         heads_len: usize,
         states: *mut u32,
@@ -642,6 +657,8 @@ extern "C" {
         allowed2: *const u32,
         allowed2_len: usize,
         has2: u32,
+        ignored: *const u32,
+        ignored_len: usize,
         heads: *const u32,
         heads_len: usize,
         states: *const u32,
@@ -666,6 +683,8 @@ extern "C" {
         allowed2: *const u32,
         allowed2_len: usize,
         has2: u32,
+        ignored: *const u32,
+        ignored_len: usize,
         machine: u32,
         state: u32,
         label: u32,
@@ -686,6 +705,8 @@ extern "C" {
         allowed2: *const u32,
         allowed2_len: usize,
         has2: u32,
+        ignored: *const u32,
+        ignored_len: usize,
         heads: *mut u32,
         heads_len: usize,
         states: *mut u32,
@@ -712,6 +733,8 @@ extern "C" {
         allowed2: *const u32,
         allowed2_len: usize,
         has2: u32,
+        ignored: *const u32,
+        ignored_len: usize,
         heads: *const u32,
         heads_len: usize,
         states: *const u32,
@@ -736,6 +759,8 @@ extern "C" {
         allowed2: *const u32,
         allowed2_len: usize,
         has2: u32,
+        ignored: *const u32,
+        ignored_len: usize,
         heads: *const u32,
         heads_len: usize,
         states: *const u32,
@@ -760,6 +785,8 @@ extern "C" {
         allowed2: *const u32,
         allowed2_len: usize,
         has2: u32,
+        ignored: *const u32,
+        ignored_len: usize,
         heads: *const u32,
         heads_len: usize,
         states: *const u32,
@@ -783,6 +810,8 @@ extern "C" {
         allowed2: *const u32,
         allowed2_len: usize,
         has2: u32,
+        ignored: *const u32,
+        ignored_len: usize,
         heads: *mut u32,
         heads_len: usize,
         states: *mut u32,

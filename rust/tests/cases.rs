@@ -22,6 +22,7 @@ fn inputs(settings: [u32; 6], first: &[u32], second: &[u32]) -> Inputs {
         settings,
         allowed1: None,
         allowed2: None,
+        ignored: Vec::new(),
     }
 }
 

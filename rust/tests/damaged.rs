@@ -1,13 +1,10 @@
-//! Damaged input: drawn words as machines, settings, sessions and memory. Every call is answered, by 0 or a number up to 13, and a refused one changes nothing.
+//! Damaged input: drawn words as machines, settings, sessions and memory. Every call is answered, by 0 or a refusal's number, and a refused one changes nothing.
 
 mod common;
 
-use common::{Draw, Fixed, World};
+use common::{Draw, Fixed, Seen, World};
 use rinkolza::sys::{self, Memory, Session};
-use rinkolza::{words, Inputs, Room};
-
-/// How often each number was answered.
-type Seen = [u32; 14];
+use rinkolza::{words, Inputs, Refusal, Room};
 
 /// Makes a call on what is there, which may be anything.
 fn one_call(draw: &mut Draw, damaged: &mut Fixed, seen: &mut Seen) {
@@ -38,7 +35,7 @@ fn one_call(draw: &mut Draw, damaged: &mut Fixed, seen: &mut Seen) {
         }
     };
     seen[number as usize] += 1;
-    let keeps = call == 3 && number > 8;
+    let keeps = call == 3 && (10..=13).contains(&number);
     if number != 0 && !keeps {
         assert!(
             session == damaged.session && memory == damaged.memory,
@@ -60,6 +57,7 @@ fn drawn_words() {
                 settings: std::array::from_fn(|_| draw.word()),
                 allowed1: listed(&mut draw),
                 allowed2: listed(&mut draw),
+                ignored: draw.words(4),
             },
             session: Session(std::array::from_fn(|_| draw.word())),
             memory: Memory {
@@ -81,7 +79,8 @@ fn one_word_changed() {
     let mut draw = Draw(6);
     let mut seen = Seen::default();
     for _ in 0..60_000 {
-        let inputs = draw.inputs(4, 4);
+        let mut inputs = draw.inputs(4, 4);
+        inputs.ignored = draw.ignored();
         let room = Room {
             heads: draw.below(6) as usize,
             states: draw.below(12) as usize,
@@ -102,18 +101,22 @@ fn one_word_changed() {
             one_call(&mut draw, &mut opened, &mut seen);
         }
     }
-    assert!(seen.iter().all(|&count| count > 0), "{seen:?}");
+    let numbers = (0..seen.len() as u32).filter(|&n| n == 0 || Refusal::from_number(n).is_some());
+    for number in numbers {
+        assert!(seen[number as usize] > 0, "{number} of {seen:?}");
+    }
 }
 
 /// Changes a word somewhere.
 fn damage(draw: &mut Draw, opened: &mut Fixed) {
-    let words: &mut [u32] = match draw.below(7) {
+    let words: &mut [u32] = match draw.below(8) {
         0 => &mut opened.inputs.first,
         1 => &mut opened.inputs.second,
         2 => &mut opened.inputs.settings,
         3 => &mut opened.session.0,
         4 => &mut opened.memory.heads,
         5 => &mut opened.memory.states,
+        6 => &mut opened.inputs.ignored,
         _ => &mut opened.memory.trs,
     };
     if words.is_empty() {

@@ -4,7 +4,8 @@
 mod common;
 
 use common::choice::{self, is_sorted, list, records_of, INNER, MAX};
-use common::{Draw, Fixed, World, FILTERS, LEAST};
+use common::ignored::{is_refused, replaced};
+use common::{Draw, Fixed, Seen, World, FILTERS, LEAST};
 use rinkolza::{
     sys, Composition, Error, Filter, Inputs, Machine, Options, Refusal, Room, Sigma, Sort, Tr,
     Which, EPSILON, LARGEST_COUNT, NO_LABEL,
@@ -54,7 +55,7 @@ fn marks_hold(words: &[u32], tail: &[u32]) -> bool {
     side(0) && side(1) && acceptor
 }
 
-/// The refusal of an opening, 1 to 7.
+/// The refusal of an opening, 1 to 7 or 18.
 fn refused_opening(inputs: &Inputs) -> Option<u32> {
     let [kind, filter, sigma1, mode1, sigma2, mode2] = inputs.settings;
     if kind > 1 || filter as usize >= FILTERS.len() || mode1 > 2 || mode2 > 2 {
@@ -66,9 +67,11 @@ fn refused_opening(inputs: &Inputs) -> Option<u32> {
     if !is_machine(&inputs.second) {
         return Some(3);
     }
-    let sorted1 = is_sorted(&inputs.first, INNER[0]);
-    let sorted2 = is_sorted(&inputs.second, INNER[1]);
+    let read = replaced(inputs);
+    let sorted1 = is_sorted(&read.first, INNER[0]);
+    let sorted2 = is_sorted(&read.second, INNER[1]);
     let causes = [
+        (is_refused(&inputs.ignored), 18),
         (sigma1 == 0 || sigma2 == 0, 4),
         (sigma1 != MAX && !sorted1, 5),
         (sigma2 != MAX && !sorted2, 6),
@@ -86,6 +89,7 @@ fn expected(inputs: &Inputs, [machine, state, label]: Query) -> Result<u32, u32>
     if let Some(number) = refused_opening(inputs) {
         return Err(number);
     }
+    let inputs = &replaced(inputs);
     let (words, allowed) = match machine {
         1 => (&inputs.first, &inputs.allowed1),
         2 => (&inputs.second, &inputs.allowed2),
@@ -112,9 +116,6 @@ fn fan_out(inputs: &Inputs, [machine, state, label]: Query) -> Result<u32, u32> 
     sys::fan_out(&inputs.settings, &inputs.lent(), machine, state, label)
 }
 
-/// How often each number was answered, 0 where it was accepted.
-type Seen = [u32; 14];
-
 /// The call answers as the header says, and the opening is refused where it should be.
 fn compare(inputs: &Inputs, queries: &[Query], seen: &mut Seen) {
     let opened = Fixed::open(inputs.clone(), LEAST).err();
@@ -127,7 +128,7 @@ fn compare(inputs: &Inputs, queries: &[Query], seen: &mut Seen) {
 }
 
 /// Two machines, with scattered records and shared tails now and then, sorted or not, marked or not; settings with sigma
-/// labels, and allowed lists.
+/// labels, allowed lists and ignored labels.
 fn drawn(draw: &mut Draw) -> Inputs {
     let mut inputs = match draw.below(8) {
         0..4 => choice::inputs(draw, 4, 4),
@@ -146,6 +147,7 @@ fn drawn(draw: &mut Draw) -> Inputs {
     let list = |draw: &mut Draw| (0..draw.below(4)).map(|_| draw.below(5)).collect();
     inputs.allowed1 = draw.one_in(2).then(|| list(draw));
     inputs.allowed2 = draw.one_in(2).then(|| list(draw));
+    inputs.ignored = draw.ignored();
     inputs
 }
 
@@ -161,13 +163,15 @@ fn queries(inputs: &Inputs) -> Vec<Query> {
     queries
 }
 
-/// How many look-ups of letters had own and sigma matches, sigma matches alone, own matches and sigma that may not match.
+/// How many look-ups of letters had own and sigma matches, sigma matches alone, own matches and sigma that may not match,
+/// own matches on an unsorted side; and how many were of ignored labels.
 #[derive(Debug, Default)]
 struct Met {
     both: u32,
     sigma: u32,
     not_allowed: u32,
     unsorted: u32,
+    ignored: u32,
 }
 
 impl Met {
@@ -176,6 +180,8 @@ impl Met {
         let Ok(all) = fan_out(inputs, query) else {
             return;
         };
+        self.ignored += u32::from(inputs.ignored.contains(&label));
+        let inputs = &replaced(inputs);
         let place = machine as usize - 1;
         let words = [&inputs.first, &inputs.second][place];
         let sigma = inputs.settings[2 + 2 * place];
@@ -192,18 +198,19 @@ impl Met {
 #[test]
 fn drawn_look_ups() {
     let (mut draw, mut seen, mut met) = (Draw(151), Seen::default(), Met::default());
-    for _ in 0..4000 {
+    for _ in 0..9000 {
         let inputs = drawn(&mut draw);
         let queries = queries(&inputs);
         compare(&inputs, &queries, &mut seen);
         queries.iter().for_each(|&query| met.count(&inputs, query));
     }
     println!("{seen:?} {met:?}");
-    for number in [0, 5, 6, 7, 9, 11] {
+    for number in [0, 5, 6, 7, 9, 11, 18] {
         assert!(seen[number] > 1000, "{number} of {seen:?}");
     }
     let counts = [met.both, met.sigma, met.not_allowed, met.unsorted];
-    assert!(counts.iter().all(|&count| count > 400), "{met:?}");
+    let counts = counts.iter().chain([&met.ignored]);
+    assert!(counts.into_iter().all(|&count| count > 400), "{met:?}");
 }
 
 /// The words of one of the slices that are lent.
@@ -211,7 +218,8 @@ fn slice(inputs: &mut Inputs, which: usize) -> &mut [u32] {
     match which {
         0 => &mut inputs.settings,
         1 => &mut inputs.first,
-        _ => &mut inputs.second,
+        2 => &mut inputs.second,
+        _ => &mut inputs.ignored,
     }
 }
 
@@ -252,7 +260,7 @@ fn damaged_words() {
     let (mut draw, mut seen) = (Draw(157), Seen::default());
     for _ in 0..16 {
         let mut inputs = accepted(&mut draw);
-        for which in 0..3 {
+        for which in 0..4 {
             for place in 0..slice(&mut inputs, which).len() {
                 for damaged in damaged(&inputs, which, place) {
                     let (state, label) = (draw.below(4), draw.below(5));
@@ -263,7 +271,7 @@ fn damaged_words() {
         }
     }
     println!("{seen:?}");
-    for number in [0, 1, 2, 3, 4, 5, 6, 7, 9, 11] {
+    for number in [0, 1, 2, 3, 4, 5, 6, 7, 9, 11, 18] {
         assert!(seen[number] > 50, "{number} of {seen:?}");
     }
 }
@@ -291,6 +299,7 @@ fn other_lengths_and_any_words() {
             settings: std::array::from_fn(|_| draw.word()),
             allowed1: listed(&mut draw),
             allowed2: listed(&mut draw),
+            ignored: draw.words(3),
         };
         let query = [draw.word(), draw.word(), draw.word()];
         compare(&inputs, &[query], &mut seen);
@@ -324,12 +333,15 @@ type Cure = fn(&mut Inputs, &mut Query);
 fn the_order_of_the_checks() {
     let (mut inputs, mut query) = (both(&[9, 5, 9, 5, 5]), [3, 1, 9]);
     inputs.settings = [2, 0, 0, 0, 9, 0];
+    inputs.ignored = vec![7, MAX, 0];
     inputs.first[2] = 2;
     inputs.second[2] = 2;
-    let cures: [(u32, Cure); 10] = [
+    let cures: [(u32, Cure); 12] = [
         (1, |inputs, _| inputs.settings[0] = 1),
         (2, |inputs, _| inputs.first[2] = 1),
         (3, |inputs, _| inputs.second[2] = 0),
+        (18, |inputs, _| inputs.ignored[1] = 3),
+        (18, |inputs, _| inputs.ignored[2] = MAX - 1),
         (4, |inputs, _| inputs.settings[2] = 9),
         (5, |inputs, _| inputs.settings[2] = MAX),
         (6, |inputs, _| inputs.settings[4] = MAX),
@@ -368,6 +380,8 @@ extern "C" {
         allowed2: *const u32,
         allowed2_len: usize,
         has2: u32,
+        ignored: *const u32,
+        ignored_len: usize,
         machine: u32,
         state: u32,
         label: u32,
@@ -394,6 +408,8 @@ fn lend(settings: &[u32], inputs: &Inputs, query: Query, answer: &mut [u32]) -> 
             none.as_ptr(),
             0,
             0,
+            inputs.ignored.as_ptr(),
+            inputs.ignored.len(),
             query[0],
             query[1],
             query[2],
@@ -449,7 +465,9 @@ fn nothing_is_written_where_it_is_refused() {
     }
     println!("{seen:?}");
     assert!(
-        [0, 1, 2, 3, 9, 11].iter().all(|&number| seen[number] > 50),
+        [0, 1, 2, 3, 9, 11, 18]
+            .iter()
+            .all(|&number| seen[number] > 50),
         "{seen:?}"
     );
 }
@@ -464,8 +482,9 @@ const ROOM: Room = Room {
 /// The machine that is looked up at a pair of states: 0 the first, 1 the second. 10 where both have sigma transitions.
 fn looked_up(fixed: &Fixed, at: [u32; 2]) -> Result<usize, u32> {
     let [_, _, sigma1, _, sigma2, _] = fixed.inputs.settings;
-    let one = list(&fixed.inputs.first, at[0]);
-    let two = list(&fixed.inputs.second, at[1]);
+    let read = replaced(&fixed.inputs);
+    let one = list(&read.first, at[0]);
+    let two = list(&read.second, at[1]);
     let has = |list: &[&[u32]], on: usize, sigma| list.iter().any(|tr| tr[on] == sigma);
     match (fixed.side(), has(&one, 1, sigma1), has(&two, 0, sigma2)) {
         (0, _, _) => Ok(1),
@@ -481,7 +500,8 @@ fn looked_up(fixed: &Fixed, at: [u32; 2]) -> Result<usize, u32> {
 /// looked up, alone, and the matches of each label that is walked.
 fn moves(inputs: &Inputs, looked: usize, at: [u32; 2]) -> Result<u32, u32> {
     let walked = 1 - looked;
-    let list = list([&inputs.first, &inputs.second][walked], at[walked]);
+    let read = replaced(inputs);
+    let list = list([&read.first, &read.second][walked], at[walked]);
     let walks = list.iter().map(|tr| tr[INNER[walked]]);
     let look_up = |label| fan_out(inputs, [looked as u32 + 1, at[looked], label]);
     [NO_LABEL].into_iter().chain(walks).map(look_up).sum()
@@ -491,7 +511,7 @@ fn moves(inputs: &Inputs, looked: usize, at: [u32; 2]) -> Result<u32, u32> {
 fn as_many_as_are_handed_out() {
     let (mut draw, mut seen) = (Draw(173), Seen::default());
     let (mut sides, mut most) = ([0; 3], 0);
-    for _ in 0..5000 {
+    for _ in 0..12_000 {
         let mut inputs = drawn(&mut draw);
         inputs.settings[1] = Filter::Trivial as u32;
         let Ok(mut fixed) = Fixed::open(inputs, ROOM) else {

@@ -206,6 +206,7 @@ fn the_limit_of_a_machine() {
             settings: PLAIN,
             allowed1: None,
             allowed2: None,
+            ignored: Vec::new(),
         };
         let opened = Composition::open_words(inputs, few, few);
         opened.map(|opened| opened.found()).map_err(number)
@@ -237,6 +238,7 @@ fn nearly_full(states: usize, trs: usize) -> Fixed {
             settings,
             allowed1: None,
             allowed2: None,
+            ignored: Vec::new(),
         },
         session,
         memory: Memory {

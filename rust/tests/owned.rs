@@ -110,6 +110,7 @@ fn drawn_calls() {
     for _ in 0..10_000 {
         let mut inputs = draw.inputs(6, 6);
         draw.make_heavy_one_in(2, &mut inputs);
+        inputs.ignored = draw.ignored();
         let room = Room {
             heads: 1 + draw.below(20) as usize,
             states: 1 + draw.below(40) as usize,

@@ -275,6 +275,9 @@ fn wrong_calls() {
         &["print", "--symbols=-", "-"],
         &["compose", "--sigma1", "x", "-", "a"],
         &["compose", "--allowed1", "3", "-", "a"],
+        &["compose", "--ignore", "3,x", "-", "a"],
+        &["compose", "--ignore=4294967295", "-", "a"],
+        &["print", "--ignore=3", "-"],
         &["draw", "--words", &glyphs],
     ] {
         let (status, error) = complaint(words, "");
@@ -300,6 +303,7 @@ fn wrong_calls_of_fan_out() {
         &["fan-out", "--top=ten", "-"],
         &["fan-out", "--sigma=x", "-"],
         &["fan-out", "--allowed=3", "-"],
+        &["fan-out", "--ignore=x", "-"],
         &["fan-out", "--sort=input", "-"],
         &["fan-out", "--show-weight-one", "-"],
         &["print", "--top=3", "-"],
@@ -387,6 +391,79 @@ fn sigma_by_its_options() {
     }
 }
 
+/// A joiner, 6, in the letters and in the rules, where it stands for nothing.
+#[test]
+fn ignored_by_its_option() {
+    let letters = "0 1 3 3\n1 2 6 6\n2 3 4 4\n3\n";
+    let rules = "0 1 3 3 5\n1 2 4 4\n2 3 6 8\n3\n";
+    for (options, becomes) in [
+        (&[][..], "0 1 3 3 5\n1 Infinity\n"),
+        (&["--ignore="], "0 1 3 3 5\n1 Infinity\n"),
+        (&["--ignore=7,9"], "0 1 3 3 5\n1 Infinity\n"),
+        (&["--ignore=6"], "0 1 3 3 5\n1 2 6 0\n2 3 4 4\n3 4 0 8\n4\n"),
+        (
+            &["--ignore=7,6,6"],
+            "0 1 3 3 5\n1 2 6 0\n2 3 4 4\n3 4 0 8\n4\n",
+        ),
+    ] {
+        let composed = composed_with(options, letters, rules, "ignored");
+        assert_eq!(composed.replace('\t', " "), becomes, "{options:?}");
+    }
+    let (symbols, glyphs) = (example("labels.syms"), example("glyphs.txt"));
+    let names = format!("--symbols={symbols}");
+    for command in ["compose", "fan-out"] {
+        // 18 before 4.
+        let sigma = ["--sigma2=<eps>", "--sigma=<eps>"][usize::from(command == "fan-out")];
+        let mut words = vec![command, "--ignore=A,<eps>", sigma, &names, &glyphs];
+        words.extend((command == "compose").then_some(&*glyphs));
+        let (status, error) = complaint(&words, "");
+        assert!(
+            status == 1 && error.contains("rinkolza: refused 18: a label to ignore is 0"),
+            "{error}"
+        );
+    }
+    let (status, error) = complaint(&["fan-out", "--ignore=0", "--sigma=0", "-"], "");
+    assert!(status == 1 && error.starts_with("rinkolza: refused 18: "));
+}
+
+/// Where the first machine is sorted, the second's sigma is a label like others, and a note says so; else it is not.
+#[test]
+fn ignored_labels_and_sigma() {
+    let rules = "0 0 9 9\n0\n";
+    let folder = std::env::temp_dir().join(format!("rinkolza-silent-{}", std::process::id()));
+    std::fs::create_dir_all(&folder).unwrap();
+    let file = folder.join("rules").display().to_string();
+    std::fs::write(&file, rules).unwrap();
+    let (sorted, falls) = ("0 1 3 3\n1\n", "0 1 4 4\n0 1 3 3\n1\n");
+    for (letters, options, composed, noted) in [
+        (sorted, &["--sigma2=9"][..], "0 1 3 3\n1\n", false),
+        (sorted, &["--sigma2=9", "--ignore="], "0 1 3 3\n1\n", false),
+        (sorted, &["--sigma2=9", "--ignore=7"], "0 Infinity\n", true),
+        (sorted, &["--ignore=7"], "0 Infinity\n", false),
+        (
+            falls,
+            &["--sigma2=9", "--ignore=7"],
+            "0 1 4 4\n0 1 3 3\n1\n",
+            false,
+        ),
+        (falls, &["--sigma2=9", "--ignore=4"], "0 1 4 0\n1\n", true),
+    ] {
+        let words = [&["compose"], options, &["-", &file]].concat();
+        let output = call(&words, letters);
+        let (status, text, error) = said(&output);
+        let note =
+            "note: with --ignore the first machine, which is sorted, is the one that is looked up";
+        assert_eq!(status, 0);
+        assert_eq!(
+            text.replace('\t', " "),
+            composed,
+            "{options:?} of {letters}"
+        );
+        assert_eq!(error.contains(note), noted, "{options:?}: {error}");
+    }
+    std::fs::remove_dir_all(&folder).unwrap();
+}
+
 /// What `fan-out` prints of a machine, below its heading and with spaces for tabs.
 fn widest(options: &[&str], machine: &str) -> String {
     let output = call(&[&["fan-out"], options, &["-"]].concat(), machine);
@@ -443,6 +520,27 @@ fn the_widest_look_ups_with_sigma() {
     );
 }
 
+/// State 0 has 2 twice and 3 twice; state 1 has sigma, 9, twice and a 3.
+#[test]
+fn the_widest_look_ups_with_ignored_labels() {
+    let machine = "0 0 2 2\n0 0 2 3\n0 1 3 9\n0 1 3 8\n1 1 9 9\n1 1 9 1\n1 0 3 1\n";
+    for (options, rows) in [
+        (&["--ignore=7"][..], "0 2 2\n1 9 2\n"),
+        (&["--ignore=2"], "0 0 3\n1 9 2\n"),
+        (&["--ignore=3,2"], "0 0 5\n1 0 2\n"),
+        (&["--ignore=3", "--sigma=9"], "0 0 3\n1 0 2\n"),
+        (&["--ignore=2", "--sigma=9"], "0 0 3\n1 3 3\n"),
+        (&["--ignore=9", "--sigma=9"], "1 0 3\n0 2 2\n"),
+        (
+            &["--ignore=3,1", "--sigma=9", "--allowed=1,4"],
+            "0 0 3\n1 0 2\n",
+        ),
+        (&["--ignore=3,8", "--by=output"], "0 0 3\n1 1 2\n"),
+    ] {
+        assert_eq!(widest(options, machine), rows, "{options:?}");
+    }
+}
+
 #[test]
 fn the_widest_look_ups_by_symbols() {
     let (symbols, glyphs) = (example("labels.syms"), example("glyphs.txt"));
@@ -467,8 +565,8 @@ fn the_widest_look_ups_by_symbols() {
 }
 
 /// The table of a machine by look-ups of every label of every state. 77 is a letter that no state names.
-fn rows_by_look_ups(machine: &Machine, by: By, sigma: &Sigma) -> String {
-    let (none, options) = (Machine::new(), Options::new());
+fn rows_by_look_ups(machine: &Machine, by: By, sigma: &Sigma, ignored: &[u32]) -> String {
+    let (none, options) = (Machine::new(), Options::new().with_ignored(ignored));
     let (inputs, which) = match by {
         By::Input => (
             Inputs::of(&none, machine, &options.with_sigma2(sigma.clone())),
@@ -482,12 +580,13 @@ fn rows_by_look_ups(machine: &Machine, by: By, sigma: &Sigma) -> String {
     let mut rows = Vec::new();
     for state in machine.states() {
         let mut labels: BTreeSet<u32> = machine.trs(state).iter().map(|tr| tr.label(by)).collect();
-        labels.retain(|label| Some(*label) != sigma.label);
-        labels.insert(77);
+        labels.retain(|label| Some(*label) != sigma.label && !ignored.contains(label));
+        labels.extend([0, 77]);
         let look_up = |label| inputs.fan_out(which, state, label).unwrap();
+        // The loop alone is no row.
         let mut widest = (0, 0);
         for label in labels {
-            widest = if look_up(label) > widest.1 {
+            widest = if look_up(label) > widest.1 + u32::from(label == 0) {
                 (label, look_up(label))
             } else {
                 widest
@@ -507,7 +606,7 @@ fn rows_by_look_ups(machine: &Machine, by: By, sigma: &Sigma) -> String {
 fn the_table_is_that_of_all_look_ups() {
     let mut draw = Draw(181);
     let mut met = BTreeSet::new();
-    for round in 0..40 {
+    for round in 0..80 {
         let machine = words::decode(&draw.machine(None, 9, 9)).unwrap();
         let text = text::write(&machine, &Format::default()).unwrap();
         let mut sigma = Sigma::default();
@@ -520,9 +619,12 @@ fn the_table_is_that_of_all_look_ups() {
             sigma = sigma.with_allowed([2, 77]);
             options.push("--allowed=77,2");
         }
+        let ignored = [&[][..], &[1], &[2, 9], &[3, 1]][draw.below(4) as usize];
+        let list = format!("--ignore={ignored:?}").replace(['[', ']', ' '], "");
+        options.push(&list);
         let by = [By::Input, By::Output][round % 2];
         options.push(["--by=input", "--by=output"][round % 2]);
-        let rows = rows_by_look_ups(&machine, by, &sigma);
+        let rows = rows_by_look_ups(&machine, by, &sigma, ignored);
         assert_eq!(widest(&options, &text), rows, "{options:?} of {text}");
         met.extend(rows.split_whitespace().map(str::to_string));
     }
@@ -559,16 +661,27 @@ fn as_in_readme(folder: &Path, commands: &str, printed: &str) {
     );
 }
 
-#[test]
-fn the_readme_on_sigma() {
-    let blocks = readme_blocks("Sigma");
-    assert_eq!(blocks.len(), 4);
-    let folder = std::env::temp_dir().join(format!("rinkolza-readme-{}", std::process::id()));
+/// A part of README with so many commands that make their files, each before what it prints.
+fn readme_part(name: &str, commands: usize) {
+    let blocks = readme_blocks(name);
+    assert_eq!(blocks.len(), 2 * commands);
+    let folder = format!("rinkolza-readme-{}-{}", &name[..5], std::process::id());
+    let folder = std::env::temp_dir().join(folder);
     std::fs::create_dir_all(&folder).unwrap();
     for block in blocks.chunks(2) {
         as_in_readme(&folder, &block[0], &block[1]);
     }
     std::fs::remove_dir_all(&folder).unwrap();
+}
+
+#[test]
+fn the_readme_on_sigma() {
+    readme_part("Sigma", 2);
+}
+
+#[test]
+fn the_readme_on_joiners() {
+    readme_part("Joiners and soft hyphens", 1);
 }
 
 #[test]
@@ -658,7 +771,7 @@ fn the_help_fits_and_names_every_option() {
         assert!(help.contains(&format!("--{name}")), "--{name}");
         count += 1;
     }
-    assert_eq!(count, 28);
+    assert_eq!(count, 29);
     for word in [
         "16777215",
         "refused 13",

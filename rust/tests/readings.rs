@@ -4,7 +4,8 @@ mod common;
 
 use common::{Draw, EXACT, FILTERS};
 use rinkolza::{
-    compose, text, words, Filter, Format, Kind, Machine, Options, Reading, Rewrite, Sigma, Tr,
+    compose, text, words, Composition, Filter, Format, Kind, Machine, Options, Reading, Rewrite,
+    Side, Sigma, Tr,
 };
 
 /// The paths from a state that have exactly so many transitions and end in a final state, in the order of the lists.
@@ -167,11 +168,21 @@ fn written(word: &[u32], reading: &Reading, sigma: &Sigma, rewrites: bool) -> Op
     word.next().is_none().then_some(written)
 }
 
-/// The pairs that agree, with sigma on the second machine's inputs.
-fn pairs(first: &Machine, second: &Machine, kind: Kind, sigma: &Sigma) -> Vec<Pair> {
+/// The pairs that agree, with sigma on the second machine's inputs and ignored labels as 0 on the inner sides.
+fn pairs(drawn: &Drawn, kind: Kind) -> Vec<Pair> {
+    let Drawn { sigma, ignored, .. } = drawn;
+    let heard = |label| if ignored.contains(&label) { 0 } else { label };
+    let first = &changed(&drawn.first, |tr| Tr {
+        output: heard(tr.output),
+        ..tr
+    });
+    let second = &changed(&drawn.second, |tr| Tr {
+        input: heard(tr.input),
+        ..tr
+    });
     let product = |a: u64, b: u64| if kind == Kind::Cost { a + b } else { a * b };
     let rewrites = match sigma.mode {
-        Rewrite::Auto => second.is_acceptor(),
+        Rewrite::Auto => drawn.second.is_acceptor() && second.is_acceptor(),
         mode => mode == Rewrite::Each,
     };
     let others: Vec<Reading> = second.readings(kind).collect();
@@ -195,12 +206,39 @@ fn pairs(first: &Machine, second: &Machine, kind: Kind, sigma: &Sigma) -> Vec<Pa
     pairs
 }
 
-/// Two drawn machines without cycles, and the second's sigma.
-type Drawn = (Machine, Machine, Sigma);
+/// Two drawn machines without cycles, the second's sigma, and ignored labels.
+struct Drawn {
+    first: Machine,
+    second: Machine,
+    sigma: Sigma,
+    ignored: Vec<u32>,
+}
 
 fn without_sigma(draw: &mut Draw) -> Drawn {
     let mut machine = || forward(&words::decode(&draw.machine(None, 9, 6)).unwrap());
-    (machine(), machine(), Sigma::default())
+    Drawn {
+        first: machine(),
+        second: machine(),
+        sigma: Sigma::default(),
+        ignored: Vec::new(),
+    }
+}
+
+impl Drawn {
+    fn options(&self, kind: Kind, filter: Filter) -> Options {
+        Options::new()
+            .with_kind(kind)
+            .with_filter(filter)
+            .with_sigma2(self.sigma.clone())
+            .with_ignored(self.ignored.clone())
+    }
+
+    /// Whether the second's sigma is looked up, where it has one: not always, where labels are ignored.
+    fn is_any_letter(&self) -> bool {
+        let options = self.options(Kind::Cost, Filter::Sequence);
+        let opened = Composition::open(&self.first, &self.second, &options).unwrap();
+        self.sigma.label.is_none() || opened.side() != Side::Output
+    }
 }
 
 /// Composes drawn machines by these filters: what is listed is each pair as often as said, and no more. How many pairs
@@ -213,9 +251,12 @@ fn compare(
     let mut draw = Draw(42);
     let mut met = [0; 3];
     for _ in 0..800 {
-        let (first, second, sigma) = drawn(&mut draw);
+        let drawn = drawn(&mut draw);
+        if !drawn.is_any_letter() {
+            continue;
+        }
         for kind in [Kind::Cost, Kind::Count] {
-            let pairs = pairs(&first, &second, kind, &sigma);
+            let pairs = pairs(&drawn, kind);
             for &filter in filters {
                 let mut expected = Vec::new();
                 for pair in &pairs {
@@ -224,9 +265,8 @@ fn compare(
                     expected.extend(std::iter::repeat_n(pair.said.clone(), times));
                 }
                 expected.sort();
-                let options = Options::new().with_kind(kind).with_filter(filter);
-                let options = options.with_sigma2(sigma.clone());
-                let composed = compose(&first, &second, &options).unwrap();
+                let options = drawn.options(kind, filter);
+                let composed = compose(&drawn.first, &drawn.second, &options).unwrap();
                 assert_eq!(said(composed.readings(kind)), expected, "{options:?}");
             }
         }
@@ -255,21 +295,22 @@ fn changed(machine: &Machine, change: impl Fn(Tr) -> Tr) -> Machine {
 
 /// The second has sigma, which the first never hands on; it may be an acceptor, and there may be an allowed list.
 fn with_sigma(draw: &mut Draw) -> Drawn {
-    let (first, mut second, mut sigma) = without_sigma(draw);
-    let first = changed(&first, |tr| Tr {
+    let mut drawn = without_sigma(draw);
+    drawn.first = changed(&drawn.first, |tr| Tr {
         output: tr.output.min(SIGMA - 1),
         ..tr
     });
     if draw.one_in(3) {
-        second = changed(&second, |tr| Tr {
+        drawn.second = changed(&drawn.second, |tr| Tr {
             output: tr.input,
             ..tr
         });
     }
+    let sigma = &mut drawn.sigma;
     sigma.label = Some(SIGMA);
     sigma.mode = [Rewrite::Auto, Rewrite::Each, Rewrite::Matched][draw.below(3) as usize];
     sigma.allowed = [None, Some(vec![]), Some(vec![2, 7])][draw.below(3) as usize].clone();
-    (first, second, sigma)
+    drawn
 }
 
 /// A letter that is allowed meets sigma and, beside it, itself: each of these pairs is a reading of its own.
@@ -282,6 +323,43 @@ fn with_sigma_on_the_second_too() {
     });
     println!("{by_sigma} pairs by sigma");
     assert!(never == 0 && once > 3000 && more == 0 && by_sigma > 500);
+}
+
+/// Two readings agree where their inner labels do, ignored ones left out as epsilons are.
+#[test]
+fn with_ignored_labels_too() {
+    let drawn = |draw: &mut Draw| {
+        let mut drawn = without_sigma(draw);
+        drawn.ignored = draw.some_ignored();
+        drawn
+    };
+    let [never, once, more] = compare(&FILTERS[..EXACT], drawn, |_, _| 1);
+    assert!(never == 0 && once > 3000 && more == 0);
+}
+
+/// Both, where the first machine is not sorted, ignored labels as 0: it is walked then. It may hand on the sigma label
+/// where that is ignored.
+#[test]
+fn with_sigma_on_the_second_and_ignored_labels_too() {
+    let drawn = |draw: &mut Draw| {
+        let mut drawn = with_sigma(draw);
+        drawn.ignored = draw.some_ignored();
+        if drawn.ignored.contains(&2) && draw.one_in(2) {
+            drawn.ignored.push(SIGMA);
+            drawn.first = changed(&drawn.first, |tr| Tr {
+                output: if tr.output == 2 { SIGMA } else { tr.output },
+                ..tr
+            });
+        }
+        drawn
+    };
+    let mut by_sigma = 0;
+    let [never, once, more] = compare(&FILTERS[..EXACT], drawn, |_, pair| {
+        by_sigma += usize::from(pair.inner[1].contains(&SIGMA));
+        1
+    });
+    println!("{by_sigma} pairs by sigma");
+    assert!(never == 0 && once > 3000 && more == 0 && by_sigma > 200);
 }
 
 /// With the same inner labels place by place, epsilons included.

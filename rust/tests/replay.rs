@@ -1,10 +1,10 @@
 //! The replay vectors: cases of ours with the answers of the Rust or, where a label has own and sigma matches, of the
 //! model in `tests/`, `crates/replay`.
 //!
-//! Each case is six lines (`-` for a listing or the states to expand; settings; two allowed lists; two machines), each
-//! answer ends in a line `--`. In the last case the input ends; its answer is ours. They are run by plain calls in the
-//! room that the answers have, and again by the composition that owns its memory, from no room on: what is answered
-//! must be the same.
+//! Each case is seven lines (`-` for a listing or the states to expand; settings; two allowed lists; ignored labels; two
+//! machines), each answer ends in a line `--`. Where labels are ignored the Rust was asked with machines in which they are
+//! replaced. In the last case the input ends; its answer is ours. They are run by plain calls in the room that the answers
+//! have, and again by the composition that owns its memory, from no room on: what is answered must be the same.
 
 mod common;
 
@@ -29,6 +29,9 @@ fn growing_room() {
     replay(|inputs| Composition::open_words(inputs, LEAST, ROOM).map_err(number));
 }
 
+/// The lines of a case.
+const LINES: usize = 7;
+
 /// The cases that `tests/ours.txt` numbers, counted from 1, have a sigma label: without one each answer is the Rust's.
 #[test]
 fn ours_have_sigma() {
@@ -38,7 +41,7 @@ fn ours_have_sigma() {
     let numbers: Vec<usize> = numbers.map(|word| word.parse().unwrap()).collect();
     assert!(numbers.len() > 200 && numbers.windows(2).all(|pair| pair[0] < pair[1]));
     for number in numbers {
-        let settings = words(lines[6 * (number - 1) + 1]).expect("settings");
+        let settings = words(lines[LINES * (number - 1) + 1]).expect("settings");
         assert!(
             [2, 4].into_iter().any(|label| settings[label] != u32::MAX),
             "{number}"
@@ -56,15 +59,23 @@ fn replay<W: World>(open: impl Fn(Inputs) -> Result<W, u32>) {
     let (cases, answers) = (file("crates/replay/stdin"), file("crates/replay/stdout"));
     let lines: Vec<&str> = cases.lines().collect();
     let answers: Vec<&str> = answers.split_terminator("--\n").collect();
-    assert_eq!(lines.len().div_ceil(6), answers.len(), "an answer a case");
-    for (place, (case, answer)) in lines.chunks(6).zip(answers).enumerate() {
-        let given = answer_to(&whole(case), &open);
+    assert_eq!(
+        lines.len().div_ceil(LINES),
+        answers.len(),
+        "an answer a case"
+    );
+    let mut ignoring = 0;
+    for (place, (case, answer)) in lines.chunks(LINES).zip(answers).enumerate() {
+        let case = whole(case);
+        let given = answer_to(&case, &open);
         assert_eq!(given, answer, "case {place}:\n{}", case.join("\n"));
+        ignoring += usize::from(!case[4].is_empty());
     }
+    assert!(ignoring > 100, "{ignoring}");
 }
 
 /// A case in which the input ends has empty lines for those that it lacks.
-fn whole<'a>(case: &[&'a str]) -> [&'a str; 6] {
+fn whole<'a>(case: &[&'a str]) -> [&'a str; LINES] {
     std::array::from_fn(|line| case.get(line).copied().unwrap_or(""))
 }
 
@@ -89,11 +100,12 @@ fn inputs(case: &[&str]) -> Option<Inputs> {
             .unwrap_or_default()
     };
     Some(Inputs {
-        first: machine(case[4]),
-        second: machine(case[5]),
+        first: machine(case[5]),
+        second: machine(case[6]),
         settings: words(case[1])?.try_into().ok()?,
         allowed1: allowed(case[2]),
         allowed2: allowed(case[3]),
+        ignored: words(case[4]).expect("ignored labels"),
     })
 }
 

@@ -3,7 +3,7 @@
 
 mod common;
 
-use common::{grid, Draw, Fixed, World};
+use common::{grid, Draw, Fixed, Seen, World};
 use rinkolza::sys::{self, Owned, Piece};
 use rinkolza::{words, Inputs, Room, Tr};
 use std::hint::black_box;
@@ -143,12 +143,15 @@ fn marked(words: &[u32]) -> Vec<u32> {
 #[test]
 fn drawn_machines() {
     let mut draw = Draw(29);
-    let (mut sides, mut refusals) = ([0; 3], [0; 14]);
+    let (mut sides, mut refusals) = ([0; 3], Seen::default());
     for round in 0..60 {
         let mut inputs = draw.inputs(60, 6);
         if round % 2 == 0 {
             inputs.first = marked(&inputs.first);
             inputs.second = marked(&inputs.second);
+        }
+        if round % 4 > 1 {
+            inputs.ignored = draw.ignored();
         }
         match compare(&inputs) {
             Ok(side) => sides[side as usize] += 1,
@@ -178,6 +181,7 @@ fn large_machines() {
             settings,
             allowed1: Some(vec![5, 6, 7]),
             allowed2: None,
+            ignored: Vec::new(),
         })
     };
     let plain = [0, 0, u32::MAX, 0, u32::MAX, 0];

@@ -224,6 +224,7 @@ pub fn inputs(draw: &mut Draw, states1: u32, states2: u32) -> Inputs {
         settings: [kind, draw.filter(), MAX, 0, MAX, 0],
         allowed1: None,
         allowed2: None,
+        ignored: Vec::new(),
     }
 }
 

@@ -3,6 +3,7 @@
 #![allow(dead_code)]
 
 pub mod choice;
+pub mod ignored;
 pub mod moves;
 pub mod wide;
 
@@ -41,6 +42,9 @@ pub const LARGE: Room = Room {
     states: 65535,
     trs: 65535,
 };
+
+/// How often each number was answered, 0 where the call was accepted.
+pub type Seen = [u32; 19];
 
 /// The least of each sort.
 pub const LEAST: Room = Room {
@@ -149,6 +153,7 @@ impl Draw {
             ],
             allowed1: self.one_in(3).then(|| vec![1, 2]),
             allowed2: self.one_in(3).then(|| vec![2, 7]),
+            ignored: Vec::new(),
         }
     }
 
@@ -192,6 +197,7 @@ pub fn grid(side: u32) -> Inputs {
         settings: [0, 0, u32::MAX, 0, u32::MAX, 0],
         allowed1: None,
         allowed2: None,
+        ignored: Vec::new(),
     }
 }
 

@@ -69,6 +69,7 @@ pub fn wide(draw: &mut Draw) -> Inputs {
         settings,
         allowed1: None,
         allowed2: None,
+        ignored: Vec::new(),
     }
 }
 

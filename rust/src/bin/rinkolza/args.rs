@@ -13,6 +13,7 @@ const EACH: &[&str] = &["compose", "print", "draw", "fan-out"];
 const MACHINES: &[&str] = &["compose", "print", "draw"];
 const COMPOSE: &[&str] = &["compose"];
 const FAN_OUT: &[&str] = &["fan-out"];
+const LOOK_UPS: &[&str] = &["compose", "fan-out"];
 
 const fn known(name: &'static str, value: bool, commands: &'static [&'static str]) -> Known {
     Known {
@@ -22,7 +23,7 @@ const fn known(name: &'static str, value: bool, commands: &'static [&'static str
     }
 }
 
-const OPTIONS: [Known; 28] = [
+const OPTIONS: [Known; 29] = [
     known("kind", true, EACH),
     known("symbols", true, EACH),
     known("isymbols", true, EACH),
@@ -44,6 +45,7 @@ const OPTIONS: [Known; 28] = [
     known("rewrite2", true, COMPOSE),
     known("allowed1", true, COMPOSE),
     known("allowed2", true, COMPOSE),
+    known("ignore", true, LOOK_UPS),
     known("triples", false, COMPOSE),
     known("progress", false, COMPOSE),
     known("words", false, &["print"]),

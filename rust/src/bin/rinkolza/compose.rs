@@ -37,6 +37,7 @@ pub fn compose(args: &Args) -> Result<(), Stop> {
     say_sorted(&first, &second, &options);
     let options = options.with_room(room(&first, &second));
     let mut composition = Composition::open(&first, &second, &options).map_err(refused)?;
+    say_silent_sigma(&composition, &options);
     let ran = match args.has("progress") {
         false => composition.run(),
         true => with_progress(&mut composition),
@@ -106,6 +107,7 @@ fn options(args: &Args, tables: &Tables) -> Result<Options, Stop> {
         .with_filter(args.choice("filter", &filters)?)
         .with_sigma1(sigma(args, "1", tables.inner())?)
         .with_sigma2(sigma(args, "2", tables.inner())?)
+        .with_ignored(ignored(args, tables.inner())?)
         .with_sort(args.choice("sort", &sorts)?))
 }
 
@@ -133,6 +135,12 @@ fn sigma(args: &Args, machine: &str, symbols: Option<&SymbolTable>) -> Result<Si
         )));
     }
     Ok(sigma)
+}
+
+/// The labels that count as epsilon.
+pub fn ignored(args: &Args, symbols: Option<&SymbolTable>) -> Result<Vec<u32>, Stop> {
+    let list = args.value("ignore").unwrap_or_default();
+    labels("ignore", list, symbols)
 }
 
 /// Labels on the command line, apart by commas.
@@ -175,6 +183,14 @@ fn say_sorted(first: &Machine, second: &Machine, options: &Options) {
                 "note: the {which} machine's transitions were sorted by {side} label (--sort)"
             ));
         }
+    }
+}
+
+/// Where labels are ignored and the first machine is sorted, the second's sigma is not looked up.
+fn say_silent_sigma(composition: &Composition, options: &Options) {
+    let set = options.sigma2.label.is_some() && !options.ignored.is_empty();
+    if set && composition.side() == Side::Output {
+        say("note: with --ignore the first machine, which is sorted, is the one that is looked up: the second's sigma is a label like others here (--sigma2)");
     }
 }
 

@@ -1,7 +1,7 @@
 //! `rinkolza fan-out`: the widest look-ups of a machine.
 
 use crate::args::{Args, Stop, REFUSED};
-use crate::compose::{label, labels, refused};
+use crate::compose::{ignored, label, labels, refused};
 use crate::files::{self, write_out, Tables};
 use crate::{plain_format, shown};
 use rinkolza::{
@@ -31,16 +31,16 @@ pub fn fan_out(args: &Args) -> Result<(), Stop> {
     let mut format = plain_format(args)?.with_acceptor(args.has("acceptor"));
     format.isymbols = tables.input();
     format.osymbols = tables.output();
-    let sigma = sigma(args, symbols(&format, by))?;
+    let options = options(args, symbols(&format, by))?;
     let machine = files::read_machine(file, &format)?;
-    let of_state = |state| widest(&machine, state, by, &sigma);
+    let of_state = |state| widest(&machine, state, by, &options);
     let mut rows: Vec<Row> = machine.states().filter_map(of_state).collect();
     rows.sort_by_key(|row| (Reverse(row.matches), row.state));
     rows.truncate(top);
     let shown = shown(args, &format);
     let mut text = "state\tlabel\tmatches\n".to_string();
     for row in &rows {
-        let matches = looked_up(&machine, row, by, &sigma).map_err(refused)?;
+        let matches = looked_up(&machine, row, by, &options).map_err(refused)?;
         let counted = row.matches;
         assert_eq!(matches as usize, counted, "matches at state {}", row.state);
         let name = name(row, symbols(&shown, by));
@@ -66,6 +66,16 @@ fn symbols<'a>(format: &Format<'a>, by: By) -> Option<&'a SymbolTable> {
     }
 }
 
+/// The machine's sigma, as if it were the second's, and the labels that are ignored. Refused as the library would refuse
+/// them, which is not asked where nothing is printed.
+fn options(args: &Args, symbols: Option<&SymbolTable>) -> Result<Options, Stop> {
+    let options = Options::new().with_ignored(ignored(args, symbols)?);
+    if options.ignored.contains(&EPSILON) {
+        return Err(Stop::new(REFUSED, Refusal::Ignored));
+    }
+    Ok(options.with_sigma2(sigma(args, symbols)?))
+}
+
 /// The machine's sigma; the labels that it may match are sorted.
 fn sigma(args: &Args, symbols: Option<&SymbolTable>) -> Result<Sigma, Stop> {
     let mut sigma = Sigma::default();
@@ -84,10 +94,12 @@ fn sigma(args: &Args, symbols: Option<&SymbolTable>) -> Result<Sigma, Stop> {
     }
 }
 
-/// The label of a state with most matches: one that its list has, but not sigma, or else any other letter. The lowest of
-/// several; none where nothing can be looked up but the loop.
-fn widest(machine: &Machine, state: u32, by: By, sigma: &Sigma) -> Option<Row> {
-    let mut labels: Vec<u32> = machine.trs(state).iter().map(|tr| tr.label(by)).collect();
+/// The label of a state with most matches: one that its list has, but not sigma, or else any other letter; ignored ones
+/// count as epsilons. The lowest of several; none where nothing can be looked up but the loop.
+fn widest(machine: &Machine, state: u32, by: By, options: &Options) -> Option<Row> {
+    let sigma = &options.sigma2;
+    let trs = machine.trs(state).iter();
+    let mut labels: Vec<u32> = trs.map(|tr| options.heard(tr.label(by))).collect();
     labels.sort_unstable();
     let is_sigma = |label| Some(label) == sigma.label;
     let sigmas = labels.iter().filter(|&&label| is_sigma(label)).count();
@@ -107,7 +119,7 @@ fn widest(machine: &Machine, state: u32, by: By, sigma: &Sigma) -> Option<Row> {
         .map(|run| (run[0], run.len()));
     let named = runs.filter(|&(label, _)| !is_sigma(label));
     let rows = named.map(|(label, own)| row(label, false, own + more(label)));
-    let others = (sigmas > 0).then(|| other(&labels, sigma)).flatten();
+    let others = (sigmas > 0).then(|| other(&labels, options)).flatten();
     rows.chain(others.map(|label| row(label, true, sigmas)))
         .max_by_key(|row| (row.matches, !row.other, Reverse(row.label)))
 }
@@ -117,10 +129,11 @@ fn may_match(sigma: &Sigma, letter: u32) -> bool {
     list.is_none_or(|list| list.binary_search(&letter).is_ok())
 }
 
-/// A letter that sigma may match and that is none of these labels, which are sorted.
-fn other(labels: &[u32], sigma: &Sigma) -> Option<u32> {
-    let unnamed = |&letter: &u32| letter != EPSILON && labels.binary_search(&letter).is_err();
-    match &sigma.allowed {
+/// A letter that sigma may match and that is none of these labels, which are sorted. An ignored label is no letter.
+fn other(labels: &[u32], options: &Options) -> Option<u32> {
+    let unnamed =
+        |&letter: &u32| options.heard(letter) != EPSILON && labels.binary_search(&letter).is_err();
+    match &options.sigma2.allowed {
         Some(list) => list.iter().copied().find(unnamed),
         None => (1..).find(unnamed),
     }
@@ -128,14 +141,17 @@ fn other(labels: &[u32], sigma: &Sigma) -> Option<u32> {
 
 /// The row's look-up by the library. It sees the list of its state alone: that list is lent as a machine of one state,
 /// since a call goes through all that it is lent.
-fn looked_up(machine: &Machine, row: &Row, by: By, sigma: &Sigma) -> Result<u32, Error> {
+fn looked_up(machine: &Machine, row: &Row, by: By, options: &Options) -> Result<u32, Error> {
     let list = machine.trs(row.state).iter();
     let list: Vec<(u32, Tr)> = list.map(|tr| (0, Tr { target: 0, ..*tr })).collect();
     let (alone, none) = (Machine::from_lists(Some(0), &list, &[])?, Machine::new());
-    let (options, sigma) = (Options::new(), sigma.clone());
-    let (first, second, options, which) = match by {
-        By::Input => (&none, &alone, options.with_sigma2(sigma), Which::Second),
-        By::Output => (&alone, &none, options.with_sigma1(sigma), Which::First),
+    let mut options = options.clone();
+    let (first, second, which) = match by {
+        By::Input => (&none, &alone, Which::Second),
+        By::Output => {
+            std::mem::swap(&mut options.sigma1, &mut options.sigma2);
+            (&alone, &none, Which::First)
+        }
     };
     Inputs::of(first, second, &options).fan_out(which, 0, row.label)
 }
