@@ -1,4 +1,4 @@
--- 02, 2.7: lists of calls that are lent ignored labels.
+-- 02, 2.7 and 2.8: lists of calls that are lent ignored labels.
 use mathlib.Core.Path.{_≡_, refl}
 use mathlib.Core.List.{List, [], _∷_, List·Memᴰ as In}
 use mathlib.Core.Option.{none, some}
@@ -26,6 +26,13 @@ ignoring xs = lendWith xs joined spaced
 
 abbrev with : ℕ → ℕ → Session
 with states trs = session (plain 0 0) 1 states trs
+
+-- the same with a sigma label on machine 1
+abbrev sigmaOn1 : ℕ → List ℕ
+sigmaOn1 x = 0 ∷ 0 ∷ x ∷ 0 ∷ MAX ∷ 0 ∷ []
+
+abbrev bySigma : ℕ → ℕ → Session
+bySigma states trs = session (sigmaOn1 5) 1 states trs
 
 -- words without meaning
 abbrev pub before : World
@@ -71,11 +78,29 @@ ignoredCases =
     ∷ calling (ignoring (77 ∷ MAX ∷ [])) left (expand 7 ∷ records 0 ∷ [])
     (answered (refusal 18) (with 3 2) ∷ handed [] ∷ [])
     left
+    -- 02, 2.8: 5 is machine 1's sigma, in the list or not: 1:5 matches the letter 3, the letter 5 is asked for nowhere, and the path ends there. "18 judges the list as lent": sigma
+    -- labels 0 and MAX (none) in it are 18, before 4.
+    ∷ calling (ignoring (5 ∷ [])) before
+    (opening (settingsOf (sigmaOn1 5)) (ignoring (5 ∷ []))
+    ∷ run
+    ∷ records 0
+    ∷ opening (settingsOf (sigmaOn1 0)) (ignoring (5 ∷ 0 ∷ []))
+    ∷ opening (settingsOf (sigmaOn1 5)) (ignoring (5 ∷ MAX ∷ []))
+    ∷ opening (settingsOf (sigmaOn1 0)) (ignoring (5 ∷ []))
+    ∷ [])
+    (answered accepted (bySigma 1 0)
+    ∷ answered accepted (bySigma 2 1)
+    ∷ handed (1 ∷ 5 ∷ 5 ∷ 1 ∷ 0 ∷ [])
+    ∷ answered (refusal 18) (bySigma 2 1)
+    ∷ answered (refusal 18) (bySigma 2 1)
+    ∷ answered (refusal 4) (bySigma 2 1)
+    ∷ [])
+    (world (bySigma 2 1) (2 ∷ []) (0 ∷ 0 ∷ 0 ∷ 1 ∷ 1 ∷ 0 ∷ 1 ∷ 1 ∷ 0 ∷ 1 ∷ 0 ∷ 1 ∷ replicate 6 8) (1 ∷ 5 ∷ 5 ∷ 1 ∷ 0 ∷ replicate 5 8))
     ∷ []
 
 ignored-cases : AllHold ignoredCases
 unfolding AllHold Holds ignoredCases
-ignored-cases = ((refl, refl), ((refl, refl), ((refl, refl), ((refl, refl), tt))))
+ignored-cases = ((refl, refl), ((refl, refl), ((refl, refl), ((refl, refl), ((refl, refl), tt)))))
 
 -- each case of the table holds
 pub ignored-case : (c : Case) → In c ignoredCases → Holds c

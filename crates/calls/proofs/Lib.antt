@@ -14,6 +14,7 @@ pub mod ExpandKept
 pub mod OpenKept
 pub mod RunLaws
 pub mod Ignoring
+pub mod Exempting
 pub mod StepsStay
 pub mod StepsLack
 pub mod FindLaws

@@ -55,35 +55,36 @@ replacedLent s l = record {
   ignored = [];
 }
 
--- "otherwise every answer is that of the two machines with those labels replaced, side marks on the replaced sides read as 0 and sortedness judged after replacement"
-pub record AsReplaced (L : Layout) (l : Lent) : Type 0 where
+-- "otherwise every answer is that of the two machines with those labels replaced, side marks on the replaced sides read as 0 and sortedness judged after replacement": of these
+-- words, which go by the settings
+pub record AsReplaced (L : Layout) (l : Lent) (words : Settings → Lent) : Type 0 where
   -- the replaced words are well formed
-  pub formed1 : (s : Settings) → wellFormedUpTo (L .limit) (replacedLent s l .m1) ≡ true
-  pub formed2 : (s : Settings) → wellFormedUpTo (L .limit) (replacedLent s l .m2) ≡ true
+  pub formed1 : (s : Settings) → wellFormedUpTo (L .limit) (words s .m1) ≡ true
+  pub formed2 : (s : Settings) → wellFormedUpTo (L .limit) (words s .m2) ≡ true
   -- the checks 1 to 7 and 18, and the composition that they lead to
-  pub side : (s : Settings) → sideForWith L s l ≡ sideForWith L s (replacedLent s l)
-  pub composition : (s : Settings) (side : Side) → compositionOf s l side ≡ compositionOf s (replacedLent s l) side
+  pub side : (s : Settings) → sideForWith L s l ≡ sideForWith L s (words s)
+  pub composition : (s : Settings) (side : Side) → compositionOf s l side ≡ compositionOf s (words s) side
   -- the checks 1 to 8, and 1 to 9, of a later call: its settings are the session's
-  pub entered : (s : Session) (m : Memory) → enteredWith L l s m ≡ enteredWith L (replacedLent (s .settings) l) s m
-  pub enteredAt : (s : Session) (m : Memory) (n : ℕ) → enteredAtWith L l s m n ≡ enteredAtWith L (replacedLent (s .settings) l) s m n
+  pub entered : (s : Session) (m : Memory) → enteredWith L l s m ≡ enteredWith L (words (s .settings)) s m
+  pub enteredAt : (s : Session) (m : Memory) (n : ℕ) → enteredAtWith L l s m n ≡ enteredAtWith L (words (s .settings)) s m n
   -- what the five calls answer and leave
-  pub opens : (s : Settings) (got : Session) (m : Memory) → openWith L s l got m ≡ openWith L s (replacedLent s l) got m
-  pub expand : (s : Session) (m : Memory) (n : ℕ) → expandWith L l s m n ≡ expandWith L (replacedLent (s .settings) l) s m n
-  pub finalWeight : (s : Session) (m : Memory) (n : ℕ) → finalWeightWith L l s m n ≡ finalWeightWith L (replacedLent (s .settings) l) s m n
-  pub run : (s : Session) (m : Memory) → runWith L l s m ≡ runWith L (replacedLent (s .settings) l) s m
-  pub records : (s : Session) (m : Memory) (n : ℕ) → recordsWith L l s m n ≡ recordsWith L (replacedLent (s .settings) l) s m n
+  pub opens : (s : Settings) (got : Session) (m : Memory) → openWith L s l got m ≡ openWith L s (words s) got m
+  pub expand : (s : Session) (m : Memory) (n : ℕ) → expandWith L l s m n ≡ expandWith L (words (s .settings)) s m n
+  pub finalWeight : (s : Session) (m : Memory) (n : ℕ) → finalWeightWith L l s m n ≡ finalWeightWith L (words (s .settings)) s m n
+  pub run : (s : Session) (m : Memory) → runWith L l s m ≡ runWith L (words (s .settings)) s m
+  pub records : (s : Session) (m : Memory) (n : ℕ) → recordsWith L l s m n ≡ recordsWith L (words (s .settings)) s m n
   -- where handed-back records lie
-  pub place : (s : Session) (m : Memory) (n : ℕ) → recordsPlaceWith L l s m n ≡ recordsPlaceWith L (replacedLent (s .settings) l) s m n
+  pub place : (s : Session) (m : Memory) (n : ℕ) → recordsPlaceWith L l s m n ≡ recordsPlaceWith L (words (s .settings)) s m n
   -- a piece of a run, for a caller that owns its memory
-  pub piece : (k n : ℕ) (s : Session) (m : Memory) → runFromWith L l k n s m ≡ runFromWith L (replacedLent (s .settings) l) k n s m
+  pub piece : (k n : ℕ) (s : Session) (m : Memory) → runFromWith L l k n s m ≡ runFromWith L (words (s .settings)) k n s m
   -- one call of a list; an opening there is lent its own machines and lists
-  pub call : (w : World) (x : Call) → callWith L l w x ≡ callWith L (replacedLent (w .session .settings) l) w x
-  pub opens-among : (k : Lent) (w : World) (s : Settings) → callWith L k w (opening s l) ≡ callWith L k w (opening s (replacedLent s l))
+  pub call : (w : World) (x : Call) → callWith L l w x ≡ callWith L (words (w .session .settings)) w x
+  pub opens-among : (k : Lent) (w : World) (s : Settings) → callWith L k w (opening s l) ≡ callWith L k w (opening s (words s))
 
 -- for machines well formed as lent and a list without 0 and MAX
 abbrev pub OtherwiseReplaced : Type 0
 OtherwiseReplaced = (L : Layout) (l : Lent) → wellFormedUpTo (L .limit) (l .m1) ≡ true → wellFormedUpTo (L .limit) (l .m2) ≡ true → nonEmpty (l .ignored) ≡ true → ignoredOk (l .ignored) ≡ true
-    → AsReplaced L l
+    → AsReplaced L l (λ s. replacedLent s l)
 
 -- the other answers to a caller that owns its memory
 pub record OwnedAsReplaced (l : Lent) : Type 0 where

@@ -22,7 +22,7 @@ empty-fan-out s l e n q x =
     let c = r .composition s (only inputs) in
     ap₂ (λ y (z : Composition). andThen y (λ side. refuseIf (leb (statesOf l n) q) 9 (fanOut (cond (eqb n 1) (z .operand1) (z .operand2)) q x))) (r .side s) c
 
-at-replaced : (s : Settings) (l : Lent) → AsReplaced six l → (n q x : ℕ) → fanOutAt s l n q x ≡ fanOutAt s (replacedLent s l) n q x
+at-replaced : (s : Settings) (l : Lent) → AsReplaced six l (λ s. replacedLent s l) → (n q x : ℕ) → fanOutAt s l n q x ≡ fanOutAt s (replacedLent s l) n q x
 unfolding fanOutAt
 at-replaced s l r n q x =
     ap₂ (λ (k : ℕ) (z : Composition). refuseIf (leb k q) 9 (fanOut (cond (eqb n 1) (z .operand1) (z .operand2)) q x))

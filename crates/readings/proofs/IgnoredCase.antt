@@ -52,10 +52,10 @@ unfolding Holds movesOfRecords listedAt goods
 joined-agree = joined-lent .paths .goes (1 ∷ 2 ∷ []) (joined-path .just-these (1 ∷ 2 ∷ []) .1 (here refl))
 
 -- Machine 1: 1:2 and 1:5 to a final state. Machine 2: final with 3, and 9:7 to a state that is final with 5. With 5 ignored the outputs 2 0 fall, so the side is input, and sigma 9
--- of machine 2 pairs with the letter 2.
+-- of machine 2 pairs with the letter 2, though the list holds 9 (02, 2.8).
 abbrev fallen : Lent
 fallen =
-    lendWith (5 ∷ []) (2 ∷ 2 ∷ 1 ∷ 0 ∷ 0 ∷ 0 ∷ 1 ∷ 0 ∷ 0 ∷ 0 ∷ 1 ∷ 0 ∷ 1 ∷ 2 ∷ 1 ∷ 1 ∷ 2 ∷ 1 ∷ 5 ∷ 2 ∷ 1 ∷ 0 ∷ []) (2 ∷ 1 ∷ 1 ∷ 0 ∷ 0 ∷ 0 ∷ 1 ∷ 1 ∷ 3 ∷ 0 ∷ 1 ∷ 5 ∷ 9 ∷ 7 ∷ 4 ∷ 1 ∷ 0 ∷ [])
+    lendWith (5 ∷ 9 ∷ []) (2 ∷ 2 ∷ 1 ∷ 0 ∷ 0 ∷ 0 ∷ 1 ∷ 0 ∷ 0 ∷ 0 ∷ 1 ∷ 0 ∷ 1 ∷ 2 ∷ 1 ∷ 1 ∷ 2 ∷ 1 ∷ 5 ∷ 2 ∷ 1 ∷ 0 ∷ []) (2 ∷ 1 ∷ 1 ∷ 0 ∷ 0 ∷ 0 ∷ 1 ∷ 1 ∷ 3 ∷ 0 ∷ 1 ∷ 5 ∷ 9 ∷ 7 ∷ 4 ∷ 1 ∷ 0 ∷ [])
 
 abbrev nine : List ℕ
 nine = 0 ∷ 0 ∷ MAX ∷ 0 ∷ 9 ∷ 0 ∷ []

@@ -27,8 +27,8 @@ use Rattle.readings.proofs.Letters.{write-own}
 use Rattle.readings.proofs.CallLists.{open-stays}
 
 -- a machine with other labels
-abbrev relabelled : Machine → (ℕ → ℕ) → (ℕ → ℕ) → Machine
-relabelled M i o = record {
+abbrev withLabels : Machine → (ℕ → ℕ) → (ℕ → ℕ) → Machine
+withLabels M i o = record {
   states = M .states;
   start = M .start;
   list = M .list;
@@ -41,14 +41,14 @@ relabelled M i o = record {
 }
 
 module _ (K : Semiring) (value : ℕ → K .Element) (M : Machine) (i o : ℕ → ℕ) where
-  from-same : (q : ℕ) (p : List ℕ) → Accepting K value (relabelled M i o) q p ↔ Accepting K value M q p
+  from-same : (q : ℕ) (p : List ℕ) → Accepting K value (withLabels M i o) q p ↔ Accepting K value M q p
   from-same q [] = (λ h. h, λ h. h)
   from-same q (t ∷ p) = let r = from-same (M .target t) p in (λ h. (h .0, r .0 (h .1)), λ h. (h .0, r .1 (h .1)))
 
-  path-same : (p : List ℕ) → AcceptingPath K value (relabelled M i o) p ↔ AcceptingPath K value M p
+  path-same : (p : List ℕ) → AcceptingPath K value (withLabels M i o) p ↔ AcceptingPath K value M p
   path-same p = (λ h. (h .0, h .1, from-same (h .0) p .0 (h .2)), λ h. (h .0, h .1, from-same (h .0) p .1 (h .2)))
 
-  weight-same : (q : ℕ) (p : List ℕ) → pathWeight K value (relabelled M i o) q p ≡ pathWeight K value M q p
+  weight-same : (q : ℕ) (p : List ℕ) → pathWeight K value (withLabels M i o) q p ≡ pathWeight K value M q p
   weight-same q [] = refl
   weight-same q (t ∷ p) = ap (K .times (value (M .weight t))) (weight-same (M .target t) p)
 
@@ -90,7 +90,7 @@ module _ (s : Settings) (l : Lent) (side : Side) where
         own-outputs = λ h. write-own l c w h (P .outputs);
       }
 
-module _ (l : Lent) (r : AsReplaced six l) where
+module _ (l : Lent) (r : AsReplaced six l (λ s. replacedLent s l)) where
   -- the settings stay along such a list
   settings-stay : (w : World) (x : Call) (cs : List Call) → OpeningsRefused l w (x ∷ cs) → (callOf l w x .world .session .settings ≡ w .session .settings) × OpeningsRefused l (callOf l w x .world) cs
   unfolding callWith

@@ -30,15 +30,15 @@ lent1 l = machineOf (l .m1)
 abbrev pub lent2 : Lent → Machine
 lent2 l = machineOf (l .m2)
 
--- "inner labels .. after replacement": the outputs of a path of machine 1 and the inputs of one of machine 2, each of the list counted as 0, epsilons left out
+-- "inner labels .. after replacement": the outputs of a path of machine 1 and the inputs of one of machine 2, each of the list but for sigma labels counted as 0, epsilons left out
 abbrev pub innerWord1 : Settings → Lent → List ℕ → List ℕ
 innerWord1 s l p = word (map (λ t. heard (ignoredBy s l) (lent1 l .output t)) p)
 
 abbrev pub innerWord2 : Settings → Lent → List ℕ → List ℕ
 innerWord2 s l p = word (map (λ u. heard (ignoredBy s l) (lent2 l .input u)) p)
 
--- A pair of accepting paths of the machines as lent that agree. A sigma transition of machine 2 pairs with each allowed letter, unless the list holds the sigma label: then it is an
--- epsilon.
+-- A pair of accepting paths of the machines as lent that agree. A sigma transition of machine 2 pairs with each allowed letter, whether the list holds the sigma label or not (02,
+-- 2.8).
 pub record AgreeingLent (s : Settings) (l : Lent) (c : Composition) (p : List ℕ × List ℕ) : Type 0 where
   pub first : Accepting c (lent1 l) (p .0)
   pub second : Accepting c (lent2 l) (p .1)

@@ -1,4 +1,4 @@
--- 02, 2.7: a label of the list is never heard, so that asked for directly it has no own matches, whatever records hold it.
+-- 02, 2.7: a label that is replaced is never heard, so that asked for directly it has no own matches, whatever records hold it.
 use mathlib.Core.Path.{_≡_, refl, sym, _∙_, ap}
 use mathlib.Core.Bool.{Bool, true, false, not, cond, true≢false}
 use mathlib.Core.List.{List, [], _∷_}
@@ -14,7 +14,7 @@ use Rattle.words.specs.Matches.{MatchType, inputs, outputs, labelOn, lab
 use Rattle.words.specs.Sigmas.{has}
 use Rattle.words.specs.Ignored.{Ignored, ignoredOk, isIgnored, heard, replaced}
 
--- a label is heard as itself, and then it is not in the list, or as 0
+-- a label is heard as itself, and then it is not replaced, or as 0
 pub ignored-unheard : (g : Ignored) (x y : ℕ) → isIgnored g x ≡ true → x ≢ epsLabel → heard g y ≢ x
 unfolding heard
 ignored-unheard g x y i d = go (isIgnored g y) refl
@@ -40,9 +40,12 @@ listed-apart xs x ok i = (
 pub no-own-matches : (on : MatchType) (g : Ignored) (M : Machine) (s x : ℕ) → ignoredOk (g .list) ≡ true → isIgnored g x ≡ true → sortedMatches on (replaced on g M) s x ≡ []
 unfolding sortedMatches labelled
 no-own-matches on g M s x ok i =
-    let a = listed-apart (g .list) x ok i in
+    let a = ignored-apart in
     rw (ne-eqb x epsLabel (a .0), ne-eqb x noLabel (a .1), none-kept (λ t. eqb (labelOn on (replaced on g M) t) x) (λ t. ne-eqb _ x (unheard on t)) (replaced on g M .list s))
   where
+    ignored-apart : (x ≢ epsLabel) × (x ≢ noLabel)
+    ignored-apart = listed-apart (g .list) x ok (and-left (has x (g .list)) _ i)
+
     unheard : (on : MatchType) (t : ℕ) → labelOn on (replaced on g M) t ≢ x
-    unheard inputs t = ignored-unheard g x (M .input t) i (listed-apart (g .list) x ok i .0)
-    unheard outputs t = ignored-unheard g x (M .output t) i (listed-apart (g .list) x ok i .0)
+    unheard inputs t = ignored-unheard g x (M .input t) i (ignored-apart .0)
+    unheard outputs t = ignored-unheard g x (M .output t) i (ignored-apart .0)

@@ -3,6 +3,7 @@ pub mod ListLaws
 pub mod FormLaws
 pub mod ReplacedLaws
 pub mod WordsReplaced
+pub mod ExemptLaws
 pub mod IgnoredLookups
 pub mod TableLaws
 pub mod WalkLaws

@@ -15,7 +15,7 @@ use Rattle.papers.specs.Machine.{Machine}
 use Rattle.words.specs.Matches.{MatchType, inputs, outputs, labelOn, Tr, trOf}
 use Rattle.words.specs.Machines.{lessOne, headerWords, stateWords, trWords, markWord, acceptorWord, wordOn, stateCount, trCount, startWord, sideMark, acceptorMark, stateWord, trWord, firstOk, nextOk, firstOf, nextOf, listBy, listFrom, listOf, machineOf, sameLabels, acceptor}
 use Rattle.words.specs.Sigmas.{has}
-use Rattle.words.specs.Ignored.{Ignored, isIgnored, heard, replaced, otherwise, markRead, acceptorRead, inRecords, wordsReplaced, wordsRead}
+use Rattle.words.specs.Ignored.{Ignored, isIgnored, heard, replaced, otherwise, markRead, acceptorAfter, acceptorRead, inRecords, wordsReplaced, wordsRead}
 use Rattle.words.specs.Settings.{operandBy, operandOf, operandUnder}
 
 -- a label is heard as itself or as 0
@@ -89,8 +89,9 @@ module _ (on : MatchType) (g : Ignored) (m : List ℕ) where
   abbrev from : ℕ
   from = headerWords + stateWords * stateCount m + wordOn on
 
-  abbrev acceptorAfter : ℕ
-  acceptorAfter = cond (sameLabels (trCount m) (replaced on g (machineOf m))) (acceptorMark m) 0
+  -- the acceptor mark as it is read
+  abbrev kept : ℕ
+  kept = acceptorAfter on (heard g) m
 
   abbrev labelled : List ℕ
   labelled = inRecords (heard g) from m
@@ -105,7 +106,7 @@ module _ (on : MatchType) (g : Ignored) (m : List ℕ) where
   -- but for the two marks, only labels change
   other-word : (i : ℕ) → i ≢ markWord on → i ≢ acceptorWord → getD W i 0 ≡ getD labelled i 0
   unfolding wordsReplaced
-  other-word i a b = getD-set-other (set labelled (markWord on) 0) acceptorWord i acceptorAfter 0 b ∙ getD-set-other labelled (markWord on) i 0 0 a
+  other-word i a b = getD-set-other (set labelled (markWord on) 0) acceptorWord i kept 0 b ∙ getD-set-other labelled (markWord on) i 0 0 a
 
   before-labels : (i : ℕ) → i < from → i ≢ markWord on → i ≢ acceptorWord → getD W i 0 ≡ getD m i 0
   before-labels i h a b = other-word i a b ∙ records-before (heard g) (heard-zero g) from m i h
@@ -140,16 +141,16 @@ module _ (on : MatchType) (g : Ignored) (m : List ℕ) where
   unfolding sideMark wordsReplaced
   mark-zero =
       let p = mark-place on in
-      getD-set-other (set labelled (markWord on) 0) acceptorWord (markWord on) acceptorAfter 0 (λ e. omega (arith, p .1, e)) ∙ set-word labelled (markWord on) 0 (λ h. refl)
+      getD-set-other (set labelled (markWord on) 0) acceptorWord (markWord on) kept 0 (λ e. omega (arith, p .1, e)) ∙ set-word labelled (markWord on) 0 (λ h. refl)
 
   -- the other side's mark is as lent
   pub mark-other : (o : MatchType) → markWord o ≢ markWord on → sideMark o W ≡ sideMark o m
   unfolding sideMark
   mark-other o h = let p = mark-place o in before-labels (markWord o) (omega (arith, p .1)) h (λ e. omega (arith, p .1, e))
 
-  pub acceptor-after : acceptorMark W ≡ acceptorAfter
+  pub acceptor-after : acceptorMark W ≡ kept
   unfolding acceptorMark wordsReplaced
-  acceptor-after = set-word (set labelled (markWord on) 0) acceptorWord acceptorAfter (λ h. cond-same (sameLabels (trCount m) (replaced on g (machineOf m))) (acceptorMark m) (short h))
+  acceptor-after = set-word (set labelled (markWord on) 0) acceptorWord kept (λ h. cond-same (sameLabels (trCount m) (replaced on g (machineOf m))) (acceptorMark m) (short h))
     where
       short : length (set labelled (markWord on) 0) ≤ acceptorWord → acceptorMark m ≡ 0
       short h = List·getD-eq-default m 0 (omega (arith, h, length-set labelled (markWord on) 0, length-records (heard g) (heard-zero g) from m))
@@ -303,7 +304,7 @@ module _ (on : MatchType) (g : Ignored) (m : List ℕ) where
   unfolding wordsRead
   read-list s = read-same (g .list) (λ (w : List ℕ). listOf w s) m (wordsReplaced on g m) (same-list on g m s)
 
-  pub read-mark : sideMark on (wordsRead on g m) ≡ markRead on g m
+  pub read-mark : sideMark on (wordsRead on g m) ≡ markRead on (g .list) m
   unfolding wordsRead
   read-mark = go (g .list)
     where
@@ -315,7 +316,7 @@ module _ (on : MatchType) (g : Ignored) (m : List ℕ) where
   unfolding wordsRead
   read-acceptor = go (g .list)
     where
-      go : (xs : List ℕ) → acceptorMark (otherwise xs m (wordsReplaced on g m)) ≡ otherwise xs (acceptorMark m) (cond (sameLabels (trCount m) (replaced on g (machineOf m))) (acceptorMark m) 0)
+      go : (xs : List ℕ) → acceptorMark (otherwise xs m (wordsReplaced on g m)) ≡ otherwise xs (acceptorMark m) (acceptorAfter on (heard g) m)
       go [] = refl
       go (x ∷ xs) = acceptor-after on g m
 
@@ -381,7 +382,7 @@ pub acceptor-mark-read : (on : MatchType) (g : Ignored) (m : List ℕ)
 acceptor-mark-read on g m = read-acceptor on g m ∙ ap (λ (b : Bool). otherwise (g .list) (acceptorMark m) (cond b (acceptorMark m) 0)) (sym (acceptor-read on g m))
 
 -- a mark that is not 0 is read under an empty list alone
-pub marked-read : (on : MatchType) (g : Ignored) (m : List ℕ) (k : ℕ) → markRead on g m ≡ suc k → (sideMark on m ≡ suc k) × (wordsRead on g m ≡ m)
+pub marked-read : (on : MatchType) (g : Ignored) (m : List ℕ) (k : ℕ) → markRead on (g .list) m ≡ suc k → (sideMark on m ≡ suc k) × (wordsRead on g m ≡ m)
 unfolding wordsRead
 marked-read on g m k = go (g .list)
   where

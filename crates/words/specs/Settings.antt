@@ -67,7 +67,7 @@ operandOf on m sigma mode allowed = operandBy on (machineOf m) (sideMark on m) (
 -- 02, 2.7: "every answer is that of the two machines with those labels replaced, side marks on the replaced sides read as 0 and sortedness judged after replacement. An
 -- acceptor mark that replacement makes false is read as 0."
 abbrev pub operandUnder : Ignored → MatchType → List ℕ → ℕ → ℕ → Option (List ℕ) → Operand
-operandUnder g on m sigma mode allowed = operandBy on (replaced on g (machineOf m)) (markRead on g m) (acceptorRead on g m) sigma mode allowed
+operandUnder g on m sigma mode allowed = operandBy on (replaced on g (machineOf m)) (markRead on (g .list) m) (acceptorRead on g m) sigma mode allowed
 
 -- "Machine 1 is matched on outputs, 2 on inputs."
 abbrev pub operand1 : Settings → Lent → Operand
