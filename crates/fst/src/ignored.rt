@@ -1,5 +1,7 @@
-// Labels that count as 0 (document 02, 2.7).
+// Labels that count as 0 (document 02, 2.7 and 2.8).
 ghost use mathlib.Core.Path.{_≡_};
+ghost use mathlib.Core.Bool.{_||_};
+ghost use lib.Dec.{eqb};
 ghost use Rattle.words.specs.Sigmas.{has as hasLabel};
 ghost use Rattle.words.specs.Ignored.{heard as heardAs};
 ghost use Rattle.fst.specs.Meaning.{ignoredUnder};
@@ -19,13 +21,26 @@ pub fn has(list: &[u32], label: Label) -> bool
     false
 }
 
-// An inner label as the composition reads it: 0 where the list holds it. What is replaced is a matter of the list and of the settings; a sigma label is treated as any other.
+// Whether the label is a sigma label, of either machine: such a label is never replaced.
+fn is_sigma(sigmas: Sigmas, label: Label) -> bool
+    ensures { λ r. ⌜ r ≡ (eqb (label .0) (sigmas .first .0) || eqb (label .0) (sigmas .second .0)) ⌝ }
+{
+    if label.0 == sigmas.first.0 {
+        return true;
+    }
+    label.0 == sigmas.second.0
+}
+
+// An inner label as the composition reads it: 0 where the list holds it and it is no sigma label.
 pub fn heard(sigmas: Sigmas, ignored: &[u32], label: Label) -> Label
     ensures { λ r. ⌜ r .0 ≡ heardAs (ignoredUnder sigmas (now (ignored .entry))) (label .0) ⌝ }
 {
-    if has(ignored, label) {
-        EPS_LABEL
-    } else {
+    if !has(ignored, label) {
+        return label;
+    }
+    if is_sigma(sigmas, label) {
         label
+    } else {
+        EPS_LABEL
     }
 }
