@@ -21,8 +21,8 @@ fn short() {
     machine(&all);
 }
 
-// A machine of 25 words, the same cut short, and with counts that lie.
-fn counts() {
+// A machine of 25 words, and the same cut short.
+fn cut() {
     let good = [
         3u32,
         2,
@@ -53,7 +53,11 @@ fn counts() {
     machine(&good);
     machine(&good[..24]);
     machine(&good[..18]);
-    let many_states = [
+}
+
+// The same with a count of states that lies.
+fn lying_states() {
+    let many = [
         MAX,
         2,
         1,
@@ -80,8 +84,12 @@ fn counts() {
         2,
         0,
     ];
-    machine(&many_states);
-    let many_records = [
+    machine(&many);
+}
+
+// The same with a count of records that lies.
+fn lying_records() {
+    let many = [
         3,
         MAX,
         1,
@@ -108,7 +116,7 @@ fn counts() {
         2,
         0,
     ];
-    machine(&many_records);
+    machine(&many);
 }
 
 // One state whose list goes wrong: a next that is its own number, one that falls, one outside; a first outside; a target outside; labels MAX.
@@ -237,7 +245,9 @@ fn marks() {
 
 fn main() {
     short();
-    counts();
+    cut();
+    lying_states();
+    lying_records();
     links();
     unlisted();
     joint();

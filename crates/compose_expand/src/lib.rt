@@ -15,7 +15,7 @@ ghost use Rattle.match_type.specs.Chosen.{sideMeans};
 ghost use Rattle.compose_state_tuple.specs.Meaning.{tupleMeans};
 ghost use Rattle.store_records.specs.Meaning.{storeIn, memoryOf};
 ghost use Rattle.compose_fst_op.specs.Composing.{optionSettings, lentOf, composing};
-ghost use Rattle.compose_bounds.specs.Serving.{plainDirection};
+ghost use Rattle.compose_bounds.specs.Serving.{weightsFit, plainDirection};
 ghost use Rattle.list_facts.specs.Facts.{TrueOf};
 ghost use Rattle.compose_plan.specs.Serves.{servesOf};
 ghost use Rattle.compose_store.specs.Meaning.{sessionUnder, leftBy};
@@ -109,8 +109,84 @@ fn expand_plain(
     Expansion::New(part, after)
 }
 
-// The expansion of state n, a found one, where the checks 1 to 8 passed and no label is ignored or sigma. The facts of its two lists are told here. Its steps are counted where their room is not
-// sure, and weighed one by one where a weight may be too large or the count tells nothing.
+// The expansion of state n, a found one, where no label is ignored or sigma and the largest weights of its two lists fit: its steps are counted where their room is not sure, and weighed one by one
+// where the count tells nothing.
+fn expand_counted(
+    m1: &[u32],
+    m2: &[u32],
+    a1: &[u32],
+    a2: &[u32],
+    ignored: &[u32],
+    options: ComposeFstOpOptions,
+    heads: &mut [u32],
+    states: &mut [u32],
+    trs: &mut [u32],
+    used: Used,
+    n: StateId,
+    tuple: ComposeStateTuple,
+    facts1: ListFacts,
+    facts2: ListFacts,
+) -> Expansion
+    requires { ⌜ (
+        let l = lentOf options (now m1) (now m2) (now a1) (now a2) (now ignored) in
+        let m = memoryOf (now heads) (now states) (now trs) in
+        let c = composing options (now m1) (now m2) (now a1) (now a2) (now ignored) in
+        let t = tripleAt (now states) (n .0) in
+        (entered l (sessionUnder options used) m ≡ good c) × (n .0 < used .states) × (tupleMeans tuple ≡ t) × (plainLabels (optionSettings options) (now ignored) ≡ true)
+        × TrueOf outputs (kindOf (options .kind)) (now m1) (t .s1) facts1
+        × TrueOf inputs (kindOf (options .kind)) (now m2) (t .s2) facts2
+        × (weightsFit (kindOf (options .kind)) (facts1 .most) (facts2 .most) ≡ true)
+        ) ⌝ }
+    ensures { λ r. ⌜ (
+        let m = memoryOf (now (heads .entry)) (now (states .entry)) (now (trs .entry)) in
+        let m′ = memoryOf (now (heads .exit)) (now (states .exit)) (now (trs .exit)) in
+        let c = composing options (now (m1 .entry)) (now (m2 .entry)) (now (a1 .entry)) (now (a2 .entry)) (now (ignored .entry)) in
+        leftBy options used m′ r ≡ settle (sessionUnder options used) m (expansion c (sessionUnder options used) m (n .0))
+        ) ⌝ }
+{
+    let side = options.side;
+    let on = direction(side, facts1.len, facts2.len);
+    let sure = serves(states, trs, options, used, on, facts1, facts2);
+    let stored = store_tight(
+        m1,
+        m2,
+        options,
+        heads,
+        states,
+        trs,
+        used,
+        on,
+        tuple,
+        facts1,
+        facts2,
+        sure,
+    );
+    match stored {
+        Stored::Lacks => Expansion::Refused(REFUSED_NO_ROOM),
+        Stored::Unknown => expand_weighed(
+            m1,
+            m2,
+            a1,
+            a2,
+            ignored,
+            options,
+            heads,
+            states,
+            trs,
+            used,
+            n,
+        ),
+        Stored::After(after) => {
+            end_list(trs, used.trs, after.trs);
+            let part = new_part(used.trs, after.trs);
+            mark_expanded(states, n, part.first);
+            Expansion::New(part, after)
+        }
+    }
+}
+
+// The expansion of state n, a found one, where the checks 1 to 8 passed and no label is ignored or sigma. The facts of its two lists are told here. Where a weight may be too large, its steps are weighed
+// one by one.
 pub fn expand_tight(
     m1: &[u32],
     m2: &[u32],
@@ -157,45 +233,22 @@ pub fn expand_tight(
             n,
         );
     }
-    let side = options.side;
-    let on = direction(side, facts1.len, facts2.len);
-    let sure = serves(states, trs, options, used, on, facts1, facts2);
-    let stored = store_tight(
+    expand_counted(
         m1,
         m2,
+        a1,
+        a2,
+        ignored,
         options,
         heads,
         states,
         trs,
         used,
-        on,
+        n,
         tuple,
         facts1,
         facts2,
-        sure,
-    );
-    match stored {
-        Stored::Lacks => Expansion::Refused(REFUSED_NO_ROOM),
-        Stored::Unknown => expand_weighed(
-            m1,
-            m2,
-            a1,
-            a2,
-            ignored,
-            options,
-            heads,
-            states,
-            trs,
-            used,
-            n,
-        ),
-        Stored::After(after) => {
-            end_list(trs, used.trs, after.trs);
-            let part = new_part(used.trs, after.trs);
-            mark_expanded(states, n, part.first);
-            Expansion::New(part, after)
-        }
-    }
+    )
 }
 
 // The expansion of state n, a found one, where the checks 1 to 8 passed and the facts are those of its two lists.

@@ -294,7 +294,7 @@ fn weigh_window(
 {
     let mut chains = [0u32; SET_HEADS];
     let mut records = [0u32; SET_WORDS];
-    let filled = fill(
+    let mut window = fill(
         m1,
         m2,
         a1,
@@ -309,7 +309,7 @@ fn weigh_window(
         from,
         before,
     );
-    let held = filled.states;
+    let held = window.states;
     let options = w.options;
     let start = w.start;
     let old = count_earlier(
@@ -325,14 +325,8 @@ fn weigh_window(
         &records,
         held,
     );
-    let cursor = filled.cursor;
-    let ending = filled.ending;
-    Passed {
-        states: held - old,
-        count: filled.count,
-        cursor,
-        ending,
-    }
+    window.states = held - old;
+    window
 }
 
 // The records that are not used.
