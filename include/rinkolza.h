@@ -180,11 +180,11 @@
  * Ignored labels (const, one list for both machines, lent at every call)
  *
  * Any words in any order, each as often as one likes; but 0 and RINKOLZA_NO_LABEL
- * are refused: 18. A label that stands in the list counts as 0, epsilon, on machine
- * 1's outputs and on machine 2's inputs, the inner labels: so joiners and soft
- * hyphens, which no rule is to notice. Machine 1's inputs and machine 2's outputs
- * stay as they are. The list is counted among the settings: give every call after
- * an opening the list that the opening was given.
+ * are refused: 18. A label that stands in the list and is no sigma label counts as
+ * 0, epsilon, on machine 1's outputs and on machine 2's inputs, the inner labels:
+ * so joiners and soft hyphens, which no rule is to notice. Machine 1's inputs and
+ * machine 2's outputs stay as they are. The list is counted among the settings:
+ * give every call after an opening the list that the opening was given.
  *
  * An empty list changes nothing at all. With any other every answer is that of
  * the two machines with those labels replaced by 0, and:
@@ -197,9 +197,11 @@
  *   2, 5 are no longer sorted where 5 is ignored;
  * - whether a machine is malformed, 2 and 3, and so whether a mark is false, is
  *   judged on the words as they are lent;
- * - a sigma label is replaced as any other. Its transitions are epsilons then and
- *   match no letter, and no label that is walked is sigma any longer; the setting
- *   stays, and 5 and 6 are judged as ever. Allowed lists stay as they are lent;
+ * - the sigma labels of both machines are exempt, on both: a sigma label in the
+ *   list is not replaced. Its transitions match letters as ever, are no epsilons
+ *   for the filter, and the other machine walking it is refused, 11. The list is
+ *   no empty one for that: the marks are read as 0, and 18 judges it whole.
+ *   Allowed lists stay as they are lent;
  * - the label that rinkolza_fan_out is asked for is not replaced: where it is
  *   ignored it has no matches of its own, and sigma's where it is allowed; where
  *   it is the sigma label it is refused, 11, as ever.

@@ -360,8 +360,8 @@ def inner_labels(m, side):
 
 
 def ignored_of(rng, settings, machines):
-    """Ignored labels (request 2.7), at least one: such as the inner sides have, sigma among them, such as neither has, many and some twice; seldom a list with
-    0 or MAX, which is refused."""
+    """Ignored labels (request 2.7), at least one: such as the inner sides have, sigma labels with them or alone (request 2.8), such as neither has, many and some
+    twice; seldom a list with 0 or MAX, which is refused."""
     own = sum((inner_labels(m, 1 - k) for k, m in enumerate(machines)), [])
     sigmas = [x for x in (settings[2], settings[4]) if x not in (0, MAX)] if len(settings) == 6 else []
     other = [rng.choice([6, 7, 50, 70000, MAX - 1]) for _ in range(rng.randint(1, 2))]
@@ -371,7 +371,7 @@ def ignored_of(rng, settings, machines):
     out = [rng.choice(own or other) for _ in range(rng.choice([1, 1, 2, 3]))]
     if x < 0.2:
         out = sigmas or out
-    elif x < 0.3:
+    elif x < 0.35:
         out += sigmas
     elif x < 0.4:
         out += [rng.choice(own + other) for _ in range(rng.randint(8, 24))]
@@ -385,7 +385,7 @@ def ignored_of(rng, settings, machines):
 
 def silent_case(rng, filters, size=2):
     """Sigma on machine 2, which is sorted, and a machine 1 that is not: where labels are ignored the side is input only then. Machine 1 may hand on the sigma
-    label, which is no letter where it is ignored."""
+    label."""
     kind = rng.randint(0, 1)
     first = machine(rng, kind, 1, MAX, size, True, "none", labels=(1, 2, 3, 4), foreign=rng.choice([MAX, 9]), epsilons=(0.0, 0.2))
     second = machine(rng, kind, 0, 9, size, True, "inner", labels=rng.choice([(1, 2), (2, 3, 4)]), epsilons=(0.0, 0.2), same=0.6, share=0.4)

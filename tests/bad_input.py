@@ -16,8 +16,9 @@ SOURCE = open(os.path.join(ROOT, "crates/bad_input/src/main.rt")).read()
 BODIES = dict(re.findall(r"fn (\w+)\(\) \{\n(.*?)\n\}", SOURCE, re.S))
 
 
-# the lists under which each is read: as in show.rt
+# the lists under which each is read, and the sigma labels: as in show.rt
 LISTS = ([], [5, 1, 9, 5], [MAX, 0])
+SIGMAS = (5, MAX)
 
 
 def number(w):
@@ -36,8 +37,12 @@ def cases():
                 yield arrays[call][:int(part)] if part else arrays[call]
 
 
-def side(a, b, sigma1, sigma2):
+def read(m, ignored, sigma1, sigma2):
     """Machine 1 and machine 2 are the same words, read by outputs and by inputs."""
+    return Lent(m, m, None, None, ignored).read([0, 0, sigma1, 0, sigma2, 0])
+
+
+def side(a, b, sigma1, sigma2):
     if sigma1 == 0 or sigma2 == 0:
         return 4
     if sigma1 != MAX and not a.sorted(1):
@@ -58,7 +63,7 @@ def line(letter, *numbers):
 
 def machine(m, ignored):
     """As it stands, and as it is read by its outputs (a) and by its inputs (b)."""
-    w, (a, b) = Words(m), Lent(m, m, None, None, ignored).read(None)
+    w, (a, b) = Words(m), read(m, ignored, *SIGMAS)
     line("p", w.well_formed(), b.sorted(0), a.sorted(1), b.acceptor(), a.acceptor())
     start = w.word(2)
     marks = w.word(3), w.word(4), b.word(3), a.word(4), w.word(5), b.word(5), a.word(5)
@@ -69,7 +74,7 @@ def machine(m, ignored):
     for t in (0, 1, MAX):
         line("r", w.tr(t, 4), w.tr(t, MAX), w.next(t), *(x for k, read in ((0, b), (1, a)) for x in (w.tr(t, k), read.tr(t, k), *(read.tr(t, j) for j in range(4)))))
     line("f", a.none(1, MAX), a.all(1, MAX), b.none(0, 0), b.all(0, 0))
-    line("m", *([side(a, b, *sigmas) for sigmas in ((MAX, MAX), (7, MAX), (MAX, 7), (7, 0))] if w.well_formed() else []))
+    line("m", *([side(*read(m, ignored, *sigmas), *sigmas) for sigmas in ((MAX, MAX), (5, MAX), (MAX, 5), (5, 0))] if w.well_formed() else []))
 
 
 def times(kind, a, b):

@@ -6,7 +6,8 @@
 
 What must be printed is worked out by the model in model.py. RUST is the folder of rustfst's sources, or the program that oracle/build made around it; it knows
 no sessions and no memory, so what is compared with it are the side, the lists and final weights, where it is the reference (reference.py). Fan-outs of look-ups
-(request 2.6) stand after openings, and in lists of their own. Labels are ignored (request 2.7) in further lists, where the labels may change between calls.
+(request 2.6) stand after openings, and in lists of their own. Labels are ignored (request 2.7), sigma labels listed among them (request 2.8), in further
+lists, where the labels may change between calls.
 """
 import os
 import random
@@ -19,7 +20,7 @@ import rust
 from fan_outs import drawn_query, of_fan_out, of_fan_outs
 from features import BOTH, Watched, of_cell, of_sigmas
 from gen import ADDED, ALL, FILTERS, QUIET, damaged_case, ignored_of, own_and_sigma_case, quiet_case, sigma_case, unsorted_case
-from ignored import checked, of_ignored, of_ignored_checks, of_ignored_moves, of_list
+from ignored import WALKED, checked, of_ignored, of_ignored_checks, of_ignored_moves, of_list
 from machine import LIMIT, MAX, Words
 from model import EXPANDED, FILTER_STATE, FIRST, MOVES, STATE_WORDS, TR_WORDS, Lent, World, fan_out, filtered
 from reference import reference
@@ -40,9 +41,10 @@ SIGMAS, OFTEN = [*of_sigmas(), *(f"{BOTH}, refused {n}" for n in (11, 12, 13))],
 FAN_OUTS = [*of_fan_outs()]
 # and of ignored labels: the lists that are drawn, to take few of them, and the calls that must be refused 18; what a fan-out of an ignored label shows
 IGNORING_LISTS = 8000
-OF_IGNORED = [of_list(f"fan-out of an ignored label, {what}") for what in ("no match", "sigma matches", "refused 11")]
+OF_IGNORED = [of_list(f"fan-out of an ignored label, {what}") for what in ("no match", "sigma matches")]
+OF_LISTED = [of_list(f"fan-out of a listed sigma, {what}") for what in ("refused 11", "own matches on the other machine")]
 EMPTY_PART = of_list("an empty part where the list is refused")
-IGNORED = [*((letter, 18) for letter in "oefrc"), *of_ignored_checks(), *of_ignored_moves(), *OF_IGNORED, EMPTY_PART]
+IGNORED = [*((letter, 18) for letter in "oefrc"), *of_ignored_checks(), *of_ignored_moves(), *OF_IGNORED, *OF_LISTED, EMPTY_PART]
 
 
 def weight(draw, kind):
@@ -163,6 +165,8 @@ class Case:
             self.passed |= self.passing
         elif BOTH in self.passing:
             self.passed.add(f"{BOTH}, refused {words[0]}")
+        if words[:1] == [11]:
+            self.passed |= self.passing & {WALKED}
         self.passing.clear()
 
     def open(self, settings):
@@ -178,7 +182,14 @@ class Case:
         self.answered("c", answer, settings)
         self.passed.update(of_fan_out(settings, self.lent, query, answer[0]))
         if query[2] in self.lent.ignored and answer[0] in (0, 11):
-            self.passed.add(OF_IGNORED[2 if answer[0] else answer[1] > 0])
+            self.passed.update(self.of_fan_out(query[2] in self.lent.silent(settings), *answer))
+
+    def of_fan_out(self, silent, number, count=0):
+        """What the fan-out of a listed label shows: one that is replaced, or a sigma label."""
+        if silent:
+            yield OF_IGNORED[count > 0]
+        else:
+            yield from OF_LISTED[:1] if number else OF_LISTED[1:] * (count > 0)
 
     def call(self):
         found = self.world.session[7]

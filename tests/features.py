@@ -90,7 +90,9 @@ class Watched(Composition):
     def __init__(self, seen, settings, lent, side):
         super().__init__(settings, lent, side)
         self.machines = lent.read(settings, Kept)
-        self.lent, self.seen = lent, seen
+        self.lent, self.seen, self.silent = lent, seen, lent.silent(settings)
+        overlap = lent.ignored and self.silent != set(lent.ignored)
+        self.before = quiet.before(lent).read(settings, Kept) if overlap else self.machines
 
     def looked_up(self, s1, s2):
         m = super().looked_up(s1, s2)
@@ -104,6 +106,8 @@ class Watched(Composition):
         return m
 
     def matches(self, k, s, x):
+        if x == self.sigma[k] and x in self.lent.ignored:
+            self.seen.add(quiet.WALKED)
         found = super().matches(k, s, x)
         if self.has_sigma(k, s):
             self.seen.update(self.of_look_up(k, s, x))
@@ -116,6 +120,8 @@ class Watched(Composition):
         rows = [f"rewritten, {mode}"]
         if rest and self.lent.ignored and self.mode[k] == 0 and Words(self.lent.words[k]).word(5):
             yield quiet.of_machine(k, quiet.REWRITTEN if self.machines[k].apart else quiet.REWRITTEN_STILL)
+        if rest and sigma in self.lent.ignored:
+            yield quiet.of_machine(k, quiet.MATCHED)
         if any(self.record(k, t)[:2] == [sigma] * 2 for t in self.labelled(k, s, sigma)):
             rows.append(f"held on both sides, {mode}")
         if own and rest:
@@ -144,11 +150,15 @@ class Watched(Composition):
         return to
 
     def of_replaced(self, move, states):
-        """What a move by an epsilon shows, where the state has a label that is replaced."""
+        """What a move by an epsilon shows, where the state has a label that is replaced, or a sigma label that is listed."""
         for k in (0, 1) if self.lent.ignored and move != "label" else ():
-            raw = Words(self.lent.words[k])
-            if move in (k, "both") and any(raw.tr(t, 1 - k) in self.lent.ignored for t in raw.list(states[k])):
+            raw, now, old = Words(self.lent.words[k]), self.machines[k], self.before[k]
+            if move in (k, "both") and any(raw.tr(t, 1 - k) in self.silent for t in raw.list(states[k])):
                 yield quiet.of_filter(self.filter, k)
+            for what, holds in ((quiet.NONE_NOW, now.none(1 - k, states[k]) > old.none(1 - k, states[k])),
+                                (quiet.ALL_NO_LONGER, now.all(1 - k, states[k]) < old.all(1 - k, states[k]))):
+                if move == 1 - k and holds:
+                    yield quiet.of_machine(k, what)
 
     def times(self, a, b):
         exact = a + b if self.kind == 0 else a * b

@@ -1,4 +1,4 @@
-"""Document 01's calls with request 2.1's filters, 2.4's sigma, 2.6's fan-out and 2.7's ignored labels, worked out from their text: the checks, the moves, the
+"""Document 01's calls with request 2.1's filters, 2.4's sigma, 2.6's fan-out, 2.7's ignored labels and 2.8's exemption, worked out from their text: the checks, the moves, the
 memory."""
 from machine import LIMIT, MAX, Words
 from gen import FILTERS
@@ -55,8 +55,8 @@ class Lent:
         return Words(self.words[0]), Words(self.words[1])
 
     def silent(self, settings):
-        """The labels that are replaced; None where the list is empty."""
-        return set(self.ignored) if self.ignored else None
+        """The labels that are replaced: those of the list but for the sigma labels (request 2.8). None where the list is empty."""
+        return set(self.ignored) - {settings[2], settings[4]} if self.ignored else None
 
     def read(self, settings, sort=Read):
         """As they are read: machine 1 by its outputs, machine 2 by its inputs."""

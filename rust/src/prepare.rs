@@ -79,8 +79,8 @@ impl Inputs {
     /// for the machine at rest (the loop) and one for each epsilon transition, [`NO_LABEL`](crate::NO_LABEL) the latter
     /// alone. These are the matches that an expansion pairs with each transition that it walks.
     ///
-    /// Transitions with an ignored label count among the epsilons. The label that is asked for is not replaced: an ignored
-    /// one has no transitions of its own.
+    /// Transitions with an ignored label count among the epsilons, but for sigma labels, which are never replaced. The label
+    /// that is asked for is not replaced: an ignored one has no transitions of its own.
     ///
     /// Nothing is opened for it and nothing kept: each call goes through both machines, as an opening does.
     ///

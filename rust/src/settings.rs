@@ -278,8 +278,11 @@ pub struct Options {
     ///
     /// With some, the composition is that of the two machines with these labels replaced by 0 on their inner sides. What
     /// the first machine reads and the second writes stays. Two readings agree where their inner labels do after that. A
-    /// sigma label is replaced as any other: its transitions are epsilons then, and match no letter. A machine counts as an
-    /// acceptor, for [`Rewrite::Auto`], where its inputs are its outputs after that too.
+    /// machine counts as an acceptor, for [`Rewrite::Auto`], where its inputs are its outputs after that too.
+    ///
+    /// The sigma labels of both machines are exempt, on both: sigma takes precedence, and such a label is never replaced.
+    /// Listing one is as leaving it out, but that a list of sigma labels alone is still one that is not empty, with the
+    /// effect on the side that the warning below tells of.
     ///
     /// ```
     /// use rinkolza::{compose, text, Format, Options};
@@ -401,9 +404,12 @@ impl Options {
         self
     }
 
-    /// What an inner label counts as: [`EPSILON`](crate::EPSILON) where it is ignored, else itself.
+    /// What an inner label counts as: [`EPSILON`](crate::EPSILON) where it is ignored and no sigma label, else itself.
     pub fn heard(&self, label: u32) -> u32 {
-        match self.ignored.contains(&label) {
+        let is_sigma = [&self.sigma1, &self.sigma2]
+            .iter()
+            .any(|sigma| sigma.label == Some(label));
+        match self.ignored.contains(&label) && !is_sigma {
             true => EPSILON,
             false => label,
         }

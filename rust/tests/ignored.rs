@@ -55,7 +55,9 @@ struct Met {
     unsorted: u32,
     marks: u32,
     untouched: u32,
-    sigma: u32,
+    /// The sigma of either machine is listed, and stands among the inner labels of its machine, or of the other.
+    own_sigma: u32,
+    other_sigma: u32,
 }
 
 impl Met {
@@ -73,8 +75,15 @@ impl Met {
         if let Some(side) = opened {
             self.sides[side as usize] += 1;
             let [_, _, sigma1, _, sigma2, _] = inputs.settings;
-            let listed = |sigma| inputs.ignored.contains(&sigma);
-            self.sigma += u32::from(listed(sigma1) || listed(sigma2));
+            let mut read = read.clone();
+            let listed = |sigma: u32, words: &mut [u32], inner: usize| {
+                let has = records_of(words).any(|record| record[inner] == sigma);
+                u32::from(has && inputs.ignored.contains(&sigma))
+            };
+            self.own_sigma += listed(sigma1, &mut read.first, INNER[0]);
+            self.own_sigma += listed(sigma2, &mut read.second, INNER[1]);
+            self.other_sigma += listed(sigma2, &mut read.first, INNER[0]);
+            self.other_sigma += listed(sigma1, &mut read.second, INNER[1]);
         }
     }
 }
@@ -136,8 +145,15 @@ fn as_of_the_replaced_machines() {
         }
     }
     println!("{met:?} {seen:?}");
-    let counts = [met.unsorted, met.marks, met.untouched, met.sigma].into_iter();
-    assert!(counts.chain(met.sides).all(|count| count > 200), "{met:?}");
+    let sigmas = [met.own_sigma, met.other_sigma];
+    let counts = [met.unsorted, met.marks, met.untouched].into_iter();
+    assert!(
+        counts
+            .chain(met.sides)
+            .chain(sigmas)
+            .all(|count| count > 200),
+        "{met:?}"
+    );
     for number in [0, 9, 11, 12, 13] {
         assert!(seen[number] > 50, "{number} of {seen:?}");
     }
@@ -240,7 +256,9 @@ fn a_list_may_unsort_a_side() {
     assert_eq!(with(PLAIN, &[5, 2]), Ok(1));
     assert_eq!(with([0, 0, 2, 0, MAX, 0], &[5]), Err(5));
     assert_eq!(with([0, 0, MAX, 0, 2, 0], &[5]), Err(6));
-    assert_eq!(with([0, 0, MAX, 0, 5, 0], &[5]), Err(6));
+    // A sigma label is exempt.
+    assert_eq!(with([0, 0, 5, 0, MAX, 0], &[5]), Ok(1));
+    assert_eq!(with([0, 0, MAX, 0, 5, 0], &[5]), Ok(1));
 }
 
 /// A side may be sorted by a list, though its mark says that it is not, and truly so.
@@ -302,25 +320,41 @@ fn an_acceptor_mark_that_is_true_no_longer() {
     assert_eq!(with(&unlisted, &[5]), [(3, 9), (1, 0)]);
 }
 
-/// Before 2.8: sigma in the list is an epsilon like any other, and a label that is walked can be sigma no longer.
+/// A sigma label in the list is no epsilon on either machine: it matches letters, and where the other machine has it and is
+/// walked, 11. It is listed all the same: no side "both", and 0 or 4294967295 beside it is refused.
 #[test]
-fn an_ignored_sigma_is_silent() {
-    let letters = state(&[(1, 9), (2, 3)], [0; 3]);
-    let rules = state(&[(9, 7)], [0; 3]);
+fn a_listed_sigma_is_exempt() {
+    let letters = state(&[(1, 4), (2, 3)], [0; 3]);
+    let marked = state(&[(1, 3), (2, 4)], [0, 1, 0]);
+    let walked = state(&[(1, 9), (2, 3)], [0; 3]);
+    let rules = state(&[(9, 7)], [1, 0, 0]);
     let settings = [0, 0, MAX, 0, 9, 0];
-    let open = |ignored: &[u32]| Fixed::open(inputs(&letters, &rules, settings, ignored), ROOM);
-    assert_eq!(open(&[]).unwrap().expand(0), Err(11));
-    let mut silent = open(&[9]).unwrap();
-    // The first outputs 0 and 3 and is sorted: side output. 3 meets nothing.
-    assert_eq!(silent.side(), 1);
-    let trs = silent.expand(0).unwrap().into_iter();
-    let labels: Vec<_> = trs.map(|tr| (tr.input, tr.output)).collect();
-    assert_eq!(labels, [(1, 0), (0, 7)]);
-    let look_up = |label| {
-        let lent = silent.inputs.lent();
-        sys::fan_out(&settings, &lent, 2, 0, label)
+    let open = |first: &[u32], ignored: &[u32]| {
+        Fixed::open(inputs(first, &rules, settings, ignored), ROOM)
     };
-    assert_eq!([0, 3, 9].map(look_up), [Ok(2), Ok(0), Err(11)]);
+    for ignored in [&[][..], &[9], &[30, 9]] {
+        let mut matched = open(&letters, ignored).unwrap();
+        assert_eq!(matched.side(), 0);
+        let trs = matched.expand(0).unwrap().into_iter();
+        let labels: Vec<_> = trs.map(|tr| (tr.input, tr.output)).collect();
+        assert_eq!(labels, [(1, 7), (2, 7)], "{ignored:?}");
+        let lent = matched.inputs.lent();
+        let look_up = |label| sys::fan_out(&settings, &lent, 2, 0, label);
+        assert_eq!([0, 3, 9].map(look_up), [Ok(1), Ok(1), Err(11)]);
+        let mut walked = open(&walked, ignored).unwrap();
+        assert_eq!(walked.expand(0), Err(11), "{ignored:?}");
+        let lent = walked.inputs.lent();
+        assert_eq!(sys::fan_out(&settings, &lent, 1, 0, 9), Ok(1));
+        let side = if ignored.is_empty() { 2 } else { 1 };
+        assert_eq!(open(&marked, ignored).unwrap().side(), side, "{ignored:?}");
+    }
+    for word in [0, MAX] {
+        assert_eq!(open(&letters, &[9, word]).err(), Some(18));
+    }
+    // With a letter beside it, that one alone is replaced.
+    let trs = open(&letters, &[9, 4]).unwrap().expand(0).unwrap();
+    let labels: Vec<_> = trs.into_iter().map(|tr| (tr.input, tr.output)).collect();
+    assert_eq!(labels, [(1, 0)]);
 }
 
 /// Two letters, and rules with a sigma: the first letter has one of its own.

@@ -435,17 +435,15 @@ fn ignored_labels_and_sigma() {
     let file = folder.join("rules").display().to_string();
     std::fs::write(&file, rules).unwrap();
     let (sorted, falls) = ("0 1 3 3\n1\n", "0 1 4 4\n0 1 3 3\n1\n");
+    let all = "0 1 4 4\n0 1 3 3\n1\n";
     for (letters, options, composed, noted) in [
         (sorted, &["--sigma2=9"][..], "0 1 3 3\n1\n", false),
         (sorted, &["--sigma2=9", "--ignore="], "0 1 3 3\n1\n", false),
         (sorted, &["--sigma2=9", "--ignore=7"], "0 Infinity\n", true),
         (sorted, &["--ignore=7"], "0 Infinity\n", false),
-        (
-            falls,
-            &["--sigma2=9", "--ignore=7"],
-            "0 1 4 4\n0 1 3 3\n1\n",
-            false,
-        ),
+        (falls, &["--sigma2=9", "--ignore=7"], all, false),
+        (sorted, &["--sigma2=9", "--ignore=9"], "0 Infinity\n", true),
+        (falls, &["--sigma2=9", "--ignore=9"], all, false),
         (falls, &["--sigma2=9", "--ignore=4"], "0 1 4 0\n1\n", true),
     ] {
         let words = [&["compose"], options, &["-", &file]].concat();
@@ -460,6 +458,8 @@ fn ignored_labels_and_sigma() {
             "{options:?} of {letters}"
         );
         assert_eq!(error.contains(note), noted, "{options:?}: {error}");
+        let exempt = error.contains("note: --ignore names a sigma label");
+        assert_eq!(exempt, options.contains(&"--ignore=9"), "{error}");
     }
     std::fs::remove_dir_all(&folder).unwrap();
 }
@@ -530,7 +530,7 @@ fn the_widest_look_ups_with_ignored_labels() {
         (&["--ignore=3,2"], "0 0 5\n1 0 2\n"),
         (&["--ignore=3", "--sigma=9"], "0 0 3\n1 0 2\n"),
         (&["--ignore=2", "--sigma=9"], "0 0 3\n1 3 3\n"),
-        (&["--ignore=9", "--sigma=9"], "1 0 3\n0 2 2\n"),
+        (&["--ignore=9", "--sigma=9"], "1 3 3\n0 2 2\n"),
         (
             &["--ignore=3,1", "--sigma=9", "--allowed=1,4"],
             "0 0 3\n1 0 2\n",

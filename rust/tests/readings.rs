@@ -168,10 +168,12 @@ fn written(word: &[u32], reading: &Reading, sigma: &Sigma, rewrites: bool) -> Op
     word.next().is_none().then_some(written)
 }
 
-/// The pairs that agree, with sigma on the second machine's inputs and ignored labels as 0 on the inner sides.
+/// The pairs that agree, with sigma on the second machine's inputs and ignored labels, but for sigma, as 0 on the inner
+/// sides.
 fn pairs(drawn: &Drawn, kind: Kind) -> Vec<Pair> {
     let Drawn { sigma, ignored, .. } = drawn;
-    let heard = |label| if ignored.contains(&label) { 0 } else { label };
+    let silent = |label| ignored.contains(&label) && sigma.label != Some(label);
+    let heard = |label| if silent(label) { 0 } else { label };
     let first = &changed(&drawn.first, |tr| Tr {
         output: heard(tr.output),
         ..tr
@@ -313,16 +315,21 @@ fn with_sigma(draw: &mut Draw) -> Drawn {
     drawn
 }
 
-/// A letter that is allowed meets sigma and, beside it, itself: each of these pairs is a reading of its own.
-#[test]
-fn with_sigma_on_the_second_too() {
+/// Each pair is listed once, and some go by sigma.
+fn sigma_matches(drawn: fn(&mut Draw) -> Drawn) {
     let mut by_sigma = 0;
-    let [never, once, more] = compare(&FILTERS[..EXACT], with_sigma, |_, pair| {
+    let [never, once, more] = compare(&FILTERS[..EXACT], drawn, |_, pair| {
         by_sigma += usize::from(pair.inner[1].contains(&SIGMA));
         1
     });
     println!("{by_sigma} pairs by sigma");
-    assert!(never == 0 && once > 3000 && more == 0 && by_sigma > 500);
+    assert!(never == 0 && once > 3000 && more == 0 && by_sigma > 200);
+}
+
+/// A letter that is allowed meets sigma and, beside it, itself: each of these pairs is a reading of its own.
+#[test]
+fn with_sigma_on_the_second_too() {
+    sigma_matches(with_sigma);
 }
 
 /// Two readings agree where their inner labels do, ignored ones left out as epsilons are.
@@ -337,29 +344,28 @@ fn with_ignored_labels_too() {
     assert!(never == 0 && once > 3000 && more == 0);
 }
 
-/// Both, where the first machine is not sorted, ignored labels as 0: it is walked then. It may hand on the sigma label
-/// where that is ignored.
+/// Both, where the first machine is not sorted, ignored labels as 0: it is walked then.
 #[test]
 fn with_sigma_on_the_second_and_ignored_labels_too() {
-    let drawn = |draw: &mut Draw| {
+    sigma_matches(|draw| {
         let mut drawn = with_sigma(draw);
         drawn.ignored = draw.some_ignored();
-        if drawn.ignored.contains(&2) && draw.one_in(2) {
-            drawn.ignored.push(SIGMA);
-            drawn.first = changed(&drawn.first, |tr| Tr {
-                output: if tr.output == 2 { SIGMA } else { tr.output },
-                ..tr
-            });
-        }
+        drawn.ignored.retain(|&label| label != SIGMA);
         drawn
-    };
-    let mut by_sigma = 0;
-    let [never, once, more] = compare(&FILTERS[..EXACT], drawn, |_, pair| {
-        by_sigma += usize::from(pair.inner[1].contains(&SIGMA));
-        1
     });
-    println!("{by_sigma} pairs by sigma");
-    assert!(never == 0 && once > 3000 && more == 0 && by_sigma > 200);
+}
+
+/// And where sigma stands among the ignored labels, or alone: it is any letter still.
+#[test]
+fn with_a_sigma_that_is_listed_too() {
+    sigma_matches(|draw| {
+        let mut drawn = with_sigma(draw);
+        if draw.one_in(2) {
+            drawn.ignored = draw.some_ignored();
+        }
+        drawn.ignored.push(SIGMA);
+        drawn
+    });
 }
 
 /// With the same inner labels place by place, epsilons included.

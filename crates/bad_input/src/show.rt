@@ -32,10 +32,10 @@ fn end() {
     io::write_all(1, b"\n");
 }
 
-// No sigma label is set.
-fn unset() -> Sigmas {
+// Machine 1 has a sigma label, which some of the lists below hold.
+fn sigmas() -> Sigmas {
     Sigmas {
-        first: NO_LABEL,
+        first: Label(5),
         second: NO_LABEL,
     }
 }
@@ -43,10 +43,10 @@ fn unset() -> Sigmas {
 fn properties(m: &[u32], ignored: &[u32]) {
     io::write_all(1, b"p");
     flag(fst_properties::well_formed(m));
-    flag(fst_properties::sorted(m, MatchType::MatchInput, unset(), ignored));
-    flag(fst_properties::sorted(m, MatchType::MatchOutput, unset(), ignored));
-    flag(fst_properties::acceptor(m, MatchType::MatchInput, unset(), ignored));
-    flag(fst_properties::acceptor(m, MatchType::MatchOutput, unset(), ignored));
+    flag(fst_properties::sorted(m, MatchType::MatchInput, sigmas(), ignored));
+    flag(fst_properties::sorted(m, MatchType::MatchOutput, sigmas(), ignored));
+    flag(fst_properties::acceptor(m, MatchType::MatchInput, sigmas(), ignored));
+    flag(fst_properties::acceptor(m, MatchType::MatchOutput, sigmas(), ignored));
     end();
 }
 
@@ -68,8 +68,8 @@ fn marks(m: &[u32], ignored: &[u32]) {
     put(fst::inner_mark(m, MatchType::MatchInput, ignored));
     put(fst::inner_mark(m, MatchType::MatchOutput, ignored));
     put(fst::acceptor_mark(m));
-    put(fst_properties::inner_acceptor_mark(m, MatchType::MatchInput, unset(), ignored));
-    put(fst_properties::inner_acceptor_mark(m, MatchType::MatchOutput, unset(), ignored));
+    put(fst_properties::inner_acceptor_mark(m, MatchType::MatchInput, sigmas(), ignored));
+    put(fst_properties::inner_acceptor_mark(m, MatchType::MatchOutput, sigmas(), ignored));
 }
 
 fn header(m: &[u32], ignored: &[u32]) {
@@ -84,10 +84,10 @@ fn header(m: &[u32], ignored: &[u32]) {
 }
 
 fn epsilons(m: &[u32], ignored: &[u32], s: StateId) {
-    flag(compose_filters::no_eps(m, MatchType::MatchInput, unset(), ignored, s));
-    flag(compose_filters::no_eps(m, MatchType::MatchOutput, unset(), ignored, s));
-    flag(compose_filters::all_eps(m, MatchType::MatchInput, unset(), ignored, s));
-    flag(compose_filters::all_eps(m, MatchType::MatchOutput, unset(), ignored, s));
+    flag(compose_filters::no_eps(m, MatchType::MatchInput, sigmas(), ignored, s));
+    flag(compose_filters::no_eps(m, MatchType::MatchOutput, sigmas(), ignored, s));
+    flag(compose_filters::all_eps(m, MatchType::MatchInput, sigmas(), ignored, s));
+    flag(compose_filters::all_eps(m, MatchType::MatchOutput, sigmas(), ignored, s));
 }
 
 fn list(m: &[u32], s: StateId) {
@@ -120,8 +120,8 @@ fn transition(tr: Tr) {
 // Record t in a machine that is matched on a side.
 fn matched(m: &[u32], on: MatchType, ignored: &[u32], t: u32) {
     label(fst::label_on(m, on, t));
-    label(fst::inner_label(m, on, unset(), ignored, t));
-    transition(fst::get_tr(m, on, unset(), ignored, t));
+    label(fst::inner_label(m, on, sigmas(), ignored, t));
+    transition(fst::get_tr(m, on, sigmas(), ignored, t));
 }
 
 fn record(m: &[u32], ignored: &[u32], t: u32) {
@@ -136,7 +136,7 @@ fn record(m: &[u32], ignored: &[u32], t: u32) {
 
 fn facts(m: &[u32], ignored: &[u32]) {
     io::write_all(1, b"f");
-    let f = compose_filters::facts_at(m, m, unset(), ignored, StateId(MAX), StateId(0));
+    let f = compose_filters::facts_at(m, m, sigmas(), ignored, StateId(MAX), StateId(0));
     flag(f.none1);
     flag(f.all1);
     flag(f.none2);
@@ -169,9 +169,9 @@ fn side(m: &[u32], ignored: &[u32], first: Label, second: Label) {
 fn sides(m: &[u32], ignored: &[u32]) {
     io::write_all(1, b"m");
     side(m, ignored, NO_LABEL, NO_LABEL);
-    side(m, ignored, Label(7), NO_LABEL);
-    side(m, ignored, NO_LABEL, Label(7));
-    side(m, ignored, Label(7), Label(0));
+    side(m, ignored, Label(5), NO_LABEL);
+    side(m, ignored, NO_LABEL, Label(5));
+    side(m, ignored, Label(5), Label(0));
     end();
 }
 

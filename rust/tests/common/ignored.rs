@@ -47,19 +47,21 @@ impl Draw {
     }
 }
 
-/// The inputs that with an empty list have the same answers, where both machines are well formed: inner labels replaced,
-/// the marks of the inner sides 0, an acceptor mark 0 where some record has its two labels apart.
+/// The inputs that with an empty list have the same answers, where both machines are well formed: inner labels replaced but
+/// for sigma labels, the marks of the inner sides 0, an acceptor mark 0 where some record has its two labels apart.
 pub fn replaced(inputs: &Inputs) -> Inputs {
     let mut replaced = inputs.clone();
     replaced.ignored.clear();
     if inputs.ignored.is_empty() {
         return replaced;
     }
+    let [_, _, sigma1, _, sigma2, _] = inputs.settings;
+    let silent = |label| inputs.ignored.contains(&label) && label != sigma1 && label != sigma2;
     let machines = [&mut replaced.first, &mut replaced.second];
     for (words, inner) in machines.into_iter().zip(INNER) {
         let mut apart = false;
         for record in records_of(words) {
-            if inputs.ignored.contains(&record[inner]) {
+            if silent(record[inner]) {
                 record[inner] = 0;
             }
             apart |= record[0] != record[1];

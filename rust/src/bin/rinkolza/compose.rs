@@ -38,6 +38,7 @@ pub fn compose(args: &Args) -> Result<(), Stop> {
     let options = options.with_room(room(&first, &second));
     let mut composition = Composition::open(&first, &second, &options).map_err(refused)?;
     say_silent_sigma(&composition, &options);
+    say_exempt_sigma(&options);
     let ran = match args.has("progress") {
         false => composition.run(),
         true => with_progress(&mut composition),
@@ -191,6 +192,18 @@ fn say_silent_sigma(composition: &Composition, options: &Options) {
     let set = options.sigma2.label.is_some() && !options.ignored.is_empty();
     if set && composition.side() == Side::Output {
         say("note: with --ignore the first machine, which is sorted, is the one that is looked up: the second's sigma is a label like others here (--sigma2)");
+    }
+}
+
+/// A sigma label that is named among the labels to ignore stays sigma.
+fn say_exempt_sigma(options: &Options) {
+    let sigmas = [options.sigma1.label, options.sigma2.label];
+    if sigmas
+        .iter()
+        .flatten()
+        .any(|label| options.ignored.contains(label))
+    {
+        say("note: --ignore names a sigma label, which is never ignored");
     }
 }
 
