@@ -392,6 +392,13 @@ def silent_case(rng, filters, size=2):
     return [[kind, rng.choice(filters), MAX, 0, 9, rng.randint(0, 2)], allowed_of(rng), allowed_of(rng), first, second]
 
 
+def two_sigmas_case(rng, filters, size=2):
+    """A sigma label on each machine, the lists sorted or not: where the two are listed, 5 and 6 may stand for each other."""
+    kind, sigmas = rng.randint(0, 1), (3, rng.choice([2, 3, 9]))
+    m = [machine(rng, kind, 1 - k, sigmas[k], size, True, rng.choice(["none", "inner"]), labels=(1, 2, 4), epsilons=(0.0,)) for k in (0, 1)]
+    return [[kind, rng.choice(filters), sigmas[0], rng.randint(0, 2), sigmas[1], rng.randint(0, 2)], allowed_of(rng), allowed_of(rng)] + m
+
+
 def acceptor_case(rng, filters, size=2):
     """Sigma on an acceptor, which is often marked as one, rewritten as the mark says. A label of it that is ignored takes the mark from it."""
     kind, own = rng.randint(0, 1), rng.randint(0, 1)
@@ -428,7 +435,7 @@ def mixed(rng, filters):
 
 
 # the same of the cases with ignored labels
-QUIET = [(any_case, 24), (sigma_case, 24), (own_and_sigma_case, 16), (silent_case, 30), (acceptor_case, 40), (epsilon_case, 8),
+QUIET = [(any_case, 24), (sigma_case, 24), (own_and_sigma_case, 16), (silent_case, 30), (two_sigmas_case, 12), (acceptor_case, 40), (epsilon_case, 8),
          (unsorted_case, 20), (large_case, 4), (damaged_case, 4)]
 
 

@@ -153,7 +153,7 @@ def of_ignored_checks():
     yield from (of_list(f"{said(a)} in place of {said(b)}") for a, b in ((5, 0), (6, 0), (7, 0), (0, 5), (0, 6), (0, 7)))
     yield from (of_list(f"side {a} in place of {b}") for a, b in (("output", "both"), ("output", "input"), ("input", "both"), ("input", "output")))
     pairs = (("side output", "refused 5"), ("refused 5", "side output"), ("side input", "refused 6"), ("side output", "refused 6"), ("refused 6", "side input"),
-             ("refused 6", "side output"), ("side input", "side output"), ("side output", "side input"))
+             ("refused 6", "side output"), ("side input", "side output"), ("side output", "side input"), ("refused 5", "refused 6"), ("refused 6", "refused 5"))
     yield from (of_list(f"{now} for {then} before") for now, then in pairs)
     whats = (REPLACED, SORTED_NO_LONGER, SORTED_NOW, "mark 1 read as 0", "mark 2 read as 0", ACCEPTOR, KEPT, KEPT_NOW, SIGMA, OTHER_SIGMA, OUTER)
     yield from (of_machine(k, what) for k, what in product((0, 1), whats))

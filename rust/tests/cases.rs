@@ -2,7 +2,7 @@
 
 mod common;
 
-use common::{listing, number, Fixed, World, FILTERS};
+use common::{lending, listing, number, Fixed, World, FILTERS};
 use rinkolza::{Composition, Error, Inputs, Options, Refusal, Room};
 
 const MAX: u32 = u32::MAX;
@@ -16,14 +16,7 @@ const SECOND: [u32; 25] = [
 const LISTED: &str = include_str!("../../crates/composed/stdout");
 
 fn inputs(settings: [u32; 6], first: &[u32], second: &[u32]) -> Inputs {
-    Inputs {
-        first: first.to_vec(),
-        second: second.to_vec(),
-        settings,
-        allowed1: None,
-        allowed2: None,
-        ignored: Vec::new(),
-    }
+    lending(first, second, settings, &[])
 }
 
 fn plain(kind: u32, filter: u32) -> [u32; 6] {

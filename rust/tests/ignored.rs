@@ -5,7 +5,7 @@ mod common;
 
 use common::choice::{self, is_sorted, records_of, INNER, MAX};
 use common::ignored::replaced;
-use common::{Draw, Fixed, Seen, World, LEAST};
+use common::{lending, Draw, Fixed, Seen, World, LEAST};
 use rinkolza::sys::{self, Memory, Owned, Session};
 use rinkolza::{
     compose, text, words, By, Composition, Filter, Format, Inputs, Kind, Machine, Options, Refusal,
@@ -214,17 +214,6 @@ fn state(labels: &[(u32, u32)], marks: [u32; 3]) -> Vec<u32> {
 /// Costs and the filter sequence, without sigma.
 const PLAIN: [u32; 6] = [0, 0, MAX, 0, MAX, 0];
 
-fn inputs(first: &[u32], second: &[u32], settings: [u32; 6], ignored: &[u32]) -> Inputs {
-    Inputs {
-        first: first.to_vec(),
-        second: second.to_vec(),
-        settings,
-        allowed1: None,
-        allowed2: None,
-        ignored: ignored.to_vec(),
-    }
-}
-
 const ROOM: Room = Room {
     heads: 4,
     states: 9,
@@ -248,7 +237,7 @@ fn labels(inputs: Inputs) -> Vec<(u32, u32)> {
 fn a_list_may_unsort_a_side() {
     let first = state(&[(1, 2), (1, 5)], [0, 1, 0]);
     let second = state(&[(2, 7), (5, 8)], [1, 0, 0]);
-    let with = |settings, ignored: &[u32]| side(inputs(&first, &second, settings, ignored));
+    let with = |settings, ignored: &[u32]| side(lending(&first, &second, settings, ignored));
     assert_eq!(with(PLAIN, &[]), Ok(2));
     assert_eq!(with(PLAIN, &[9]), Ok(1));
     assert_eq!(with(PLAIN, &[2]), Ok(1));
@@ -266,7 +255,7 @@ fn a_list_may_unsort_a_side() {
 fn the_mark_of_an_unsorted_side_is_read_as_unknown() {
     let first = state(&[(1, 2), (1, 5), (1, 3)], [0, 2, 0]);
     let second = state(&[(2, 7), (4, 8), (3, 9)], [2, 0, 0]);
-    let with = |ignored: &[u32]| side(inputs(&first, &second, PLAIN, ignored));
+    let with = |ignored: &[u32]| side(lending(&first, &second, PLAIN, ignored));
     assert_eq!(with(&[]), Err(7));
     assert_eq!(with(&[9]), Err(7));
     assert_eq!(with(&[5, 2]), Ok(1));
@@ -279,7 +268,7 @@ fn malformed_as_lent() {
     let first = |mark| state(&[(1, 5), (1, 2)], [0, mark, 0]);
     let second = |mark| state(&[(5, 5), (2, 7)], [mark, 0, 0]);
     let acceptor = |mark| state(&[(0, 5), (0, 2)], [0, 0, mark]);
-    let with = |first: Vec<u32>, second: Vec<u32>| side(inputs(&first, &second, PLAIN, &[5, 2]));
+    let with = |first: Vec<u32>, second: Vec<u32>| side(lending(&first, &second, PLAIN, &[5, 2]));
     assert_eq!(with(first(0), second(0)), Ok(1));
     assert_eq!(with(first(2), second(2)), Ok(1));
     assert_eq!(with(first(1), second(0)), Err(2));
@@ -293,11 +282,11 @@ fn malformed_as_lent() {
 fn outer_labels_stay() {
     let first = state(&[(5, 5), (5, 2)], [0; 3]);
     let second = state(&[(2, 5), (5, 5)], [0; 3]);
-    let with = |ignored: &[u32]| labels(inputs(&first, &second, PLAIN, ignored));
+    let with = |ignored: &[u32]| labels(lending(&first, &second, PLAIN, ignored));
     assert_eq!(with(&[]), [(5, 5), (5, 5)]);
     // Side output: the first's epsilon alone, both by 2, and of the second's epsilon it alone and both at once.
     let trivial = [0, Filter::Trivial as u32, MAX, 0, MAX, 0];
-    let with = |ignored: &[u32]| labels(inputs(&first, &second, trivial, ignored));
+    let with = |ignored: &[u32]| labels(lending(&first, &second, trivial, ignored));
     assert_eq!(with(&[5]), [(5, 0), (5, 5), (0, 5), (5, 5)]);
 }
 
@@ -311,7 +300,7 @@ fn an_acceptor_mark_that_is_true_no_longer() {
     let mut unlisted = rules.clone();
     unlisted[1] = 2;
     unlisted.extend([5, 5, 0, 0, 0]);
-    let with = |rules: &[u32], ignored: &[u32]| labels(inputs(&letter, rules, settings, ignored));
+    let with = |rules: &[u32], ignored: &[u32]| labels(lending(&letter, rules, settings, ignored));
     for rules in [&rules, &unlisted] {
         assert_eq!(with(rules, &[]), [(3, 3), (1, 0)]);
         assert_eq!(with(rules, &[8]), [(3, 3), (1, 0)]);
@@ -330,7 +319,7 @@ fn a_listed_sigma_is_exempt() {
     let rules = state(&[(9, 7)], [1, 0, 0]);
     let settings = [0, 0, MAX, 0, 9, 0];
     let open = |first: &[u32], ignored: &[u32]| {
-        Fixed::open(inputs(first, &rules, settings, ignored), ROOM)
+        Fixed::open(lending(first, &rules, settings, ignored), ROOM)
     };
     for ignored in [&[][..], &[9], &[30, 9]] {
         let mut matched = open(&letters, ignored).unwrap();
@@ -399,7 +388,7 @@ type Cure = fn(&mut Inputs);
 #[test]
 fn the_order_of_the_checks() {
     let falling = state(&[(9, 9), (5, 5)], [0; 3]);
-    let mut inputs = inputs(&falling, &falling, [2, 0, 0, 0, 9, 0], &[4, 0, MAX]);
+    let mut inputs = lending(&falling, &falling, [2, 0, 0, 0, 9, 0], &[4, 0, MAX]);
     inputs.first[2] = 2;
     inputs.second[2] = 2;
     let cures: [(u32, Cure); 9] = [

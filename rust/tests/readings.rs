@@ -351,6 +351,7 @@ fn with_sigma_on_the_second_and_ignored_labels_too() {
         let mut drawn = with_sigma(draw);
         drawn.ignored = draw.some_ignored();
         drawn.ignored.retain(|&label| label != SIGMA);
+        drawn.ignored.push(30);
         drawn
     });
 }

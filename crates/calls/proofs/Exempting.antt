@@ -1,6 +1,6 @@
 -- 02, 2.8: a label is heard as by 2.7 for the list without the sigma labels; the checks 2 and 3 stand before all that goes by an acceptor mark.
-use mathlib.Core.Path.{_≡_, refl, sym, _∙_, ap, fun-ext, subst}
-use mathlib.Core.Bool.{Bool, true, false, not, cond}
+use mathlib.Core.Path.{_≡_, refl, _∙_, ap, fun-ext, subst}
+use mathlib.Core.Bool.{Bool, true, false, not}
 use mathlib.Core.List.{List, [], _∷_}
 use mathlib.Core.Option.{Option}
 use Prim.Native.Nat.{ℕ}
@@ -10,9 +10,9 @@ use Rattle.words.specs.Weights.{kindOf}
 use Rattle.words.specs.Filters.{filterOf}
 use Rattle.words.specs.Matches.{MatchType, inputs, outputs}
 use Rattle.words.specs.Machines.{machineOf, acceptorMark, wellFormedUpTo}
-use Rattle.words.specs.Ignored.{Ignored, ignoredOk, heard, relabelled, otherwise, markRead, acceptorAfter, wordsRelabelled, wordsReplaced}
-use Rattle.words.specs.Sides.{Side, sideOf}
-use Rattle.words.specs.Sigmas.{has, Operand}
+use Rattle.words.specs.Ignored.{ignoredOk, heard, relabelled, otherwise, markRead, acceptorAfter, wordsRelabelled, wordsReplaced}
+use Rattle.words.specs.Sides.{sideOf}
+use Rattle.words.specs.Sigmas.{has}
 use Rattle.words.specs.Settings.{Settings, settingsOk, Lent, ignoredBy, operandBy, operandUnder, operand1, operand2}
 use Rattle.words.proofs.ExemptLaws.{heard-without, kept-whole, acceptor-stays}
 use Rattle.calls.specs.Store.{Layout}

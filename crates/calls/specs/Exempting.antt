@@ -1,6 +1,6 @@
 -- 02, 2.8, over whole calls: "Every answer is that of 2.7 for the list without them, save that side marks still read as 0 and 18 judges the list as lent."
 use mathlib.Core.Path.{_≡_}
-use mathlib.Core.Bool.{Bool, true, false, not, _||_, cond}
+use mathlib.Core.Bool.{true, false, not, _||_, cond}
 use mathlib.Core.List.{List, []}
 use mathlib.Core.Option.{Option}
 use Prim.Native.Nat.{ℕ}

@@ -30,11 +30,6 @@ heard-small g x = cond-small (isIgnored g x) x
 pub heard-zero : (g : Ignored) → heard g 0 ≡ 0
 heard-zero g = omega (arith, heard-small g 0)
 
--- "An empty list changes nothing"
-pub heard-none : (σ τ x : ℕ) → heard (record { list = []; sigma1 = σ; sigma2 = τ }) x ≡ x
-unfolding heard has
-heard-none σ τ x = refl
-
 -- the words that `inRecords` changes, and the others
 module _ (f : ℕ → ℕ) (z : f 0 ≡ 0) where
   pub length-records : (k : ℕ) (l : List ℕ) → length (inRecords f k l) ≡ length l
@@ -279,10 +274,6 @@ module _ (on : MatchType) (g : Ignored) (m : List ℕ) where
   pub read-count : trCount (wordsRead on g m) ≡ trCount m
   unfolding wordsRead
   read-count = read-same (g .list) trCount m (wordsReplaced on g m) (same-count on g m)
-
-  pub read-start : startWord (wordsRead on g m) ≡ startWord m
-  unfolding wordsRead
-  read-start = read-same (g .list) startWord m (wordsReplaced on g m) (same-start on g m)
 
   pub read-state : (s k : ℕ) → k < stateWords → stateWord (wordsRead on g m) s k ≡ stateWord m s k
   unfolding wordsRead

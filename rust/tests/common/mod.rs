@@ -178,6 +178,18 @@ impl Draw {
     }
 }
 
+/// Two machines in words, without allowed lists.
+pub fn lending(first: &[u32], second: &[u32], settings: [u32; 6], ignored: &[u32]) -> Inputs {
+    Inputs {
+        first: first.to_vec(),
+        second: second.to_vec(),
+        settings,
+        allowed1: None,
+        allowed2: None,
+        ignored: ignored.to_vec(),
+    }
+}
+
 /// Two chains of so many states, the first with output epsilon all along, the second with input epsilon: every pair of
 /// their states is found, side × side.
 pub fn grid(side: u32) -> Inputs {

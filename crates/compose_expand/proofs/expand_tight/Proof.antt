@@ -1,5 +1,5 @@
 -- The facts are those of the two lists of the state; where the largest weights fit, they are all that the counted expansion asks.
-use mathlib.Core.Path.{_≡_, sym, subst}
+use mathlib.Core.Path.{sym, subst}
 use Prim.Native.Nat.{_<_}
 use Rattle.words.specs.Weights.{kindOf}
 use Rattle.words.specs.Matches.{inputs, outputs}
