@@ -3,7 +3,8 @@
 
 usage: python3 tools/respell.py [--pages]     in the repository, once, after the port's scripts
 It turns whole words of specs/, proofs/, the clauses and ghost items of src/ and the texts of must-fail/. In proofs/F/ a word that the file declares itself, and one
-right behind a dot that has a dash, stay: those name goals and steps, which Rattle makes. A word of the table that is in snake case already is a lemma's: it turns in specs/ and proofs/ alone. With --pages it turns the code spans of README.md, docs/ and the lists of tests/ alone.
+right behind a dot that has a dash, stay: those name goals and steps, which Rattle makes. A word of the table that is in snake case already is a lemma's: it turns in specs/ and proofs/ alone.
+A name that a file takes from another library stays. With --pages it turns the code spans of README.md, docs/ and the lists of tests/ alone.
 """
 import os
 import re
@@ -15,6 +16,7 @@ WORD = re.compile(r'[^\s(){}.;,@"«»`]+')
 SPAN = re.compile(r"`[^`\n]+`")
 QUOTED = re.compile(r'"(?:[^"\\\n]|\\.)*"')
 DECLARED = re.compile(r"^(?:abbrev |pub )*([^\s:(){}.;,]+) :", re.M)
+LIBRARY = re.compile(r"^use (?!Rattle\.(?!std\b))[^\s{]+?\.\{([^}]*)\}", re.M)
 IN_FUNCTION = ("Proof.antt", "Answers.antt", "Invariants.antt")
 
 
@@ -65,11 +67,12 @@ def rust(part):
 
 def new_text(path, text):
     name = os.path.basename(path)
+    library = {item.split(" as ")[0].strip() for items in LIBRARY.findall(text) for item in items.split(",")}
     if name in IN_FUNCTION:
-        own = set(DECLARED.findall(text))
+        own = set(DECLARED.findall(text)) | library
         return lines(text, "--", lambda part: turned(part, own, False, True))
     if name.endswith(".antt"):
-        return lines(text, "--", lambda part: turned(part, lemmas=True))
+        return lines(text, "--", lambda part: turned(part, library, lemmas=True))
     if name.endswith(".rt"):
         return lines(text, "//", rust)
     return "\n".join(turned(line) if line.startswith(("old:", "new:")) else comment(line) for line in text.split("\n"))

@@ -1,5 +1,7 @@
 // Runs each public function of the leaves on words that are no machine, and on one machine; prints what it answers.
 // Lines: p, what holds in fact; h, the header; s, a state; r, a record; f, the filters' facts; m, the side; w, weights; c, cells of the table.
+#![tactic(auto)]
+
 mod show;
 
 use show::{cells, machine, weights};

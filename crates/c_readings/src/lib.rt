@@ -1,1 +1,2 @@
 // Demand 3 at the border to C; no code.
+#![tactic(auto)]

@@ -16,7 +16,7 @@ use store_records::{Used, store};
 use trim_call::trim;
 
 // What is lent at every call.
-#[derive(Drop)]
+#[derive(Clone, Copy)]
 struct Lending {
     m1: Span,
     m2: Span,

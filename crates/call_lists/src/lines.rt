@@ -6,7 +6,7 @@ use fst::word;
 use store_records::store;
 
 // A part of the words that were read.
-#[derive(Drop)]
+#[derive(Clone, Copy)]
 pub struct Span {
     pub at: u32,
     pub count: u32,
@@ -18,7 +18,7 @@ fn with_digit(value: u32, digit: u8) -> u32 {
 }
 
 // How many words are read, the one being read, and whether there is one.
-#[derive(Drop)]
+#[derive(Clone, Copy)]
 struct Reading {
     count: u32,
     value: u32,

@@ -1,4 +1,6 @@
 // Reads lines of decimal words, each with the count of its words first, makes the calls that they name and prints what each answers. drive.rt says what a line means.
+#![tactic(auto)]
+
 mod drive;
 mod lines;
 mod show;

@@ -1,6 +1,6 @@
 -- Triples counted class by class: those below a class and those of it are those below the next one, and below the last stand all.
 use mathlib.Core.Path.{◌≡◌, refl, sym, ◌∙◌, ap}
-use mathlib.Core.Bool.{Bool, true, false, not, ◌&&◌, and-true, and_false}
+use mathlib.Core.Bool.{Bool, true, false, not, ◌&&◌, and-true, and-false}
 use mathlib.Core.List.{List, [], ◌∷◌}
 use Prim.Native.Nat.{ℕ, zero, suc, ◌+◌, ◌*◌, ◌%◌, ◌<◌, ◌≤◌}
 use native.Mathlib.Nat.{mod-lt}
@@ -51,14 +51,14 @@ below_still true x c = go (ltb x c) refl
   where
     go : (b : Bool) → ltb x c ≡ b → ltb x (c + 1) && ltb x c ≡ ltb x c
     go true p = let l = ltb-true x c p in rw (lt-ltb x (c + 1) (omega (arith, l)))
-    go false p = rw (p, and_false (ltb x (c + 1)))
+    go false p = rw (p, and-false (ltb x (c + 1)))
 
 just_there : (q : Bool) (x c : ℕ) → (q && ltb x (c + 1)) && not (ltb x c) ≡ eqb x c && q
-just_there false x c = sym (and_false (eqb x c))
+just_there false x c = sym (and-false (eqb x c))
 just_there true x c = go (ltb x c) refl (ltb x (c + 1)) refl
   where
     go : (b : Bool) → ltb x c ≡ b → (b' : Bool) → ltb x (c + 1) ≡ b' → ltb x (c + 1) && not (ltb x c) ≡ eqb x c && true
-    go true p b' p' = let l = ltb-true x c p in rw (p, and_false (ltb x (c + 1)), ne_eqb x c (omega (arith, l))) refl
+    go true p b' p' = let l = ltb-true x c p in rw (p, and-false (ltb x (c + 1)), ne_eqb x c (omega (arith, l))) refl
     go false p true p' = let l = ltb-false x c p in let l' = ltb-true x (c + 1) p' in rw (p, p', eq-eqb x c (omega (arith, l, l'))) refl
     go false p false p' = let l' = ltb-false x (c + 1) p' in rw (p', ne_eqb x c (omega (arith, l'))) refl
 
@@ -73,7 +73,7 @@ new_class Q h c k steps =
 
 -- before the first class
 new_first : (Q : Triple → Bool) (h : Triple → ℕ) (k : ℕ) (steps : List (Checked Step)) → new_within (λ t. Q t && ltb (h t) 0) k steps ≡ 0
-new_first Q h k steps = new_none (λ t. Q t && ltb (h t) 0) k steps (λ t. ap (λ b. Q t && b) (le-ltb (h t) 0 (omega arith)) ∙ and_false (Q t))
+new_first Q h k steps = new_none (λ t. Q t && ltb (h t) 0) k steps (λ t. ap (λ b. Q t && b) (le-ltb (h t) 0 (omega arith)) ∙ and-false (Q t))
 
 -- after the last class
 new_last : (Q : Triple → Bool) (h : Triple → ℕ) (c k : ℕ) (steps : List (Checked Step)) → ((t : Triple) → h t < c) → new_within (λ t. Q t && ltb (h t) c) k steps ≡ new_within Q k steps

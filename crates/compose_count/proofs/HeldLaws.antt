@@ -1,6 +1,6 @@
 -- What is noted of a whole list of steps: as long as the set was never full it holds each triple that is looked for, once; else it holds some of them; and the steps are counted up to MAX.
 use mathlib.Core.Path.{◌≡◌, refl, sym, ◌∙◌, ap, subst}
-use mathlib.Core.Bool.{Bool, true, false, not, ◌&&◌, and_false}
+use mathlib.Core.Bool.{Bool, true, false, not, ◌&&◌, and-false}
 use mathlib.Core.List.{List, [], ◌∷◌}
 use Prim.Native.Nat.{ℕ, zero, suc, ◌+◌, ◌≤◌, min}
 use native.Mathlib.Omega.{arith}
@@ -105,7 +105,7 @@ none_held : (P : Triple → Bool) (steps : List (Checked Step)) → Filled P 0 s
 unfolding new_within reached_within state_room_with
 none_held P steps = record {
   chained = headed_none 2039 12288 (omega arith);
-  holding = λ t. holds_none (replicate 2039 0) (replicate 12288 0) t ∙ sym (and_false (P t));
+  holding = λ t. holds_none (replicate 2039 0) (replicate 12288 0) t ∙ sym (and-false (P t));
   number = refl;
   fits = omega arith;
   room_kept = set_room_lem;

@@ -1,4 +1,6 @@
 // The weighing of a composed state none of whose steps is a refusal: whether there is room for them, by plain loops and a set of fixed size, class by class of a hash.
+#![tactic(auto)]
+
 mod notes;
 
 ghost use Rattle.std.specs.Prelude.{◌≡◌, false, ◌||◌, List, ℕ, ◌<◌, ◌≤◌, min, length};
@@ -23,7 +25,7 @@ use triple_set::{SET_HEADS, SET_WORDS};
 const CLASS_STEPS: u32 = 1536;
 
 // Whether there is a record for all that the steps store; unknown: a class has more than its set has room for, and what the sets hold does not pass what is left.
-#[derive(Drop)]
+#[derive(Clone, Copy)]
 pub enum Room {
     Suffices,
     Lacks,

@@ -30,7 +30,7 @@ use triple_set::take;
 const MAX: u32 = 4294967295;
 
 // Whose steps are gone through, and which targets are looked for: those that the table lacks, of one class of a hash.
-#[derive(Drop)]
+#[derive(Clone, Copy)]
 pub struct Counting {
     pub plan: Plan,
     pub used: Used,
@@ -39,7 +39,7 @@ pub struct Counting {
 }
 
 // What was noted so far: the triples held, whether one found no room, and the steps, counted up to MAX.
-#[derive(Drop)]
+#[derive(Clone, Copy)]
 pub struct Noted {
     pub held: u32,
     pub full: bool,

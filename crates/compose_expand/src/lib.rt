@@ -1,5 +1,7 @@
 // The expansion of a composed state (compose_fst_op.rs, `compute_trs`): as plain loops where the facts of its two lists shut out every refusal, counted before where room alone may lack,
 // else weighed and then stored.
+#![tactic(auto)]
+
 ghost use Rattle.std.specs.Prelude.{◌≡◌, true, ◌<◌, length};
 ghost use Rattle.words.specs.Labels.{good};
 ghost use Rattle.words.specs.Weights.{kind_of};

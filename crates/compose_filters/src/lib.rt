@@ -1,4 +1,6 @@
 // The composition filters (compose_filters/mod.rs): what a filter sees of the two states, and the table.
+#![tactic(auto)]
+
 mod alt_sequence_compose_filter;
 mod match_compose_filter;
 mod no_match_compose_filter;
@@ -17,7 +19,7 @@ ghost use Rattle.compose_filters.specs.Meaning.{move_means, facts_mean, filtered
 use fst::{EPS_LABEL, MatchType, Sigmas, StateId, first_tr, inner_label, is_final, next_tr};
 
 // The row of the table: which of the machines moves, and by what label.
-#[derive(Drop)]
+#[derive(Clone, Copy)]
 pub enum MoveKind {
     Lone1,
     Lone2,
@@ -26,7 +28,7 @@ pub enum MoveKind {
 }
 
 // For each machine: no epsilon on its inner side; only epsilons there, and the state not final.
-#[derive(Drop)]
+#[derive(Clone, Copy)]
 pub struct Facts {
     pub none1: bool,
     pub all1: bool,
@@ -35,7 +37,7 @@ pub struct Facts {
 }
 
 // A move is kept, with the next filter state, or dropped.
-#[derive(Drop)]
+#[derive(Clone, Copy)]
 pub enum Filtered {
     Kept(u32),
     Dropped,

@@ -10,7 +10,7 @@ use compose_state_tuple::ComposeStateTuple;
 use fst::{final_weight, is_final};
 use semirings::{Product, is_zero, times};
 
-#[derive(Drop)]
+#[derive(Clone, Copy)]
 pub enum FinalWeight {
     Weight(u32),
     NotFinal,

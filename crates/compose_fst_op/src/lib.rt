@@ -1,4 +1,6 @@
 // A composition (compose_fst_op.rs): its settings and side, its start, and the final weight of a composed state. The machines are lent; no memory is known here.
+#![tactic(auto)]
+
 mod finals;
 mod start;
 
@@ -12,7 +14,7 @@ use matchers::Sigma;
 pub use start::{ComposeStart, compute_start};
 
 // The settings of a composition and its side. The machines and their allowed lists are lent beside them.
-#[derive(Drop)]
+#[derive(Clone, Copy)]
 pub struct ComposeFstOpOptions {
     // 0: cost; 1: count.
     pub kind: u32,

@@ -8,7 +8,7 @@ use compose_state_tuple::ComposeStateTuple;
 use fst::{StartState, start};
 
 // The state where the composition starts, if both machines have a start.
-#[derive(Drop)]
+#[derive(Clone, Copy)]
 pub enum ComposeStart {
     At(ComposeStateTuple),
     Missing,

@@ -1,4 +1,6 @@
 // The moves of a composed state, one at each asking (compose_fst_op.rs, `ordered_expand` and what it calls). A cursor keeps its composed state and places; no move is stored, and no memory is known here.
+#![tactic(auto)]
+
 mod moves;
 mod walks;
 
@@ -26,7 +28,7 @@ use moves::Walk;
 use walks::{Along, ordered_expand};
 
 // How far the moves of a composed state are given.
-#[derive(Drop)]
+#[derive(Clone, Copy)]
 pub struct MoveCursor {
     pub tuple: ComposeStateTuple,
     // What the filter sees there.
@@ -40,14 +42,14 @@ pub struct MoveCursor {
 }
 
 // The cursor before the first move, or the number of the refusal.
-#[derive(Drop)]
+#[derive(Clone, Copy)]
 pub enum MovesStart {
     At(MoveCursor),
     Refused(u32),
 }
 
 // The next composed transition, with the cursor to ask on with; the end; or the number of a refusal.
-#[derive(Drop)]
+#[derive(Clone, Copy)]
 pub enum NextStep {
     Step(ComposeTr, MoveCursor),
     Done,

@@ -14,7 +14,7 @@ use matchers::{IterItemMatcher, Sigma};
 use semirings::{Product, one, times};
 
 // A composed transition. Its target is not numbered yet.
-#[derive(Drop)]
+#[derive(Clone, Copy)]
 pub struct ComposeTr {
     pub ilabel: Label,
     pub olabel: Label,
@@ -23,7 +23,7 @@ pub struct ComposeTr {
 }
 
 // What stays the same while the moves of a composed state are given.
-#[derive(Drop)]
+#[derive(Clone, Copy)]
 pub struct Walk {
     pub kind: u32,
     pub filter: u32,
@@ -38,7 +38,7 @@ pub struct Walk {
 }
 
 // A move makes a transition, is dropped by the filter, or is refused by a number.
-#[derive(Drop)]
+#[derive(Clone, Copy)]
 pub enum Made {
     Step(ComposeTr),
     Dropped,

@@ -14,7 +14,7 @@ use fst::{MatchType, Sigmas, StateId, first_tr, get_tr, inner_label, next_tr};
 use matchers::{Cursor, IterItemMatcher, SigmaIter, Step, ask, sigma_iter};
 
 // The next composed transition, with the walked record and the matches left of it; the end; or the number of a refusal.
-#[derive(Drop)]
+#[derive(Clone, Copy)]
 pub enum Along {
     Step(ComposeTr, u32, Cursor),
     Done,

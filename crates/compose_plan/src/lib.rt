@@ -1,4 +1,6 @@
 // What the facts of the two lists of a composed state tell: whether no refusal can stand, and how its moves are gone through as plain loops, counted before where room alone may lack.
+#![tactic(auto)]
+
 mod bounds;
 
 ghost use Rattle.std.specs.Prelude.{◌≡◌, true, List, ℕ, ◌<◌};
@@ -176,7 +178,7 @@ pub fn store_plain(
 }
 
 // What became of the steps of a composed state: stored, with the used counts after them; 13, for lack of room; or nothing, and nothing is told.
-#[derive(Drop)]
+#[derive(Clone, Copy)]
 pub enum Stored {
     After(Used),
     Lacks,

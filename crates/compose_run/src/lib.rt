@@ -1,4 +1,6 @@
 // What a lazy composition does below the checks of a session: the expansion of a found state, and `compute`, which expands in number order.
+#![tactic(auto)]
+
 ghost use Rattle.std.specs.Prelude.{◌≡◌, ◌<◌};
 ghost use Rattle.words.specs.Labels.{good};
 ghost use Rattle.words.specs.Matches.{inputs, outputs};
@@ -22,7 +24,7 @@ use store_records::{Used, is_expanded, state_room};
 use tr_lists::part_of;
 
 // The used counts after all expansions, or those of the expansions before the refused one, with the number of its refusal.
-#[derive(Drop)]
+#[derive(Clone, Copy)]
 pub enum Ran {
     Done(Used),
     Refused(u32, Used),
@@ -81,7 +83,7 @@ fn compute_state(
 }
 
 // Where a run stands when it ends: the state with which the next one goes on, which is the refused one where one is refused.
-#[derive(Drop)]
+#[derive(Clone, Copy)]
 pub struct Stopped {
     pub next: StateId,
     pub ran: Ran,

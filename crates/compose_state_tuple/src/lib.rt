@@ -1,4 +1,6 @@
 // A composed state (compose_state_tuple.rs), and whether two are the same. No memory is known here.
+#![tactic(auto)]
+
 ghost use Rattle.std.specs.Prelude.{◌≡◌};
 ghost use Rattle.words.specs.Steps.{same_triple};
 ghost use Rattle.compose_state_tuple.specs.Meaning.{tuple_means};
@@ -6,7 +8,7 @@ ghost use Rattle.compose_state_tuple.specs.Meaning.{tuple_means};
 use fst::StateId;
 
 // A composed state: the filter state, and the state of each machine.
-#[derive(Drop)]
+#[derive(Clone, Copy)]
 pub struct ComposeStateTuple {
     pub fs: u32,
     pub s1: StateId,

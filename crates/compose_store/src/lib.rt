@@ -1,5 +1,7 @@
 // The expansion of a composed state (compose_fst_op.rs, `compute_trs`) where a refusal may stand: first weighed, then stored. The second pass cannot fail: each kept move's record goes through the lent tail, and a
 // target that the table lacks becomes a state.
+#![tactic(auto)]
+
 ghost use Rattle.std.specs.Prelude.{◌≡◌, List, ℕ, ◌+◌, ◌^◌, ◌≤◌, ◌<◌};
 ghost use Rattle.words.specs.Labels.{good, and_then};
 ghost use Rattle.words.specs.Steps.{Composition, steps_at};
@@ -26,7 +28,7 @@ use store_records::{Used, get_tuple, mark_expanded, push_tr};
 use tr_lists::Part;
 
 // The new records of a state's list with the used counts after it, or the number of the refusal.
-#[derive(Drop)]
+#[derive(Clone, Copy)]
 pub enum Expansion {
     New(Part, Used),
     Refused(u32),

@@ -1,5 +1,7 @@
 // The moves of a composed state as plain loops, each stored as it is met (compose_fst_op.rs, `ordered_expand` and what it calls). It serves where no refusal can stand and no label is sigma: nothing
 // is weighed before, and a record's link says that another follows until the last one is ended.
+#![tactic(auto)]
+
 mod pairs;
 
 ghost use Rattle.std.specs.Prelude.{◌≡◌, true, List, ℕ, ◌≤◌, length};
@@ -25,7 +27,7 @@ use sorted_lists::{SortedList, find};
 use store_records::{TR_SIZE, Used, store};
 
 // How the moves of a composed state are gone through: one machine's list is walked, and each label is looked up in the other's.
-#[derive(Drop)]
+#[derive(Clone, Copy)]
 pub struct Plan {
     // 0: cost; 1: count.
     pub kind: u32,

@@ -1,6 +1,6 @@
 -- Triples counted once each: one step more at the end, and one triple less.
 use mathlib.Core.Path.{◌≡◌, refl, sym, ◌∙◌, ap}
-use mathlib.Core.Bool.{Bool, true, false, not, ◌&&◌, ◌||◌, cond, and-true, and_false}
+use mathlib.Core.Bool.{Bool, true, false, not, ◌&&◌, ◌||◌, cond, and-true, and-false}
 use mathlib.Core.List.{List, [], ◌∷◌}
 use Prim.Native.Nat.{ℕ, zero, suc, ◌+◌, ◌≤◌}
 use native.Mathlib.Omega.{arith}
@@ -71,9 +71,9 @@ and_again true false = refl
 -- one triple less: it counted once where it has P and some step goes to it
 pub new_but : (P : Triple → Bool) (a : Triple) (k : ℕ) (steps : List (Checked Step)) → new_within P k steps ≡ one (P a && reached_within a k steps) + new_within (but P a) k steps
 unfolding new_within reached_within
-new_but P a zero steps = rw (and_false (P a)) refl
-new_but P a (suc k) [] = rw (and_false (P a)) refl
-new_but P a (suc k) (refused n ∷ others) = rw (and_false (P a)) refl
+new_but P a zero steps = rw (and-false (P a)) refl
+new_but P a (suc k) [] = rw (and-false (P a)) refl
+new_but P a (suc k) (refused n ∷ others) = rw (and-false (P a)) refl
 new_but P a (suc k) (good s ∷ others) = go (same_triple s.to a) refl (new_but (but P s.to) a k others)
   where
     go : (b : Bool) → same_triple s.to a ≡ b
@@ -82,7 +82,7 @@ new_but P a (suc k) (good s ∷ others) = go (same_triple s.to a) refl (new_but 
     go true p rec =
         let z : s.to ≡ a = same_triple_lem s.to a p in
         let again = new_same (but (but P a) a) (but P a) k others (λ t. and_again (P t) (not (same_triple a t))) in
-        rw (z, and-true (P a), same_self a, and_false (P a), again) (omega arith)
+        rw (z, and-true (P a), same_self a, and-false (P a), again) (omega arith)
     go false p rec =
         let q = same_sym s.to a p in
         let swap = new_same (but (but P s.to) a) (but (but P a) s.to) k others (λ t. and_swap (P t) (not (same_triple s.to t)) (not (same_triple a t))) in

@@ -1,6 +1,6 @@
 -- A set while it is filled, and the marks of its triples while the earlier steps are walked.
 use mathlib.Core.Path.{◌≡◌, refl, sym, ◌∙◌, ap, subst}
-use mathlib.Core.Bool.{Bool, true, false, not, ◌&&◌, ◌||◌, and-true, and_false, or_false, or_assoc, true≢false, false≢true}
+use mathlib.Core.Bool.{Bool, true, false, not, ◌&&◌, ◌||◌, and-true, and-false, or-false, or_assoc, true≢false, false≢true}
 use mathlib.Core.List.{List, ◌∷◌}
 use mathlib.Core.Option.{Option, none, some, none-ne-some, some-injective}
 use Prim.Native.Nat.{ℕ, suc, ◌+◌, ◌-◌, ◌*◌, ◌/◌, ◌≤◌, ◌<◌, min}
@@ -57,7 +57,7 @@ module _ (P : Triple → Bool) (k : ℕ) (steps : List (Checked Step)) (room : �
     earlier = reached_within s.to k steps
 
     within_other : (u : Triple) → same_triple s.to u ≡ false → reached_within u (suc k) steps ≡ reached_within u k steps
-    within_other u p = within_next u k steps s others ahead ∙ (ap (λ b. reached_within u k steps || b) p ∙ or_false (reached_within u k steps))
+    within_other u p = within_next u k steps s others ahead ∙ (ap (λ b. reached_within u k steps || b) p ∙ or-false (reached_within u k steps))
 
     within_this : reached_within s.to (suc k) steps ≡ true
     within_this = within_next s.to k steps s others ahead ∙ (ap (λ b. earlier || b) (same_self s.to) ∙ or_true earlier)
@@ -88,7 +88,7 @@ module _ (P : Triple → Bool) (k : ℕ) (steps : List (Checked Step)) (room : �
     }
       where
         by_same : (u : Triple) (b : Bool) → same_triple s.to u ≡ b → (holds d u || same_triple s.to u) ≡ (P u && reached_within u (suc k) steps)
-        by_same u false p = ap (λ b. holds d u || b) p ∙ (or_false (holds d u) ∙ (fill.holding u ∙ ap (λ x. P u && x) (sym (within_other u p))))
+        by_same u false p = ap (λ b. holds d u || b) p ∙ (or-false (holds d u) ∙ (fill.holding u ∙ ap (λ x. P u && x) (sym (within_other u p))))
         by_same u true p = subst (λ x. (holds d x || same_triple s.to x) ≡ (P x && reached_within x (suc k) steps)) (same_triple_lem s.to u p)
             (ap (λ b. holds d s.to || b) (same_self s.to) ∙ (or_true (holds d s.to) ∙ and_first (P s.to) (not earlier) e ∙ sym (ap (λ x. P s.to && x) within_this ∙ and-true (P s.to))))
 
@@ -150,7 +150,7 @@ module _ (d : Store) (marks : List ℕ) (a : Triple) where
 module _ (d : Store) (marks : List ℕ) (Q : Triple → Bool) (a : Triple) (marked : Marked d marks Q) where
   -- another triple's mark says the same of it
   other_mark : (t : Triple) → same_triple a t ≡ false → not (Q t) ≡ not (or_this Q a t)
-  other_mark t p = ap not (sym (ap (λ b. Q t || b) p ∙ or_false (Q t)))
+  other_mark t p = ap not (sym (ap (λ b. Q t || b) p ∙ or-false (Q t)))
 
   module _ (chained : Headed d) (long : d.used.states ≤ length marks) where
     pub mark_marks : Marked d (mark_of d marks a).1 (or_this Q a)
@@ -216,7 +216,7 @@ filling_none d before steps heads records h = record {
   counts = omega arith;
   ahead = refl;
   recorded = λ l. absurd (omega arith);
-  filled = record { chained = h; holding = λ t. holds_none heads records t ∙ sym (and_false (missing (find d t))); number = refl; fits = omega arith; room_kept = refl };
+  filled = record { chained = h; holding = λ t. holds_none heads records t ∙ sym (and-false (missing (find d t))); number = refl; fits = omega arith; room_kept = refl };
 }
 
 module _ (d : Store) (before : ℕ) (steps rest : List (Checked Step)) (count room : ℕ) (e : Store) (f : Filling d before steps rest count room e)
@@ -279,7 +279,7 @@ module _ (P : Triple → Bool) (k : ℕ) (steps : List (Checked Step)) (room : �
     pub earlier_done : ((t : Triple) → reached_within t left rest ≡ false) → old + new_within (λ t. P t && not (reached_within t count all)) k steps ≡ d.used.states
     earlier_done ended =
         let n = e.number in
-        let z = new_same (λ t. P t && not (reached_within t count all)) (λ t. P t && not (e.Q t)) k steps (λ t. ap (λ b. P t && not b) (sym (e.reached t) ∙ (ap (λ b. e.Q t || b) (ended t) ∙ or_false (e.Q t)))) in
+        let z = new_same (λ t. P t && not (reached_within t count all)) (λ t. P t && not (e.Q t)) k steps (λ t. ap (λ b. P t && not b) (sym (e.reached t) ∙ (ap (λ b. e.Q t || b) (ended t) ∙ or-false (e.Q t)))) in
         omega (arith, n, z)
 
 -- the room of a set's records

@@ -1,7 +1,7 @@
 -- The weighing refuses just where storing would, with the same number. In the store grown by the first steps a triple is missing just where the table lacked it and none of those
 -- steps went to it; form is kept along, so the laws of the chains hold at each step. Only form is assumed: memory that passes the checks need not come from calls.
 use mathlib.Core.Path.{◌≡◌, refl, sym, ◌∙◌, ap}
-use mathlib.Core.Bool.{Bool, true, false, not, ◌&&◌, ◌||◌, and-true, and_false, or_false, or_assoc}
+use mathlib.Core.Bool.{Bool, true, false, not, ◌&&◌, ◌||◌, and-true, and-false, or-false, or_assoc}
 use mathlib.Core.List.Memᴰ.{head as here}
 use mathlib.Core.List.Memᴰ.{tail as there}
 use mathlib.Core.List.{List, [], ◌∷◌, Memᴰ as In}
@@ -37,7 +37,7 @@ ahead_next (suc i) (good r ∷ all) s others e = ahead_next i all s others e
 pub within_next : (t : Triple) (i : ℕ) (all : List (Checked Step)) (s : Step) (others : List (Checked Step)) → Ahead i all (good s ∷ others)
     → reached_within t (suc i) all ≡ (reached_within t i all || same_triple s.to t)
 unfolding reached_within
-within_next t zero all s others e = rw e (or_false (same_triple s.to t))
+within_next t zero all s others e = rw e (or-false (same_triple s.to t))
 within_next t (suc i) [] s others e = absurd e
 within_next t (suc i) (refused n ∷ all) s others e = absurd e
 within_next t (suc i) (good r ∷ all) s others e =
@@ -68,7 +68,7 @@ lacks_next : (e f : Store) (to : Triple) (n : ℕ) → find f to ≡ some n → 
 lacks_next e f to n found other t = go (same_triple to t) refl
   where
     go : (b : Bool) → same_triple to t ≡ b → (missing (find e t) && not b) ≡ missing (find f t)
-    go true p = and_false (missing (find e t)) ∙ sym (ap missing (ap (find f) (sym (same_triple_lem to t p)) ∙ found))
+    go true p = and-false (missing (find e t)) ∙ sym (ap missing (ap (find f) (sym (same_triple_lem to t p)) ∙ found))
     go false p = and-true (missing (find e t)) ∙ ap missing (sym (other t p))
 
 module _ {S1 S2 : ℕ} (d : Store) (all : List (Checked Step)) (last : ℕ) where

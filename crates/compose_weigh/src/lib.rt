@@ -1,4 +1,6 @@
 // The first pass of an expansion (compose_fst_op.rs, `compute_trs`): whether it succeeds, decided without writing.
+#![tactic(auto)]
+
 ghost use Rattle.std.specs.Prelude.{◌≡◌, Bool, not, ◌&&◌, List, ℕ, ◌+◌, ◌-◌, ◌^◌, ◌≤◌, ◌<◌};
 ghost use Rattle.words.specs.Labels.{Checked};
 ghost use Rattle.words.specs.Steps.{Triple, Step};
@@ -22,21 +24,21 @@ use triple_set::{SET_HEADS, SET_WORDS, mark, take};
 const SET_ROOM: usize = 2048;
 
 // No refusal stands, or the number of the first.
-#[derive(Drop)]
+#[derive(Clone, Copy)]
 pub enum Weighed {
     Clear,
     Refused(u32),
 }
 
 // The used states after a step, or no record for a new one.
-#[derive(Drop)]
+#[derive(Clone, Copy)]
 enum Counted {
     States(u32),
     Lacking,
 }
 
 // What stays the same through a weighing: the steps are those from the cursor `start` on.
-#[derive(Drop)]
+#[derive(Clone, Copy)]
 struct Weighing {
     options: ComposeFstOpOptions,
     used: Used,
@@ -44,21 +46,21 @@ struct Weighing {
 }
 
 // A step that has a transition record: its target, and the cursor after it. Else the weighing ends there.
-#[derive(Drop)]
+#[derive(Clone, Copy)]
 enum Kept {
     To(ComposeStateTuple, MoveCursor),
     Ends(Weighed),
 }
 
 // What a walk over the steps met, or that it was left before their end.
-#[derive(Drop)]
+#[derive(Clone, Copy)]
 enum Ending {
     Ends(Weighed),
     Open,
 }
 
 // A number of states for some steps, the number of steps up to the cursor after them, and why they end there.
-#[derive(Drop)]
+#[derive(Clone, Copy)]
 struct Passed {
     states: u32,
     count: u32,

@@ -1,4 +1,6 @@
 // Reads settings and two machines, a line each, and prints the composed machine, or `refused n` and nothing more.
+#![tactic(auto)]
+
 ghost use Rattle.io.specs.Counts.{IsPrefixLen};
 ghost use Rattle.composed.specs.Prints.{Prints};
 

@@ -1,4 +1,6 @@
 // The look-up of a label with its fan-out (02, 2.6): the matches are counted along the list, and their number is stated with the first. The expansion takes `sigma_iter`, which does not count.
+#![tactic(auto)]
+
 ghost use Rattle.std.specs.Prelude.{◌≡◌, ◌+◌, ◌≤◌, cond, eqb, length};
 ghost use Rattle.words.specs.Labels.{MAX, good, and_then};
 ghost use Rattle.words.specs.Machines.{first_of};
@@ -15,7 +17,7 @@ use matchers::{
 };
 
 // What a look-up states of its matches.
-#[derive(Drop)]
+#[derive(Clone, Copy)]
 pub enum CountedIter {
     // How many there are, the first of them, and the cursor to ask on with for the others.
     First(u64, IterItemMatcher, Cursor),

@@ -1,4 +1,6 @@
 // Reads settings, two machines and a query (machine, state, label), a line each, and prints how many matches the look-up of the label gives, or `refused n`.
+#![tactic(auto)]
+
 ghost use Rattle.std.specs.Prelude.{◌≡◌, []};
 ghost use Rattle.std.proofs.Math.Option.{none};
 ghost use Rattle.io.specs.Counts.{IsPrefixLen};

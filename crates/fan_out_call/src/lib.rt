@@ -1,4 +1,6 @@
 // The fan-out of a look-up (02, 2.6) for a caller that is lent no memory: checks 1 to 7 with 18, then 9 for machine and state, then the look-up with its 11. No public function has a precondition.
+#![tactic(auto)]
+
 ghost use Rattle.std.specs.Prelude.{◌≡◌, List, ℕ};
 ghost use Rattle.std.proofs.Math.Option.{Option};
 ghost use Rattle.fan_outs.specs.FanOut.{fan_out, states_of, operand_numbered, fan_out_at, fan_out_of};
@@ -15,7 +17,7 @@ use matchers::Sigma;
 use session_checks::{Settings, side_for};
 
 // The number of matches, or the number of the refusal.
-#[derive(Drop)]
+#[derive(Clone, Copy)]
 pub enum FanOut {
     Count(u32),
     Refused(u32),

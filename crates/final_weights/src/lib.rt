@@ -1,4 +1,6 @@
 // The final weights of all found states: whether each is answered, and two words for each, where all are. The checks 1 to 8 pass, and are not made.
+#![tactic(auto)]
+
 ghost use Rattle.std.specs.Prelude.{◌≡◌, [], ◌∷◌, ◌+◌, ◌*◌, ◌≤◌, length};
 ghost use Rattle.lists.specs.Lists.{put};
 ghost use Rattle.calls.specs.Store.{Memory};
@@ -14,7 +16,7 @@ use fst::StateId;
 use lazy_fst::{AllowedLists, Session, WeightAnswer};
 
 // Whether every final weight was answered; else the number of the first refusal.
-#[derive(Drop)]
+#[derive(Clone, Copy)]
 pub enum AllWeights {
     All,
     Refused(u32),

@@ -1,4 +1,6 @@
 // Labels, state numbers and transitions (lib.rs, tr.rs), and the reading of a machine's words (fst_traits/fst.rs).
+#![tactic(auto)]
+
 mod fst_traits;
 mod ignored;
 mod refusals;
@@ -19,18 +21,18 @@ pub use refusals::{
 pub use tr::Tr;
 
 // A label. It cannot be given where a state number is asked.
-#[derive(Drop)]
+#[derive(Clone, Copy)]
 pub struct Label(pub u32);
 
 // The sigma labels of the two machines: with the list of ignored labels, what decides which labels are replaced.
-#[derive(Drop)]
+#[derive(Clone, Copy)]
 pub struct Sigmas {
     pub first: Label,
     pub second: Label,
 }
 
 // The number of a state.
-#[derive(Drop)]
+#[derive(Clone, Copy)]
 pub struct StateId(pub u32);
 
 // The largest number of states, of transitions, and of records of each sort.
@@ -71,14 +73,14 @@ pub const NO_SIGMAS: Sigmas = Sigmas {
 };
 
 // The state where a machine starts, if it has one.
-#[derive(Drop)]
+#[derive(Clone, Copy)]
 pub enum StartState {
     At(StateId),
     Missing,
 }
 
 // The side of a machine (matchers/mod.rs).
-#[derive(Drop)]
+#[derive(Clone, Copy)]
 pub enum MatchType {
     MatchInput,
     MatchOutput,

@@ -1,7 +1,7 @@
 use crate::{Label, StateId};
 
 // A transition: labels, weight, target.
-#[derive(Drop)]
+#[derive(Clone, Copy)]
 pub struct Tr {
     pub ilabel: Label,
     pub olabel: Label,

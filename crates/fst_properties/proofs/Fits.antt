@@ -1,6 +1,6 @@
 -- What the test of a record comes to by its words; and a form that fits is good, with no label falling on a side that was asked for.
 use mathlib.Core.Path.{◌≡◌, refl, ◌∙◌, ap}
-use mathlib.Core.Bool.{Bool, true, false, not, ◌&&◌, true≢false, and-true, and_false, and_assoc}
+use mathlib.Core.Bool.{Bool, true, false, not, ◌&&◌, true≢false, and-true, and-false, and_assoc}
 use mathlib.Core.List.{List}
 use Prim.Native.Nat.{ℕ, ◌≤◌, ◌<◌}
 use native.Mathlib.Omega.{arith}
@@ -60,7 +60,7 @@ next_low m t n e h l = rw (← e, ne_eqb n 0 (λ z. omega arith), le-ltb t n l)
 
 pub next_high : (m : List ℕ) (t n : ℕ) → n ≡ tr_word m t 4 → 0 < n → tr_count m < n → next_ok m t ≡ false
 unfolding next_ok
-next_high m t n e h l = rw (← e, ne_eqb n 0 (λ z. omega arith), lt-leb n (tr_count m) l) (and_false (ltb t n))
+next_high m t n e h l = rw (← e, ne_eqb n 0 (λ z. omega arith), lt-leb n (tr_count m) l) (and-false (ltb t n))
 
 -- a good next
 pub next_good : (m : List ℕ) (t n : ℕ) → n ≡ tr_word m t 4 → t < n → n ≤ tr_count m → next_ok m t ≡ true

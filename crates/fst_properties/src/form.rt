@@ -19,7 +19,7 @@ use fst_reads::{
 };
 
 // What the records are held to: where record 0 would begin, S, T, and the sides on which no label may fall to the next.
-#[derive(Drop)]
+#[derive(Clone, Copy)]
 struct Asked {
     base: usize,
     states: u32,

@@ -1,4 +1,6 @@
 // What holds of a machine in fact (fst_properties): its sides sorted, input equal to output, its words well formed.
+#![tactic(auto)]
+
 mod check;
 mod form;
 mod properties;

@@ -8,7 +8,7 @@ ghost use Rattle.fst_properties.specs.RecordTests.{rises as risesOf, test_of};
 use fst::{MatchType, Sigmas, inner_label, label_on, next_tr};
 
 // What is asked of a record: input equal to output, or that no label falls from it to the next in its list.
-#[derive(Drop)]
+#[derive(Clone, Copy)]
 pub enum RecordTest {
     SameLabels,
     Rises,

@@ -1,5 +1,7 @@
 // The words of a machine that is known to be well formed (fst_traits/fst.rs): every place is in range, and no first or next breaks its rule, so nothing is tested. Where the records begin is
 // computed once. A word of a state and a word of a record can be read as soon as the size is known to be good: the check of a machine reads so.
+#![tactic(auto)]
+
 ghost use Rattle.std.specs.Prelude.{◌≡◌, true, ◌<◌};
 ghost use Rattle.words.specs.Machines.{word_on, state_words, tr_words, state_count, state_word, tr_word, first_of, next_of, machine_of, size_ok, well_formed};
 ghost use Rattle.words.specs.Matches.{tr_of};

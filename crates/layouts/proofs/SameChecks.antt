@@ -1,7 +1,7 @@
 -- The checks 1 to 9 in both layouts, on memories with the same records: refused by one number in both, passed in both, or 8 in the old one alone, where more records are used than
 -- its limit.
 use mathlib.Core.Path.{◌≡◌, refl, sym, ◌∙◌}
-use mathlib.Core.Bool.{Bool, true, false, not, ◌&&◌, true≢false, and_false}
+use mathlib.Core.Bool.{Bool, true, false, not, ◌&&◌, true≢false, and-false}
 use mathlib.Core.List.{List}
 use mathlib.Core.Logic.{◌⊎◌, inl, inr, ⊎_elim}
 use Prim.Native.Nat.{ℕ, ◌≤◌, ◌<◌}
@@ -49,7 +49,7 @@ large_refused s l h = go (settings_ok s) (well_formed_up_to five.limit l.m1) (we
   where
     malformed : (m : List ℕ) → Large m → well_formed_up_to five.limit m ≡ false
     malformed m (inl x) = rw (lt-leb _ _ x)
-    malformed m (inr x) = rw (lt-leb _ _ x, and_false)
+    malformed m (inr x) = rw (lt-leb _ _ x, and-false)
 
     go : (a b c : Bool) → settings_ok s ≡ a → well_formed_up_to five.limit l.m1 ≡ b → well_formed_up_to five.limit l.m2 ≡ c → (k : ℕ) × (0 < k) × (k ≤ 3) × (side_for_with five s l ≡ refused k)
     go false b c x y z = (1, omega arith, omega arith, rw x)
@@ -66,7 +66,7 @@ fit_split u t a b = go (dec_lt a u) (dec_lt b t)
   where
     go : Dec (a < u) → Dec (b < t) → Fits u t a b
     go (yes x) y = inr (rw (lt-leb u a x), inl x)
-    go (no x) (yes y) = inr (rw (lt-leb t b y) (and_false (leb u a)), inr y)
+    go (no x) (yes y) = inr (rw (lt-leb t b y) (and-false (leb u a)), inr y)
     go (no x) (no y) = inl (rw (le-leb u a (omega arith), le-leb t b (omega arith)), omega arith, omega arith)
 
 -- the checks 1 to 8 in both

@@ -1,5 +1,7 @@
 // The session and its five calls (lazy_fst.rs). Each call takes the session by value and hands the next one back in its answer. None has a precondition: any settings, sessions, slices and
 // state numbers are answered. A call checks, and goes on with its part in `trusted`, which does not.
+#![tactic(auto)]
+
 mod answers;
 mod opening;
 mod trusted;
@@ -20,7 +22,7 @@ use store_records::Used;
 use tr_lists::Part;
 
 // What a call takes and hands back.
-#[derive(Drop)]
+#[derive(Clone, Copy)]
 pub struct Session {
     pub settings: Settings,
     // 0: input, 1: output, 2: both.
@@ -29,35 +31,35 @@ pub struct Session {
 }
 
 // Whether each machine has an allowed list; without one, every label is allowed. The lists are lent beside it.
-#[derive(Drop)]
+#[derive(Clone, Copy)]
 pub struct AllowedLists {
     pub first: bool,
     pub second: bool,
 }
 
 // What open and run answer: the next session; or the number of the refusal, and the session that was given, for a refused run the one of the expansions kept.
-#[derive(Drop)]
+#[derive(Clone, Copy)]
 pub enum Answer {
     Accepted(Session),
     Refused(u32, Session),
 }
 
 // What expand answers: the first and the count of the state's records.
-#[derive(Drop)]
+#[derive(Clone, Copy)]
 pub enum PartAnswer {
     Part(Part, Session),
     Refused(u32, Session),
 }
 
 // What a piece of a run answers: as a run does; and the state with which the next piece goes on, which is the refused one where one is refused.
-#[derive(Drop)]
+#[derive(Clone, Copy)]
 pub struct PieceAnswer {
     pub next: StateId,
     pub answer: Answer,
 }
 
 // What final weight answers.
-#[derive(Drop)]
+#[derive(Clone, Copy)]
 pub enum WeightAnswer {
     Weight(u32, Session),
     NotFinal(Session),

@@ -1,4 +1,6 @@
 // What one pass over a state's list tells, by its labels on the inner side, and a memo of it.
+#![tactic(auto)]
+
 mod memo;
 
 ghost use Rattle.std.specs.Prelude.{◌≡◌, true, ◌&&◌, ◌||◌, cond, ◌+◌, ◌<◌, ◌^◌, max, eqb};
@@ -13,7 +15,7 @@ use fst_reads::{WEIGHT, first_at, next_at, record_base, word_at, word_on};
 pub use memo::{MEMO_WORDS, remembered};
 use semirings::zero;
 
-#[derive(Drop)]
+#[derive(Clone, Copy)]
 pub struct ListFacts {
     // How many records it has, and how many of them are epsilons.
     pub len: u32,

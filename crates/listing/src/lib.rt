@@ -1,4 +1,6 @@
 // The listing of document 01: from the words of its lines, or from a reader that has read them, to its bytes. No function of this file has a precondition.
+#![tactic(auto)]
+
 mod lines;
 mod stages;
 

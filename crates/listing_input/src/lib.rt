@@ -1,4 +1,6 @@
 // Standard input, read into the listing's lines and a query. Where a read fails, the line that is being read is never taken for a whole one.
+#![tactic(auto)]
+
 ghost use Rattle.std.specs.Prelude.{◌≡◌, [], ◌∷◌};
 ghost use Rattle.listing_text.specs.Chunks.{in_rooms, read_bytes};
 ghost use Rattle.listing_read.specs.Meaning.{read_input, rooms_of};

@@ -1,4 +1,6 @@
 // The input of the listing, and a query after it, read in chunks: four lines of decimal words, each into its own slice. Every function takes any bytes and any reader.
+#![tactic(auto)]
+
 mod line;
 
 ghost use Rattle.std.specs.Prelude.{◌≡◌};
@@ -15,7 +17,7 @@ pub const MACHINE_WORDS: usize = 4096;
 pub const QUERY_WORDS: usize = 3;
 
 // How far the reading of the input is: the number of the line that is being read, and the four lines.
-#[derive(Drop)]
+#[derive(Clone, Copy)]
 pub struct Reader {
     pub at: u32,
     pub settings: LineReader,

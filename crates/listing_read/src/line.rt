@@ -9,7 +9,7 @@ ghost use Rattle.listing_read.specs.Held.{ended_line, ended_words, stepped_line,
 const MAX: u64 = 4294967295;
 
 // How far the reading of a line is: the words stored, the word that is being read, and whether there is one; bad where the line is not of decimal words, or has more than fit.
-#[derive(Drop)]
+#[derive(Clone, Copy)]
 pub struct LineReader {
     pub count: usize,
     pub value: u32,

@@ -1,4 +1,6 @@
 // The lines of the listing, and a number alone, put into a buffer from a place on. Each function answers the place after what it put; the caller has checked that there is room.
+#![tactic(auto)]
+
 mod text;
 
 ghost use Rattle.std.specs.Prelude.{◌+◌, ◌≤◌, ◌∷◌, length};

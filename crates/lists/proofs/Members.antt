@@ -37,7 +37,7 @@ pub or_right : (a b : Bool) → b ≡ true → a || b ≡ true
 or_right true b e = refl
 or_right false b e = e
 
-pub in_flat : {A B : Type 0} (g : A → List B) {l : List A} {a : A} {b : B} → In a l → In b (g a) → In b (flat_map g l)
+pub in_flat : {A B : Type 0} (g : A → List B) {a : A} {l : List A} {b : B} → In a l → In b (g a) → In b (flat_map g l)
 unfolding flat_map
 in_flat g (here e) i = Memᴰ.append_left _ (rw e at i)
 in_flat g (there {x = x} h) i = Memᴰ.append_right (g x) (in_flat g h i)
@@ -51,7 +51,7 @@ in_put : {A : Type 0} (b : Bool) (x : A) {a : A} {l : List A} → In a l → In 
 in_put true x i = there i
 in_put false x i = i
 
-pub in_keep : {A : Type 0} (P : A → Bool) {l : List A} {a : A} → In a l → P a ≡ true → In a (keep_if P l)
+pub in_keep : {A : Type 0} (P : A → Bool) {a : A} {l : List A} → In a l → P a ≡ true → In a (keep_if P l)
 unfolding keep_if
 in_keep P (here e) p = rw (← e, p) (here refl)
 in_keep P (there {x = x} h) p = in_put (P x) x (in_keep P h p)
@@ -68,7 +68,7 @@ of_keep P (x ∷ xs) {a} h = go (P x) refl h (λ i. of_keep P xs i)
     go true e i rec = ⊎_elim (λ d. (here d, ap P d ∙ e)) (λ j. old (rec j)) (Memᴰ.cases_cons i)
     go false e i rec = old (rec i)
 
-pub every_in : {A : Type 0} (P : A → Bool) {l : List A} {a : A} → every P l ≡ true → In a l → P a ≡ true
+pub every_in : {A : Type 0} (P : A → Bool) {a : A} {l : List A} → every P l ≡ true → In a l → P a ≡ true
 unfolding every
 every_in P h (here {x = x} e) = ap P e ∙ and_left (P x) _ h
 every_in P h (there {x = x} i) = every_in P (and_right (P x) _ h) i

@@ -16,7 +16,7 @@ at_in [] k h = absurd (none-ne-some _ h)
 at_in (x ∷ xs) zero h = here (sym (some-injective _ _ h))
 at_in (x ∷ xs) (suc k) h = there (at_in xs k h)
 
-pub in_at : {A : Type 0} {l : List A} {a : A} → In a l → (k : ℕ) × At l k a
+pub in_at : {A : Type 0} {a : A} {l : List A} → In a l → (k : ℕ) × At l k a
 in_at (here e) = (0, ap some (sym e))
 in_at (there h) = let r = in_at h in (suc r.0, r.1)
 

@@ -1,4 +1,6 @@
 // The direction at a pair of states (compose_fst_op.rs, `match_input`): which machine is walked, and which is looked up.
+#![tactic(auto)]
+
 ghost use Rattle.std.specs.Prelude.{◌≡◌, leb, length};
 ghost use Rattle.words.specs.Matches.{inputs, outputs};
 ghost use Rattle.words.specs.Machines.{list_of};
@@ -13,7 +15,7 @@ use match_type::Side;
 use matchers::has_sigma;
 
 // The side that is matched, or the number of the refusal.
-#[derive(Drop)]
+#[derive(Clone, Copy)]
 pub enum Direction {
     Match(MatchType),
     Refused(u32),

@@ -1,4 +1,6 @@
 // The choice of the side (compose_fst_op.rs, `match_type`), with refusals 4 to 7 in their order.
+#![tactic(auto)]
+
 ghost use Rattle.std.specs.Prelude.{◌≡◌, true, false, not, ◌&&◌, ◌||◌, eqb};
 ghost use Rattle.words.specs.Labels.{eps_label, no_label};
 ghost use Rattle.words.specs.Matches.{inputs, outputs};
@@ -15,14 +17,14 @@ use fst::{
 use fst_properties::sorted;
 
 // One direction in every state, or both.
-#[derive(Drop)]
+#[derive(Clone, Copy)]
 pub enum Side {
     Only(MatchType),
     Both,
 }
 
 // The side, or the number of the refusal.
-#[derive(Drop)]
+#[derive(Clone, Copy)]
 pub enum Chosen {
     By(Side),
     Refused(u32),

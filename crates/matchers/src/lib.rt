@@ -1,4 +1,6 @@
 // Matchers (matchers/mod.rs): a match, and a look-up of a label as a cursor over the machine's words. A cursor keeps what was asked and places; no match is stored.
+#![tactic(auto)]
+
 mod sigma_matcher;
 mod sorted_matcher;
 
@@ -14,21 +16,21 @@ pub use sigma_matcher::{Sigma, SigmaIter, has_sigma, sigma_iter};
 pub use sorted_matcher::sorted_iter;
 
 // A match: the loop, or one whole transition.
-#[derive(Drop)]
+#[derive(Clone, Copy)]
 pub enum IterItemMatcher {
     EpsLoop,
     Tr(Tr),
 }
 
 // The transitions with the label itself; then the sigma transitions.
-#[derive(Drop)]
+#[derive(Clone, Copy)]
 pub enum Phase {
     Own,
     Sigmas,
 }
 
 // What was asked, and how far the answer is given.
-#[derive(Drop)]
+#[derive(Clone, Copy)]
 pub struct Cursor {
     // The side on which the machine is matched.
     pub on: MatchType,
@@ -49,7 +51,7 @@ pub struct Cursor {
 }
 
 // The next match, or the end; with the cursor to ask on with.
-#[derive(Drop)]
+#[derive(Clone, Copy)]
 pub enum Step {
     Match(IterItemMatcher, Cursor),
     End(Cursor),
@@ -205,7 +207,7 @@ pub fn next_match(m: &[u32], cursor: Cursor, ignored: &[u32]) -> Step
 }
 
 // A look-up together with the words that it reads.
-#[derive(Drop)]
+#[derive(Clone, Copy)]
 pub struct Matcher<'a> {
     pub words: &'a [u32],
     pub cursor: Cursor,

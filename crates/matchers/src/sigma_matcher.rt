@@ -16,7 +16,7 @@ use fst::{
 };
 
 // The sigma settings of a machine. The allowed list is lent beside them.
-#[derive(Drop)]
+#[derive(Clone, Copy)]
 pub struct Sigma {
     // NO_LABEL: none.
     pub label: Label,
@@ -29,7 +29,7 @@ pub struct Sigma {
 }
 
 // The cursor of a look-up, or the number of the refusal.
-#[derive(Drop)]
+#[derive(Clone, Copy)]
 pub enum SigmaIter {
     At(Cursor),
     Refused(u32),

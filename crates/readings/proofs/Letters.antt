@@ -1,7 +1,7 @@
 -- Sigma on machine 2 alone (02, 2.4): which labels meet is then told by one relation, whatever the states and the direction; and what becomes of outer labels. In direction input no
 -- walked label is sigma, so that an own match and a sigma match are never one; direction output is taken only where machine 2's state has no sigma transition.
 use mathlib.Core.Path.{◌≡◌, refl, sym, ◌∙◌, ap, ap₂, subst}
-use mathlib.Core.Bool.{Bool, true, false, cond, true≢false, and_false}
+use mathlib.Core.Bool.{Bool, true, false, cond, true≢false, and-false}
 use mathlib.Core.List.{List, [], ◌∷◌, ◌++◌, map, flat_map, Memᴰ as In}
 use mathlib.Core.Logic.{◌≢◌, ◌⊎◌, ◌↔◌, inl, inr, ⊎_elim}
 use Prim.Native.Nat.{ℕ}
@@ -42,7 +42,7 @@ is_sigma_lem : (σ : Sigma) (y : ℕ) → y ≢ no_label → y ≡ σ.label → 
 is_sigma_lem σ y n e = rw (ne_eqb σ.label no_label (λ z. n (e ∙ z)), eq-eqb y σ.label e)
 
 not_sigma_lem : (σ : Sigma) (y : ℕ) → y ≢ σ.label → is_sigma σ y ≡ false
-not_sigma_lem σ y n = rw (ne_eqb y σ.label n, and_false)
+not_sigma_lem σ y n = rw (ne_eqb y σ.label n, and-false)
 
 -- what agrees by one relation agrees by a wider one
 agree_by : (R Q : ℕ → ℕ → Type 0) → ((x y : ℕ) → R x y → Q x y) → (xs ys : List ℕ) → Agree R xs ys → Agree Q xs ys
@@ -65,7 +65,7 @@ agree_unset σ e xs ys =
 -- and nothing is rewritten, as where sigma is rewritten on the matched side alone
 own_output : (σ : Sigma) (B : Machine) → (σ.label ≡ no_label) ⊎ (σ.rewrite_both ≡ false) → (x u : ℕ) → output_for σ B x u ≡ B.output u
 own_output σ B (inl e) x u = rw (unset_sigma σ (B.input u) e)
-own_output σ B (inr e) x u = rw (e, and_false)
+own_output σ B (inr e) x u = rw (e, and-false)
 
 own_outputs : (σ : Sigma) (B : Machine) → (σ.label ≡ no_label) ⊎ (σ.rewrite_both ≡ false) → (z p : List ℕ) → outputs_for σ B z p ≡ map B.output p
 unfolding outputs_for

@@ -21,7 +21,7 @@ pub const WORDS: usize = LINES * ROOM;
 const NO_WORDS: u32 = 4294967295;
 
 // The line of the case that is being read, and whether a byte of the case was read.
-#[derive(Drop)]
+#[derive(Clone, Copy)]
 pub struct Place {
     pub at: u32,
     pub begun: bool,

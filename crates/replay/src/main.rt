@@ -1,6 +1,8 @@
 // Many cases, one after the other. A case has seven lines:
 // 1 `-` for the whole listing, or state numbers, which are expanded in this order; 2 the settings; 3, 4 the allowed lists of machine 1 and 2, `-` for no list; 5 the ignored labels; 6, 7 the machines.
 // The answer to a case ends in a line `--`. A line has room for 4096 words; for line 1, 3 and 4, any line that is not of words stands for `-`, and for line 5 for an empty one.
+#![tactic(auto)]
+
 mod cases;
 mod order;
 

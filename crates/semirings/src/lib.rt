@@ -1,4 +1,6 @@
 // The two kinds of weight (semirings/semiring.rs): one, zero, times. Kind 0 is cost, any other number count.
+#![tactic(auto)]
+
 ghost use Rattle.std.specs.Prelude.{◌≡◌};
 ghost use Rattle.words.specs.Weights.{cost, count, kind_of, one as one_of, zero_of, is_zero, times as timesOf};
 ghost use Rattle.semirings.specs.Product.{product_means};
@@ -6,7 +8,7 @@ ghost use Rattle.semirings.specs.Product.{product_means};
 const MAX: u32 = 4294967295;
 
 // A product, or that it is too large.
-#[derive(Drop)]
+#[derive(Clone, Copy)]
 pub enum Product {
     Weight(u32),
     TooLarge,

@@ -1,4 +1,6 @@
 // The six settings, and the one order of checks 1 to 8 before a call.
+#![tactic(auto)]
+
 ghost use Rattle.std.specs.Prelude.{◌≡◌, List, ℕ};
 ghost use Rattle.std.proofs.Math.Option.{Option};
 ghost use Rattle.words.specs.Ignored.{ignored_ok};
@@ -19,7 +21,7 @@ use store_form::{fits, form_ok};
 use store_records::Used;
 
 // What a session is opened with. A sigma label NO_LABEL means none.
-#[derive(Drop)]
+#[derive(Clone, Copy)]
 pub struct Settings {
     // 0: cost, 1: count.
     pub kind: u32,

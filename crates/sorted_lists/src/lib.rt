@@ -1,4 +1,6 @@
 // The look-up of a label in a list in which no label falls: a binary search where the records are consecutive, else a scan that stops at the first larger label.
+#![tactic(auto)]
+
 ghost use Rattle.std.specs.Prelude.{◌≡◌, true, ◌+◌, ◌*◌, ◌<◌, length};
 ghost use Rattle.words.specs.Labels.{eps_label};
 ghost use Rattle.words.specs.Machines.{tr_words};
@@ -11,7 +13,7 @@ use fst::{Label, MatchType, TR_WORDS};
 use fst_reads::{next_at, word_at, word_on};
 
 // A state's list, with what is known of it.
-#[derive(Drop)]
+#[derive(Clone, Copy)]
 pub struct SortedList {
     // The side on which it is looked up.
     pub on: MatchType,

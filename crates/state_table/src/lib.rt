@@ -1,4 +1,6 @@
 // The table of states (state_table.rs): chains of state records, each from a head of its own, newest first.
+#![tactic(auto)]
+
 mod placing;
 
 ghost use Rattle.std.specs.Prelude.{◌≡◌, List, map, ℕ, ◌+◌, ◌<◌};
@@ -14,14 +16,14 @@ pub use placing::find_or_add;
 use store_records::{get_tuple, next_of, push_state, store};
 
 // A state of the table, or none with the triple.
-#[derive(Drop)]
+#[derive(Clone, Copy)]
 pub enum FoundState {
     At(StateId),
     Missing,
 }
 
 // The state of a triple, and how many states are used with it.
-#[derive(Drop)]
+#[derive(Clone, Copy)]
 pub struct Reached {
     pub state: StateId,
     pub used: u32,

@@ -1,4 +1,6 @@
 // The form of lent memory, judged on whatever it holds, in time linear in the heads and the used records.
+#![tactic(auto)]
+
 mod flags;
 mod state_form;
 mod tr_form;

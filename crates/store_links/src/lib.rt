@@ -1,4 +1,6 @@
 // The links of a store as a search follows them. A link that breaks the form is read as 0, so that every list ends.
+#![tactic(auto)]
+
 ghost use Rattle.std.specs.Prelude.{◌≡◌, List, ℕ, ◌-◌};
 ghost use Rattle.calls.specs.Store.{target_at};
 ghost use Rattle.store_records.specs.Meaning.{stored};

@@ -1,4 +1,6 @@
 // Records in lent memory: their room, the reading of their words on every memory, and the writing of one record.
+#![tactic(auto)]
+
 mod lent;
 mod state_records;
 mod tr_records;
@@ -15,7 +17,7 @@ pub use tr_records::{
 };
 
 // How many records of each sort are in use.
-#[derive(Drop)]
+#[derive(Clone, Copy)]
 pub struct Used {
     pub states: u32,
     pub trs: u32,

@@ -1,4 +1,6 @@
 // The list of a state as stored: its first record, along the links; its records as a part of the lent slice.
+#![tactic(auto)]
+
 ghost use Rattle.std.specs.Prelude.{◌≡◌, List, ℕ, ◌+◌, ◌*◌, length};
 ghost use Rattle.lists.specs.Lists.{linked};
 ghost use Rattle.calls.specs.Store.{tr_next_at, part_at};
@@ -10,7 +12,7 @@ use fst::StateId;
 use store_records::{TR_SIZE, first_of, least, tr_next};
 
 // The first record and the number of records of a state's list.
-#[derive(Drop)]
+#[derive(Clone, Copy)]
 pub struct Part {
     pub first: u32,
     pub count: u32,

@@ -1,4 +1,6 @@
 // Trimming (document 02, 2.2): the part of a finished store that lies on paths from its start to final states, written as a machine in words into a lent slice.
+#![tactic(auto)]
+
 mod judged;
 mod marked;
 mod trimming;
@@ -7,7 +9,7 @@ use lazy_fst::Session;
 pub use trimming::{trim, trusted_trim};
 
 // How many words were written; or the number of the refusal. The session stays as it was.
-#[derive(Drop)]
+#[derive(Clone, Copy)]
 pub enum TrimAnswer {
     Trimmed(u32, Session),
     Refused(u32, Session),

@@ -1,4 +1,6 @@
 // The list of a kept state as words.
+#![tactic(auto)]
+
 ghost use Rattle.std.specs.Prelude.{◌≡◌, cond, List, [], ◌∷◌, ℕ, ◌+◌, ◌*◌, ◌≤◌, eqb, length};
 ghost use Rattle.lists.specs.Lists.{put};
 ghost use Rattle.words.specs.Machines.{limit, tr_words};

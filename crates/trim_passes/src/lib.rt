@@ -1,4 +1,6 @@
 // The passes over a store whose useful states are marked in the work words: their new numbers, the records between them, and how many there are.
+#![tactic(auto)]
+
 mod kept;
 mod numbers;
 

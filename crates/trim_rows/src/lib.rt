@@ -1,4 +1,6 @@
 // The trimmed machine as words: a header, the records of its states, and behind them their lists. The checks 1 to 8 pass, and are not made.
+#![tactic(auto)]
+
 ghost use Rattle.std.specs.Prelude.{◌≡◌, cond, List, [], ◌∷◌, ℕ, suc, ◌+◌, ◌*◌, ◌≤◌, ◌<◌, ltb, length};
 ghost use Rattle.lists.specs.Lists.{put};
 ghost use Rattle.words.specs.Labels.{good};
@@ -21,7 +23,7 @@ use trim_lists::write_list;
 use trim_passes::number_of;
 
 // How many states, and how many transitions, are written.
-#[derive(Drop)]
+#[derive(Clone, Copy)]
 pub struct Done {
     pub rows: u32,
     pub trs: u32,

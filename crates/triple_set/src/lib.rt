@@ -1,4 +1,6 @@
 // A set of triples in lent arrays: a table of states of its own, each triple taken in once, and a mark for each that is held.
+#![tactic(auto)]
+
 ghost use Rattle.std.specs.Prelude.{◌≡◌};
 ghost use Rattle.compose_state_tuple.specs.Meaning.{tuple_means};
 ghost use Rattle.triple_set.specs.Sets.{set_of, taken_means, take_of, mark_of};
@@ -15,7 +17,7 @@ pub const SET_WORDS: usize = 12288;
 pub const SET_HEADS: usize = 2039;
 
 // How many triples are held after one was offered; full: there was no room for it.
-#[derive(Drop)]
+#[derive(Clone, Copy)]
 pub struct Taken {
     pub full: bool,
     pub held: u32,

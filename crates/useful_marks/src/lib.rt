@@ -1,4 +1,6 @@
 // What the search keeps in the work words: word 2 i holds a cursor of the path, an open state and a status, word 2 i + 1 a place among the open states and a frame's bound.
+#![tactic(auto)]
+
 ghost use Rattle.std.specs.Prelude.{◌≡◌, ◌-◌, ◌<◌};
 ghost use Rattle.searches.specs.UsefulSearch.{merged_to, settled_of, opened_of, entered_of};
 

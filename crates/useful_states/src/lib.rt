@@ -1,4 +1,6 @@
 // The whole search: its start, then step after step until it is done.
+#![tactic(auto)]
+
 ghost use Rattle.std.specs.Prelude.{◌≡◌, List, ℕ, ◌≤◌};
 ghost use Rattle.words.specs.Machines.{limit};
 ghost use Rattle.store_records.specs.Meaning.{stored, store_in};

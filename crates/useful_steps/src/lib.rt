@@ -1,4 +1,6 @@
 // One step of the search for useful states, depth first from state 0. A status is 0: not seen; 4: not seen and final; 1: open; 2: alive; 3: dead.
+#![tactic(auto)]
+
 ghost use Rattle.std.specs.Prelude.{◌≡◌, List, ℕ, ◌-◌};
 ghost use Rattle.calls.specs.Store.{target_at};
 ghost use Rattle.store_records.specs.Meaning.{stored};
@@ -11,7 +13,7 @@ use useful_marks::{enter_state, merge_frames, open_state, settle_open};
 use work_words::{high_of, low_of, middle_of, up_of};
 
 // Where the search is: depth, state, record of its list (0: past the last), open states, frames.
-#[derive(Drop)]
+#[derive(Clone, Copy)]
 pub struct Place {
     pub d: u32,
     pub s: u32,
@@ -21,7 +23,7 @@ pub struct Place {
 }
 
 // Where a step leads, and whether the search is done.
-#[derive(Drop)]
+#[derive(Clone, Copy)]
 pub struct Found {
     pub at: Place,
     pub done: bool,

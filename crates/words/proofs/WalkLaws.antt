@@ -1,6 +1,6 @@
 -- The second paragraph of "Choosing the side", word for word, follows from the look-ups of which the walk is made.
 use mathlib.Core.Path.{◌≡◌, refl, sym, ap, ap₂}
-use mathlib.Core.Bool.{Bool, true, false, not, ◌&&◌, and_false, cond}
+use mathlib.Core.Bool.{Bool, true, false, not, ◌&&◌, and-false, cond}
 use mathlib.Core.List.{List, [], ◌∷◌, ◌++◌, map, map-map, flat_map, append-nil}
 use Prim.Native.Nat.{ℕ}
 use lib.Dec.{eqb}
@@ -14,7 +14,7 @@ use Rattle.words.specs.Links.{epsilons, moves_of_tr}
 -- asked for 0: the loop, and then the epsilon transitions
 pub lookup_eps : (o : Operand) (s : ℕ) → (o.sigma.label ≡ eps_label → ⊥) → lookup o s eps_label ≡ good (loop ∷ map own (epsilons o s))
 unfolding lookup sorted_matches sigma_matches
-lookup_eps o s h = rw (ne_eqb eps_label o.sigma.label (λ e. h (sym e)), and_false, append-nil (map own (epsilons o s)))
+lookup_eps o s h = rw (ne_eqb eps_label o.sigma.label (λ e. h (sym e)), and-false, append-nil (map own (epsilons o s)))
 
 not_asked : (l : ℕ) → not (eqb l no_label) && eqb no_label l ≡ false
 not_asked l = go (eqb l no_label) refl

@@ -1,4 +1,6 @@
 // A 64-bit work word as three fields, of 24, 24 and 16 bits; a work slice of any length.
+#![tactic(auto)]
+
 ghost use Rattle.std.specs.Prelude.{◌≡◌, ◌<◌, get_or, set, replicate};
 ghost use Rattle.lists.specs.Lists.{put};
 ghost use Rattle.searches.specs.WorkWords.{low, middle, high, with_low, with_middle, with_high, up};

@@ -2,7 +2,7 @@
 use native.Mathlib.Omega.{arith}
 use Rattle.words.specs.Filters.{all_at}
 use Rattle.words.proofs.ReplacedLaws.{read_state}
-use mathlib.Core.Bool.{and_false, and-true}
+use mathlib.Core.Bool.{and-false, and-true}
 use Rattle.compose_filters.specs.Meaning.{wanted_eps, epsilons_are}
 use borrow.Author.Rules.{rules}
 use Rattle.compose_filters.proofs.all_eps.Statement.{statement}
@@ -10,7 +10,7 @@ use Rattle.compose_filters.proofs.all_eps.Tie as tie
 
 returns : tie.Need-returns
 unfolding all_at
-returns c = rw (read_state _ _ _ _ 1 (omega arith), ← c.before.is-final.ensures, c.if1.true, and_false)
+returns c = rw (read_state _ _ _ _ 1 (omega arith), ← c.before.is-final.ensures, c.if1.true, and-false)
 
 returns-2 : tie.Need-returns-2
 unfolding all_at epsilons_are wanted_eps

@@ -6,7 +6,7 @@ use borrow.Author.Rules.{rules}
 use Rattle.semirings.proofs.times_count.Statement.{statement}
 use Rattle.semirings.proofs.times_count.Tie as tie
 
-mul-product : tie.Need-overflow-mul-product
+mul-product : tie.Need-overflow_mul-product
 mul-product c = record { fits = product_fits _ _ (search rules) (search rules) }
 
 returns : tie.Need-returns
