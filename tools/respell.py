@@ -68,7 +68,7 @@ def rust(part):
 def new_text(path, text):
     name = os.path.basename(path)
     library = {item.split(" as ")[0].strip() for items in LIBRARY.findall(text) for item in items.split(",")}
-    if name in IN_FUNCTION:
+    if name in IN_FUNCTION and os.path.basename(os.path.dirname(path)) not in ("specs", "proofs"):
         own = set(DECLARED.findall(text)) | library
         return lines(text, "--", lambda part: turned(part, own, False, True))
     if name.endswith(".antt"):

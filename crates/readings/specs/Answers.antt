@@ -62,17 +62,17 @@ abbrev pub targets : List Step → List Triple
 targets steps = map (λ (s : Step). s.to) steps
 
 -- the states that these kept moves find: targets that are no used state's, each once
-abbrev pub newStates : World → List Step → List Triple
-newStates w steps = newOnes (map (state_at w) (interval 0 w.session.used.states)) (targets steps)
+abbrev pub new_states : World → List Step → List Triple
+new_states w steps = newOnes (map (state_at w) (interval 0 w.session.used.states)) (targets steps)
 
 -- a transition record for each of these kept moves, and a state record for each state that they find
 pub record RoomFor (w : World) (steps : List Step) : Type 0 where
   pub trs : w.session.used.trs + length steps ≤ tr_room w.memory
-  pub states : w.session.used.states + length (newStates w steps) ≤ state_room w.memory
+  pub states : w.session.used.states + length (new_states w steps) ≤ state_room w.memory
 
 -- 13, "a record .. is lacking"
 abbrev pub Lacks : World → List Step → Type 0
-Lacks w steps = (tr_room w.memory < w.session.used.trs + length steps) ⊎ (state_room w.memory < w.session.used.states + length (newStates w steps))
+Lacks w steps = (tr_room w.memory < w.session.used.trs + length steps) ⊎ (state_room w.memory < w.session.used.states + length (new_states w steps))
 
 -- "expansion of an unexpanded state then 10, then in move order 11 before a walked label's matches, and 12, 13 for each kept move. Nothing else yields them."
 pub record Decides (l : Lent) (c : Composition) (w : World) (n : ℕ) : Type 0 where
