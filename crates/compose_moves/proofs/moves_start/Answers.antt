@@ -21,9 +21,7 @@ use Rattle.compose_moves.specs.Cursors.{words1, words2, read1, read2, walk_in, s
 use Rattle.compose_moves.proofs.Rows.{C, here}
 use Rattle.compose_moves.proofs.Starts.{no_steps, all_steps}
 use Rattle.compose_moves.proofs.Placed.{rest_held, start_placed}
-use borrow.Author.Rules.{rules}
-use Rattle.compose_moves.proofs.moves_start.Statement.{statement}
-use Rattle.compose_moves.proofs.moves_start.Tie as tie
+use Rattle.compose_moves.proofs.moves_start.Goals as goal
 
 -- the direction does not depend on rewriting and allowed lists
 read-direction : (o : ComposeFstOpOptions) (l : Lent) (t : ComposeStateTuple)
@@ -35,47 +33,32 @@ read-direction o l t = go (side_means o.side)
     go (only on) = refl
     go both = refl
 
-returns : tie.Need-returns
-returns c =
-    let a = c.before.before.before.before.before.before.before.before.before.before.args in
+pub returns-in-Refused : goal.returns-in-Refused
+returns-in-Refused c =
+    let a = c.args in
     let o = a.options in
     let lent : (a1 a2 : List ℕ) → Lent = λ a1 a2. lent_of o a.m1.now a.m2.now a1 a2 a.ignored.now in
-    let found = rw (c.before.direction.given.1, c.before.before.before.before.before.before.sigmas-of.ensures) at c.before.before.before.direction-at.ensures in
-    let ten : (a1 a2 : List ℕ) → direction_for o (lent a1 a2) a.tuple ≡ refused c.before.direction.given.0.0 = λ a1 a2. read-direction o (lent a1 a2) a.tuple ∙ sym found in
-    (λ a1 a2. no_steps o (lent a1 a2) (tuple_means a.tuple) _ (ten a1 a2), λ a1 a2. ten a1 a2)
+    let found = rw (c.in-Refused.is, c.sigmas_of-sigmas.ensures) at c.direction_at-direction.ensures in
+    let ten : (a1 a2 : List ℕ) → direction_for o (lent a1 a2) a.tuple ≡ refused c.in-Refused.n = λ a1 a2. read-direction o (lent a1 a2) a.tuple ∙ sym found in
+    record { by_index = λ a1 a2. no_steps o (lent a1 a2) (tuple_means a.tuple) _ (ten a1 a2); place = λ a1 a2. ten a1 a2; }
 
-returns-2 : tie.Need-returns-2
+pub returns-in-Match : goal.returns-in-Match
 unfolding steps_left none_at all_at
-returns-2 c =
-    let a = c.before.before.before.before.before.before.before.before.before.before.before.before.args in
+returns-in-Match c =
+    let a = c.args in
     let o = a.options in
     let t = tuple_means a.tuple in
-    let on = c.before.before.before.direction2.given.0.0 in
+    let on = c.in-Match.on in
     let lent : (a1 a2 : List ℕ) → Lent = λ a1 a2. lent_of o a.m1.now a.m2.now a1 a2 a.ignored.now in
-    let found = rw (c.before.before.before.direction2.given.1, c.before.before.before.before.before.before.before.before.sigmas-of.ensures) at c.before.before.before.before.before.direction-at.ensures in
-    let facts = rw c.before.before.before.before.before.before.before.before.sigmas-of.ensures at c.before.facts_at.ensures in
-    let rests = rw c.before.before.before.before.before.before.before.before.sigmas-of.ensures at c.rest-matches.ensures in
+    let found = rw (c.in-Match.is, c.sigmas_of-sigmas.ensures) at c.direction_at-direction.ensures in
+    let facts = rw c.sigmas_of-sigmas.ensures at c.facts_at-facts.ensures in
+    let rest_items = rw c.sigmas_of-sigmas.ensures at c.rest_matches-matches.ensures.result_value in
+    let rest_place = rw c.sigmas_of-sigmas.ensures at c.rest_matches-matches.ensures.place in
     let way : (a1 a2 : List ℕ) → direction_for o (lent a1 a2) a.tuple ≡ good (on_of on) = λ a1 a2. read-direction o (lent a1 a2) a.tuple ∙ sym found in
-    let items : (a1 a2 : List ℕ) → items_left ((walk_in o (lent a1 a2) (here (C o (lent a1 a2) t) t) (on_of on)).held c.rest-matches.result) c.rest-matches.result ≡ sorted_items (on_of on) (looked_words (on_of on) (words1 o (lent a1 a2)) (words2 o (lent a1 a2))) (looked_state (on_of on) t) no_label = λ a1 a2.
-    ap (λ (w : List ℕ). items_left w c.rest-matches.result) (rest_held o (lent a1 a2) (here (C o (lent a1 a2) t) t) (on_of on) _ _ c.rest-matches.result rests.1) ∙ rests.0 in (
-      λ a1 a2. rw facts (all_steps o (lent a1 a2) t _ c.rest-matches.result (way a1 a2) (items a1 a2)),
-      λ a1 a2. record {
+    let items : (a1 a2 : List ℕ) → items_left ((walk_in o (lent a1 a2) (here (C o (lent a1 a2) t) t) (on_of on)).held c.rest_matches-matches.result) c.rest_matches-matches.result ≡ sorted_items (on_of on) (looked_words (on_of on) (words1 o (lent a1 a2)) (words2 o (lent a1 a2))) (looked_state (on_of on) t) no_label = λ a1 a2.
+    ap (λ (w : List ℕ). items_left w c.rest_matches-matches.result) (rest_held o (lent a1 a2) (here (C o (lent a1 a2) t) t) (on_of on) _ _ c.rest_matches-matches.result rest_place) ∙ rest_items in record { by_index = λ a1 a2. rw facts (all_steps o (lent a1 a2) t _ c.rest_matches-matches.result (way a1 a2) (items a1 a2)); place = λ a1 a2. record {
         state = refl;
         facts = facts;
         direction = way a1 a2;
-        place = start_placed o (lent a1 a2) (record { tuple = a.tuple; facts = c.before.facts_at.result; on = on; walked = 0; matches = c.rest-matches.result }) refl rests.1;
-      },
-    )
-
-pub moves-start-spec : {M : Type 1} → statement M
-moves-start-spec =
-    tie.close
-    (tie.spec
-    (λ c. search rules)
-    (λ c κs. search rules)
-    (λ c. search rules)
-    (λ c. search rules)
-    (λ c κs. search rules)
-    (λ c κs. search rules)
-    returns
-    returns-2)
+        place = start_placed o (lent a1 a2) (record { tuple = a.tuple; facts = c.facts_at-facts.result; on = on; walked = 0; matches = c.rest_matches-matches.result }) refl rest_place;
+      }; }
