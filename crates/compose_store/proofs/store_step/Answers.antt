@@ -49,8 +49,8 @@ returns c =
     let a = c.args in
     let r = c.reach-reached in
     let d = stored a.heads.now a.states.now a.trs.now a.used.states a.used.trs in
-    let e = stored r.new.0 r.new.1.0 a.trs.now r.result.used a.used.trs in
+    let e = stored r.new.heads r.new.states a.trs.now r.result.used a.used.trs in
     let room = (step_room d (next_for d a.follows) (compose_tr_means a.tr) c.requires).0 in
-    ap good (c.push_tr.ensures r.new.0 r.new.1.0 r.result.used (tuple_means a.tr.tuple))
+    ap good (c.push_tr.ensures r.new.heads r.new.states r.result.used (tuple_means a.tr.tuple))
     ∙ ap (λ next. good (append e (compose_tr_means a.tr) r.result.state.0 next)) (c.link-next.ensures a.heads.now a.states.now a.trs.now a.used.states)
-    ∙ sym (step_is d (next_for d a.follows) (compose_tr_means a.tr) (reached_means r.new.0 r.new.1.0 a.trs.now a.used.trs r.result) room (r.ensures a.trs.now a.used.trs))
+    ∙ sym (step_is d (next_for d a.follows) (compose_tr_means a.tr) (reached_means r.new.heads r.new.states a.trs.now a.used.trs r.result) room (r.ensures a.trs.now a.used.trs))

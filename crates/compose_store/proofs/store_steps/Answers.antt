@@ -1,4 +1,5 @@
 use mathlib.Core.Path.{◌≡◌, refl, sym, ◌∙◌, subst}
+use mathlib.Core.List.{[]}
 use native.Mathlib.Omega.{arith}
 use Rattle.words.specs.Labels.{good}
 use Rattle.calls.specs.Calls.{next_for, store_step}
@@ -69,7 +70,7 @@ loop-ahead-preserved c =
     let S = a.options in
     let L = lent_of a.options a.m1.now a.m2.now a.a1.now a.a2.now a.ignored.now in
     let d = stored l.heads l.states l.trs l.grown.states l.grown.trs in
-    let f = stored w.new.0 w.new.1.0 w.new.1.1.0 w.result.states w.result.trs in
+    let f = stored w.new.heads w.new.states w.new.trs w.result.states w.result.trs in
     let st = compose_tr_means c.in-Step.tr in
     let others = steps_left S L c.in-Step.after in
     let x = next_means S L c.next_step-ahead-in-Step.result in

@@ -23,7 +23,7 @@ returns-then-x c =
     let a = c.args in
     let x = c.eps_moves in
     let w = tr_means a.edge in
-    as_steps (store_in a.heads.now a.states.now a.trs.now a.used) (store_in x.new.1.0 x.new.1.1.0 x.new.1.1.1.0 x.result) (eps_by a.plan a.mm.now w) (edge_by a.plan a.mm.now w a.x.0)
+    as_steps (store_in a.heads.now a.states.now a.trs.now a.used) (store_in x.new.heads x.new.states x.new.trs x.result) (eps_by a.plan a.mm.now w) (edge_by a.plan a.mm.now w a.x.0)
     (sym (edge_eps a.plan a.mm.now w a.x.0 c.if-x.true)) x.ensures
 
 pub find-from-requires : goal.find-from-requires
@@ -59,6 +59,6 @@ returns c =
     let x = c.with_label in
     let v = a.plan in
     let w = tr_means a.edge in
-    as_steps (store_in a.heads.now a.states.now a.trs.now a.used) (store_in x.new.1.0 x.new.1.1.0 x.new.1.1.1.0 x.result)
+    as_steps (store_in a.heads.now a.states.now a.trs.now a.used) (store_in x.new.heads x.new.states x.new.trs x.result)
     (with_records (side_by v) (kind_of v.kind) a.mm.now w (some 0) (with_label (side_by v) a.mm.now a.x.0 f.result)) (edge_by v a.mm.now w a.x.0)
     (sym (edge_from v a.mm.now w a.x.0 f.result c.if-x.false f.ensures)) x.ensures

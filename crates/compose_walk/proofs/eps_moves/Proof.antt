@@ -109,7 +109,7 @@ returns c =
     let m = c.match-lone in
     let x = c.with_eps in
     let e = store_in m.heads m.states m.trs m.grown in
-    let f = store_in x.new.1.0 x.new.1.1.0 x.new.1.1.1.0 x.result in
+    let f = store_in x.new.heads x.new.states x.new.trs x.result in
     let v = a.plan in
     let w = tr_means a.edge in
     then_stored (store_in a.heads.now a.states.now a.trs.now a.used) e f (alone_by v w) (both_by v a.mm.now w) (alone c.before.before.before.before.before.before.before.before.before.before.before).3

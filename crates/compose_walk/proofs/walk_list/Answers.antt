@@ -26,7 +26,7 @@ loop-t-init c =
     let p = c.requires in
     let w = c.rest_moves-grown in
     let d = store_in a.heads.now a.states.now a.trs.now a.used in
-    let e = store_in w.new.1.0 w.new.1.1.0 w.new.1.1.1.0 w.result in (
+    let e = store_in w.new.heads w.new.states w.new.trs w.result in (
       refl,
       refl,
       refl,
@@ -63,7 +63,7 @@ loop-t-preserved c =
     let w = c.edge_moves-grown in
     let u = c.next_at-t in
     let d = store_in l.heads l.states l.trs l.grown in
-    let e = store_in w.new.1.0 w.new.1.1.0 w.new.1.1.1.0 w.result in
+    let e = store_in w.new.heads w.new.states w.new.trs w.result in
     let z = edges_next a.plan a.mw.now a.mm.now l.t (tr_means r.result) x.result.0 n l.invariant.3 r.ensures x.ensures d e u.result u.ensures w.ensures l.invariant.4 in
     let f = edges_first a.plan a.mw.now a.mm.now l.t (tr_means r.result) x.result.0 n l.invariant.3 r.ensures x.ensures d l.invariant.4 in (
       search rules,
@@ -81,6 +81,6 @@ returns c =
     let l = c.loop-t in
     let w = c.rest_moves-grown in
     let s = c.first_at-t in
-    let e = store_in w.new.1.0 w.new.1.1.0 w.new.1.1.1.0 w.result in
+    let e = store_in w.new.heads w.new.states w.new.trs w.result in
     none_stored (store_in l.heads l.states l.trs l.grown) (edges_by a.plan a.mw.now a.mm.now l.t) (edges_end a.plan a.mw.now a.mm.now l.t c.loop-t-test.false)
     ∙ (l.invariant.5 ∙ plan_stored a.plan a.mw.now a.mm.now (store_in a.heads.now a.states.now a.trs.now a.used) e s.result s.ensures w.ensures)

@@ -57,7 +57,7 @@ loop-again c =
     let w = c.push-grown in
     let z = at_turn i.4 h.0 h.1 c.tr_at-found.ensures c.joined.ensures w.ensures in
     let e = ap length (with_here (on_of a.on) a.mm.now eps_label c.loop-left.u h.0 i.4.inside h.1) in
-    rw c.next_at-u.ensures (w.auto.0 ∙ i.0, w.auto.1.0 ∙ i.1, w.auto.1.1.0 ∙ i.2, omega (arith, i.3, e), z)
+    rw c.next_at-u.ensures (w.auto.heads ∙ i.0, w.auto.states ∙ i.1, w.auto.trs ∙ i.2, omega (arith, i.3, e), z)
 
 returns : tie.Need-returns invariant-loop decreases-loop
 returns c =

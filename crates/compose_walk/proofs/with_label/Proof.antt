@@ -67,7 +67,7 @@ loop-again c =
     let i = c.loop-u.invariant in
     let w = c.push-grown in
     let z = at_turn i.3 c.loop-u-test.true (sym (label c.before.before.before.before.before.before.before.before.before.before.before.before.before.before.before) ∙ c.if-word_at-x.false) c.tr_at-found.ensures c.joined.ensures w.ensures in
-    rw c.next_at-u.ensures (w.auto.0 ∙ i.0, w.auto.1.0 ∙ i.1, w.auto.1.1.0 ∙ i.2, z)
+    rw c.next_at-u.ensures (w.auto.heads ∙ i.0, w.auto.states ∙ i.1, w.auto.trs ∙ i.2, z)
 
 returns-2 : tie.Need-returns invariant-loop decreases-loop
 returns-2 c = at_end c.loop-u.invariant.3 (with_end _ _ _ _ c.loop-u-test.false)

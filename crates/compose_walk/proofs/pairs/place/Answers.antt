@@ -1,5 +1,6 @@
 -- A link leads to the state that was found; 0 says that there was room for a new one, and it is added.
 use mathlib.Core.Path.{sym, ◌∙◌}
+use mathlib.Core.List.{[]}
 use native.Mathlib.Omega.{arith}
 use Rattle.calls.specs.Store.{state_size}
 use Rattle.calls.proofs.RecordLaws.{room_words}
@@ -11,7 +12,7 @@ pub overflow_add-result : goal.overflow_add-result
 overflow_add-result c =
     let a = c.args in
     let f = c.find_or_add-link in
-    let r = (c.requires [] 0).1 (placed_lacks a.heads.now a.states.now f.new.0 f.new.1.0 [] a.used 0 (tuple_means a.tuple) (rw c.if-link-eq0.true at (f.ensures [] 0))) in
+    let r = (c.requires [] 0).1 (placed_lacks a.heads.now a.states.now f.new.heads f.new.states [] a.used 0 (tuple_means a.tuple) (rw c.if-link-eq0.true at (f.ensures [] 0))) in
     omega (arith, r, (room_words state_size a.states.now _ r).0)
 
 pub returns-then-link-eq0 : goal.returns-then-link-eq0
@@ -21,4 +22,4 @@ pub returns : goal.returns
 returns c =
     let a = c.args in
     let f = c.find_or_add-link in
-    λ trs k. sym (placed_some f.new.0 f.new.1.0 trs a.used k f.result c.if-link-eq0.false) ∙ f.ensures trs k
+    λ trs k. sym (placed_some f.new.heads f.new.states trs a.used k f.result c.if-link-eq0.false) ∙ f.ensures trs k

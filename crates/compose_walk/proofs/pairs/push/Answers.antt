@@ -33,5 +33,5 @@ pub returns : goal.returns
 returns c =
     let a = c.args in
     let r = c.place-reached in
-    c.push_tr.ensures r.new.0 r.new.1.0 r.result.used (tuple_means a.tr.tuple)
-    ∙ one_is (store_in a.heads.now a.states.now a.trs.now a.used) (compose_tr_means a.tr) (reached_means r.new.0 r.new.1.0 a.trs.now a.used.trs r.result) (r.ensures a.trs.now a.used.trs)
+    c.push_tr.ensures r.new.heads r.new.states r.result.used (tuple_means a.tr.tuple)
+    ∙ one_is (store_in a.heads.now a.states.now a.trs.now a.used) (compose_tr_means a.tr) (reached_means r.new.heads r.new.states a.trs.now a.used.trs r.result) (r.ensures a.trs.now a.used.trs)
