@@ -1,3 +1,4 @@
+pub mod TwoClauses
 pub mod Seeks
 pub mod Turns
 pub mod Starts
