@@ -1,4 +1,4 @@
-// Standard input, read into the listing's lines and a query. Where a read fails, the line that is being read is never taken for a whole one.
+// An input, as standard input, read into the listing's lines and a query. Where a read fails, the line that is being read is never taken for a whole one.
 #![tactic(auto)]
 
 ghost use Rattle.std.specs.Prelude.{◌≡◌, [], ◌∷◌};
@@ -7,8 +7,8 @@ ghost use Rattle.listing_read.specs.Meaning.{read_input, rooms_of};
 ghost use Rattle.listing_read.specs.Held.{held, held_bytes};
 ghost use Rattle.listing_input.specs.Read.{handed_on, reads_on, Reads};
 
-use libc::STDIN_FILENO;
 use listing_read::{Reader, new_reader, read_chunk};
+use std::io::Read;
 
 // More reads than can be made: at a thousand million a second they take 584 years.
 const MOST_CHUNKS: u64 = 18446744073709551615;
@@ -67,8 +67,17 @@ fn reads_on(lines: u32, at: u32, got: isize) -> bool
     got > 0
 }
 
+// A read of the input: how many bytes came, 0 at its end, or -1 where it failed.
+fn read_some<R: Read>(input: &mut R, chunk: &mut [u8]) -> isize {
+    match input.read(chunk) {
+        Ok(n) => n as isize,
+        Err(_) => -1,
+    }
+}
+
 // Reads up to line feed number `lines`, the end of the input or a read that fails. Where the chunks are used up, the line that is being read is spoiled.
-pub fn read_lines(
+pub fn read_lines<R: Read>(
+    input: &mut R,
     lines: u32,
     settings: &mut [u32],
     first: &mut [u32],
@@ -82,7 +91,7 @@ pub fn read_lines(
     let mut r = new_reader();
     let mut left = MOST_CHUNKS;
     while left > 0 {
-        let got = libc::read(STDIN_FILENO, &mut chunk);
+        let got = read_some(input, &mut chunk);
         r = after_read(r, got, &chunk, settings, first, second, query);
         if !reads_on(lines, r.at, got) {
             return r;

@@ -8,8 +8,7 @@ use lib.Signed.{lt_z}
 use borrow.Author.Tests.{lt-ltb, le-ltb}
 use borrow.Author.Rules.{rules}
 use Rattle.listing_input.specs.Read.{reads_on}
-use Rattle.listing_input.proofs.reads_on.Statement.{statement}
-use Rattle.listing_input.proofs.reads_on.Tie as tie
+use Rattle.listing_input.proofs.reads_on.Goals as goal
 
 past : (lines at : ℕ) (g : ℤ) → lines ≤ at → false ≡ reads_on lines at g
 past lines at (pos k) h = ap (λ (x : Bool). x && ltb 0 k) (sym (le-ltb at lines h))
@@ -19,11 +18,8 @@ within : (lines at : ℕ) (g : ℤ) → at < lines → lt_z (pos 0) g ≡ reads_
 within lines at (pos k) h = ap (λ (x : Bool). x && ltb 0 k) (sym (lt-ltb at lines h))
 within lines at (negsuc k) h = refl
 
-returns : tie.Need-returns
-returns c = let a = c.before.args in past a.lines a.at a.got c.if1.true
+pub returns-then-lines-at : goal.returns-then-lines-at
+returns-then-lines-at c = let a = c.args in past a.lines a.at a.got c.if-lines-at.true
 
-returns-2 : tie.Need-returns-2
-returns-2 c = let a = c.before.args in search (within a.lines a.at a.got c.if1.false, rules)
-
-pub reads-on-spec : {M : Type 1} → statement M
-reads-on-spec = tie.close (tie.spec returns returns-2)
+pub returns : goal.returns
+returns c = let a = c.args in search (within a.lines a.at a.got c.if-lines-at.false, rules)
