@@ -140,7 +140,7 @@ eps_moves_spec =
     same-length-2
     same-length-3
     returns
-    (λ c. (alone c.before.before).0)
-    (λ c. (alone c.before.before).1)
-    (λ c. (alone c.before.before).2)
+    (λ c. (alone c.before).0)
+    (λ c. (alone c.before).1)
+    (λ c. (alone c.before).2)
     returns-2)
