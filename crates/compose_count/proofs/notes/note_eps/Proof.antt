@@ -21,16 +21,16 @@ use Rattle.compose_count.proofs.notes.note_eps.Statement.{statement}
 use Rattle.compose_count.proofs.notes.note_eps.Tie as tie
 
 -- what the first part leaves
-alone : (c : tie.At-match-branch) →
-    let a = c.before.before.before.before.before.before.before.before.before.args in
-    let m = c.match in
+alone : (c : tie.Joined-lone) →
+    let a = c.args in
+    let m = c.match-lone in
     (length m.chains ≡ length a.chains.now) × (length m.records ≡ length a.records.now)
     × ((trs : List ℕ) (w : Transition) → w.target ≡ a.s.0 → AllGood (alone_by a.c.plan w)
     → notes_means m.chains m.records m.noted ≡ note_all (wanted_in a.heads.now a.states.now a.c trs) (notes_means a.chains.now a.records.now a.seen) (alone_by a.c.plan w))
 alone c =
-    let a = c.before.before.before.before.before.before.before.before.before.args in
+    let a = c.args in
     let v = a.c.plan in
-    let m = c.match in
+    let m = c.match-lone in
     let n = notes_means a.chains.now a.records.now a.seen in
     ⊎_elim
     (λ y.
@@ -52,42 +52,41 @@ alone c =
     ))
     m.branch
 
-same_length : tie.Need-same-length
-same_length c = c.before.before.before.before.note-records.auto.1.1.1.0 ∙ (alone c.before.before.before.before.before.before.before.before.before.before).0
+same_length : tie.Need-shape_of-chains-in-Kept-both
+same_length c = c.note_records.auto.chains ∙ (alone c.before.before.before.before.before.before.before.before).0
 
-same-length-2 : tie.Need-same-length-2
-same-length-2 c = c.before.before.before.before.note-records.auto.1.1.1.1.0 ∙ (alone c.before.before.before.before.before.before.before.before.before.before).1
+same-length-2 : tie.Need-shape_of-records-in-Kept-both
+same-length-2 c = c.note_records.auto.records ∙ (alone c.before.before.before.before.before.before.before.before).1
 
-returns : tie.Need-returns
+returns : tie.Need-returns-in-Kept-both
 returns c =
-    let a = c.before.before.before.before.before.before.before.before.before.before.before.before.before.before.before.before.before.before.before.args in
-    let k = c.before.before.before.before.before.before.before.before.both.given in
-    let m = c.before.before.before.before.before.before.before.before.before.before.match in
-    let x = c.before.before.before.before.note-records in
+    let a = c.args in
+    let m = c.match-lone in
+    let x = c.note_records in
     let v = a.c.plan in
     let o = notes_means m.chains m.records m.noted in
-    let q = notes_means x.new.1.1.1.0 x.new.1.1.1.1.0 x.result in
+    let q = notes_means x.new.chains x.new.records x.result in
     λ trs w e g.
     let P = wanted_in a.heads.now a.states.now a.c trs in
     let h = good_split (alone_by v w) (both_by v a.mm.now w) g in
-    let b = both_is v a.mm.now w k.0.0 k.1 in
+    let b = both_is v a.mm.now w c.in-Kept-both.fs c.in-Kept-both.is in
     note_then P (notes_means a.chains.now a.records.now a.seen) o q (alone_by v w) (both_by v a.mm.now w)
-    ((alone c.before.before.before.before.before.before.before.before.before.before).2 trs w e h.0)
-    (as_noted P o q (with_labelled v a.mm.now w (some k.0.0) eps_label) (both_by v a.mm.now w) b (x.ensures trs (kind_of v.kind) w e (subst AllGood (sym b) h.1)))
+    ((alone c.before.before.before.before.before.before.before.before).2 trs w e h.0)
+    (as_noted P o q (with_labelled v a.mm.now w (some c.in-Kept-both.fs) eps_label) (both_by v a.mm.now w) b (x.ensures trs (kind_of v.kind) w e (subst AllGood (sym b) h.1)))
 
-returns-2 : tie.Need-returns-2
+returns-2 : tie.Need-returns-in-Dropped-both
 returns-2 c =
-    let a = c.before.before.before.before.before.before.before.before.before.before.before.args in
-    let m = c.before.before.match in
+    let a = c.args in
+    let m = c.match-lone in
     let v = a.c.plan in
     let o = notes_means m.chains m.records m.noted in
     λ trs w e g.
     let P = wanted_in a.heads.now a.states.now a.c trs in
     note_then P (notes_means a.chains.now a.records.now a.seen) o o (alone_by v w) (both_by v a.mm.now w)
-    ((alone c.before.before).2 trs w e (good_split (alone_by v w) (both_by v a.mm.now w) g).0) (note_none P o (both_by v a.mm.now w) (no_pairs _ _ _ _ _ _ (ap filtered_means c.enum-told2.given.1)))
+    ((alone c.before).2 trs w e (good_split (alone_by v w) (both_by v a.mm.now w) g).0) (note_none P o (both_by v a.mm.now w) (no_pairs _ _ _ _ _ _ (ap filtered_means c.in-Dropped-both.is)))
 
-pub note-eps-spec : {M : Type 1} → statement M
-note-eps-spec =
+pub note_eps_spec : {M : Type 1} → statement M
+note_eps_spec =
     tie.close
     (tie.spec
     (λ c. search rules)
