@@ -34,23 +34,23 @@ alone c =
     let n = notes_means a.chains.now a.records.now a.seen in
     ⊎_elim
     (λ y.
-    let x = y.6.last in (
-      ap length y.11 ∙ y.6.kept.1.1.0,
-      ap length y.12 ∙ y.6.kept.1.1.1.0,
+    let x = y.note-noted.new in (
+      ap length y.chains-is ∙ y.note-noted.auto.chains,
+      ap length y.records-is ∙ y.note-noted.auto.records,
       λ trs w e g.
           let P = wanted_in a.heads.now a.states.now a.c trs in
-          same_notes m.chains x.1.1.0 m.records x.1.1.1.0 m.noted y.6.result y.11 y.12 y.13
-          ∙ alone_noted P n (notes_means x.1.1.0 x.1.1.1.0 y.6.result) v w y.1.given.0.0 a.s.0 (tuple_means y.5.result) y.1.given.1 e
-          y.5.ensures (y.6.ensures trs) g,
+          same_notes m.chains x.chains m.records x.records m.noted y.note-noted.result y.chains-is y.records-is y.noted-is
+          ∙ alone_noted P n (notes_means x.chains x.records y.note-noted.result) v w y.in-Kept.fs a.s.0 (tuple_means y.target.result) y.in-Kept.is e
+          y.target.ensures (y.note-noted.ensures trs) g,
     ))
     (λ y. (
-      ap length y.2,
-      ap length y.3,
+      ap length y.chains-is,
+      ap length y.records-is,
       λ trs w e g.
-          same_notes m.chains a.chains.now m.records a.records.now m.noted a.seen y.2 y.3 y.4
-          ∙ note_none (wanted_in a.heads.now a.states.now a.c trs) n (alone_by v w) (alone_none v w y.1.given.1),
+          same_notes m.chains a.chains.now m.records a.records.now m.noted a.seen y.chains-is y.records-is y.noted-is
+          ∙ note_none (wanted_in a.heads.now a.states.now a.c trs) n (alone_by v w) (alone_none v w y.in-Dropped.is),
     ))
-    m.branch
+    m.branch-raw
 
 same_length : tie.Need-shape_of-chains-in-Kept-both
 same_length c = c.note_records.auto.chains ∙ (alone c.before.before.before.before.before.before.before.before).0
@@ -99,6 +99,6 @@ note_eps_spec =
     same_length
     same-length-2
     returns
-    (λ c. (alone c.before.before).0)
-    (λ c. (alone c.before.before).1)
+    (λ c. (alone c.before).0)
+    (λ c. (alone c.before).1)
     returns-2)

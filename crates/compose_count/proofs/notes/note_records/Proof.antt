@@ -78,7 +78,7 @@ note_records_spec =
     returns
     tr-at-requires
     (λ c κs. search rules)
-    (λ c κs. c.before.before.before.before.before.before.before.before.before.before.before.before.before.before.before.before.before.before.requires.0)
+    (λ c κs. c.requires.0)
     next-at-requires
     loop-less
     loop-again
