@@ -1,21 +1,19 @@
 -- The facts of the list, and that the machine is sorted.
 use mathlib.Core.Path.{refl}
-use borrow.Author.Rules.{rules}
 use Rattle.words.proofs.ListLaws.{first_inside}
 use Rattle.sorted_lists.proofs.Along.{sorted_rising}
 use Rattle.list_facts.proofs.FactLaws.{straight_is}
 use Rattle.compose_plan.proofs.Lists.{len_from, eps_from}
-use Rattle.compose_plan.proofs.looked_up.Statement.{statement}
-use Rattle.compose_plan.proofs.looked_up.Tie as tie
+use Rattle.compose_plan.proofs.looked_up.Goals as goal
 
-returns : tie.Need-returns
+pub returns : goal.returns
 returns c =
-    let p = c.before.before.before.requires in
+    let p = c.requires in
     let f = p.3.1 in
-    rw c.first-at.ensures (
+    rw c.first_at.ensures (
       record {
         form = p.0;
-        base = c.before.record-base.ensures;
+        base = c.record_base.ensures;
         first = first_inside _ _;
         len = len_from f;
         eps = eps_from f;
@@ -25,6 +23,3 @@ returns c =
       refl,
       refl,
     )
-
-pub looked-up-spec : {M : Type 1} → statement M
-looked-up-spec = tie.close (tie.spec (λ c κs. search rules) (λ c κs. search rules) returns)
