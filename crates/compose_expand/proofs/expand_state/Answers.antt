@@ -55,4 +55,4 @@ returns c =
     let t = c.get_tuple-tuple.ensures in
     let f = c.remembered-facts1 in
     let g = c.remembered-facts2 in
-    let e = holds c.plain_labels.ensures c.if-not-plain_labels.false in record { result_after = c.expand_known.ensures; asked = (asked_plain _ _ _ _ _ _ _ _ _ e t f.ensures.true_of f.ensures.remembers.1, asked_plain _ _ _ _ _ _ _ _ _ e t g.ensures.true_of g.ensures.remembers.1); remembered = (f.ensures.remembers.0, g.ensures.remembers.0); }
+    let e = holds c.plain_labels.ensures c.if-not-plain_labels.false in record { result_after = c.expand_known.ensures; asked = (asked_plain _ _ _ _ _ _ _ _ _ e t f.ensures.true_of f.ensures.memo_after, asked_plain _ _ _ _ _ _ _ _ _ e t g.ensures.true_of g.ensures.memo_after); remembered = (f.ensures.remembers, g.ensures.remembers); }
