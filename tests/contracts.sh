@@ -25,21 +25,29 @@ function judge() {
 BEGIN { n = split(named, l, "\n"); for (i = 1; i <= n; i++) listed[l[i]] = 1 }
 FNR == 1 { name = "" }
 /^ *\/\// { next }
-name == "" && /^ *(pub )?(extern "C" )?fn / {
+# how many more braces a line opens than it closes
+function braces(line,    t) { t = line; return gsub(/{/, "", t) - gsub(/}/, "", t) }
+# a clause ends where its own braces do
+function on_clause() { deep += braces($0); begun = begun || /{/; clause = deep > 0 || !begun }
+name == "" && /^ *(pub )?((const|unsafe|extern "C") )*fn / {
     open = /^ *pub /
     exported = /extern "C"/
     split($0, w, "fn ")
     split(w[2], v, /[(<]/)
     name = v[1]
     sig = ""
-    says = asks = 0
+    says = asks = clause = 0
 }
 name == "" { next }
-clause { clause = !/⌝ }$/; next }
-$1 == "ensures" { says = 1; clause = !/⌝ }$/; next }
-$1 == "requires" { asks = 1; clause = !/⌝ }$/; next }
+clause { on_clause(); next }
+$1 == "ensures" || $1 == "requires" {
+    if ($1 == "ensures") says = 1; else asks = 1
+    deep = begun = 0
+    on_clause()
+    next
+}
 { sig = sig $0 }
-/[{}]$/ { judge() }
+/[{};]$/ { judge() }
 END {
     for (f in listed) if (!(f in asking)) { print "contracts: DECISIONS 33 names " f ", which has no requires"; bad = 1 }
     if (!bad) print "contracts: of " all " functions, each public one with a reply says what it is, and " n " with a requires are named"

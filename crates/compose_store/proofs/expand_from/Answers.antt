@@ -25,8 +25,8 @@ new_part-part-requires c =
     let d = stored a.heads.now a.states.now a.trs.now a.used.states a.used.trs in
     let l = steps_left a.options (lent_of a.options a.m1.now a.m2.now a.a1.now a.a2.now a.ignored.now) a.start in
     let w = c.store_steps-after in
-    let x = w.new.1.1.1.1.1.1 in
-    (steps_stay d l (stored x.0 x.1.0 x.1.1.0 w.result.states w.result.trs) (sym w.ensures)).trs
+    let x = w.new in
+    (steps_stay d l (stored x.heads x.states x.trs w.result.states w.result.trs) (sym w.ensures)).trs
 
 pub returns-in-Refused : goal.returns-in-Refused
 returns-in-Refused c =
@@ -42,9 +42,9 @@ returns-in-Clear c =
     let a = c.args in
     let d = stored a.heads.now a.states.now a.trs.now a.used.states a.used.trs in
     let w = c.store_steps-after in
-    let x = w.new.1.1.1.1.1.1 in
+    let x = w.new in
     let v = c.mark_expanded in
     λ o e. sym (expanded_new o (session_under a.options a.used) (memory_of a.heads.now a.states.now a.trs.now) a.n.0
-    (stored x.0 x.1.0 x.1.1.0 w.result.states w.result.trs) (stored x.0 v.new.states x.1.1.0 w.result.states w.result.trs)
+    (stored x.heads x.states x.trs w.result.states w.result.trs) (stored x.heads v.new.states x.trs w.result.states w.result.trs)
     (part_means c.new_part-part.result)
-    (ap (store_steps d) e ∙ sym w.ensures) (c.new_part-part.ensures a.used.states w.result.states) (v.ensures x.0 x.1.1.0 w.result.states w.result.trs))
+    (ap (store_steps d) e ∙ sym w.ensures) (c.new_part-part.ensures a.used.states w.result.states) (v.ensures x.heads x.trs w.result.states w.result.trs))

@@ -57,23 +57,23 @@ alone c =
     let m = c.match-lone in
     ⊎_elim
     (λ w.
-    let x = w.8.last in
-    let st = compose_tr_means w.7.result in
-    let l = sym (alone_is v e (tr_means w.3.result) w.1.given.0.0 w.3.ensures w.1.given.1) ∙ w.7.ensures in (
-      ap length w.15 ∙ w.8.kept.0,
-      ap length w.16 ∙ w.8.kept.1.0,
-      ap length w.17 ∙ w.8.kept.1.1.0,
-      same_store m.heads x.0 m.states x.1.0 m.trs x.1.1.0 m.grown w.8.result w.15 w.16 w.17 w.18
-          ∙ one_stored d (store_in x.0 x.1.0 x.1.1.0 w.8.result) (alone_by v e) st w.8.ensures l,
+    let x = w.push-grown.new in
+    let st = compose_tr_means w.joined.result in
+    let l = sym (alone_is v e (tr_means w.resting-rest.result) w.in-Kept.fs w.resting-rest.ensures w.in-Kept.is) ∙ w.joined.ensures in (
+      ap length w.heads-is ∙ w.push-grown.auto.heads,
+      ap length w.states-is ∙ w.push-grown.auto.states,
+      ap length w.trs-is ∙ w.push-grown.auto.trs,
+      same_store m.heads x.heads m.states x.states m.trs x.trs m.grown w.push-grown.result w.heads-is w.states-is w.trs-is w.grown-is
+          ∙ one_stored d (store_in x.heads x.states x.trs w.push-grown.result) (alone_by v e) st w.push-grown.ensures l,
     ))
     (λ w. (
-      ap length w.2,
-      ap length w.3,
-      ap length w.4,
-      same_store m.heads a.heads.now m.states a.states.now m.trs a.trs.now m.grown a.used w.2 w.3 w.4 w.5
-          ∙ none_stored d (alone_by v e) (alone_none v e w.1.given.1),
+      ap length w.heads-is,
+      ap length w.states-is,
+      ap length w.trs-is,
+      same_store m.heads a.heads.now m.states a.states.now m.trs a.trs.now m.grown a.used w.heads-is w.states-is w.trs-is w.grown-is
+          ∙ none_stored d (alone_by v e) (alone_none v e w.in-Dropped.is),
     ))
-    m.branch
+    m.branch-raw
 
 with-eps-requires : tie.Need-with_eps-requires
 with-eps-requires c κs =
@@ -140,7 +140,7 @@ eps_moves_spec =
     same-length-2
     same-length-3
     returns
-    (λ c. (alone c.before.before).0)
-    (λ c. (alone c.before.before).1)
-    (λ c. (alone c.before.before).2)
+    (λ c. (alone c.before).0)
+    (λ c. (alone c.before).1)
+    (λ c. (alone c.before).2)
     returns-2)
