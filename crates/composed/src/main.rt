@@ -1,8 +1,9 @@
 // Reads settings and two machines, a line each, and prints the composed machine, or `refused n` and nothing more.
 #![tactic(auto)]
 
+ghost use Rattle.std.specs.Prelude.{IfSome};
 ghost use Rattle.io.specs.Counts.{IsPrefixLen};
-ghost use Rattle.composed.specs.Prints.{Prints};
+ghost use Rattle.composed.specs.Prints.{Prints, PrintsOf};
 
 use listing::answer;
 use listing_input::read_lines;
@@ -13,6 +14,7 @@ use std::io::Read;
 // What is printed of the input, at the start of `out`. A fourth line plays no part.
 fn composed<R: Read>(input: &mut R, out: &mut [u8; 131200]) -> usize
     ensures prints { Prints out.old out.new result }
+    ensures bytes { IfSome (R.remaining input.old) (λ xs. PrintsOf xs out.old out.new result) }
     ensures counts { IsPrefixLen result out.new }
 {
     let mut settings = [0u32; SETTINGS_WORDS];

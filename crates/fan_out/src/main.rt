@@ -1,7 +1,7 @@
 // Reads settings, two machines and a query (machine, state, label), a line each, and prints how many matches the look-up of the label gives, or `refused n`.
 #![tactic(auto)]
 
-ghost use Rattle.std.specs.Prelude.{◌≡◌, []};
+ghost use Rattle.std.specs.Prelude.{◌≡◌, [], IfSome};
 ghost use Rattle.std.proofs.Math.Option.{none};
 ghost use Rattle.io.specs.Counts.{IsPrefixLen};
 ghost use Rattle.fan_outs.specs.FanOut.{fan_out_line};
@@ -11,7 +11,7 @@ ghost use Rattle.listing_read.specs.Held.{ended_words};
 ghost use Rattle.listing_write.specs.Written.{Written};
 ghost use Rattle.session_checks.specs.Meaning.{lent_slices};
 ghost use Rattle.fan_out_call.specs.Meaning.{fan_out_means};
-ghost use Rattle.fan_out.specs.Prints.{Prints};
+ghost use Rattle.fan_out.specs.Prints.{Prints, PrintsOf};
 
 use fan_out_call::{FanOut, fan_out};
 use fst::{Label, REFUSED_SETTINGS, StateId, word};
@@ -114,6 +114,7 @@ fn answer(
 // What is printed of the input, at the start of `out`.
 fn printed<R: Read>(input: &mut R, out: &mut [u8; 64]) -> usize
     ensures prints { Prints out.old out.new result }
+    ensures bytes { IfSome (R.remaining input.old) (λ xs. PrintsOf xs out.old out.new result) }
     ensures counts { IsPrefixLen result out.new }
 {
     let mut settings = [0u32; SETTINGS_WORDS];
