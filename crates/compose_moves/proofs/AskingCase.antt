@@ -85,15 +85,15 @@ abbrev both_sigmas : ComposeFstOpOptions
 both_sigmas = record { kind = 0; filter = 0; side = Both; sigma1 = named 9; sigma2 = named 8 }
 
 -- the words are lent in slices, wherever they lie; there are no allowed lists, and no label is ignored
-module _ (κs : Lfts 3) (κt : Lfts 5) (ptr1 ptr2 : ℕ × ℕ) (name1 name2 : ℕ) (unread1 unread2 : Bor (List ℕ)) where
+module _ (κs : Lfts 3) (κt : Lfts 5) (ptr1 ptr2 : ℕ × ℕ) (unread1 unread2 : Bor (List ℕ)) where
   abbrev in1 : List ℕ → Bor (List ℕ)
-  in1 words = record { ref_ptr = ptr1; ghost_name = name1; now = words }
+  in1 words = record { ref_ptr = ptr1; now = words }
 
   abbrev in2 : List ℕ → Bor (List ℕ)
-  in2 words = record { ref_ptr = ptr2; ghost_name = name2; now = words }
+  in2 words = record { ref_ptr = ptr2; now = words }
 
   abbrev none_ignored : Bor (List ℕ)
-  none_ignored = record { ref_ptr = ptr1; ghost_name = name1; now = [] }
+  none_ignored = record { ref_ptr = ptr1; now = [] }
 
   -- (1, 0, 0)
   abbrev Answer : MoveCursor → NextStep → Type 0

@@ -7,7 +7,7 @@ use native.Mathlib.Omega.{arith}
 use Rattle.words.specs.Labels.{no_label, Checked, good, refused}
 use Rattle.words.specs.Matches.{MatchType, inputs, outputs, Match, own, sorted_matches}
 use Rattle.words.specs.Machines.{list_of, first_of}
-use Rattle.words.specs.Sigmas.{Operand, lookup}
+use Rattle.words.specs.Sigmas.{rewrite, Operand, lookup}
 use Rattle.words.specs.Sides.{direction_at}
 use Rattle.words.specs.Settings.{Lent}
 use Rattle.words.specs.Steps.{Composition, Triple, Move, Step, walked as walkedEdges, asks, move_of, moves_of, walk, moves_at, kept_along, kept_at, steps_at}
@@ -71,7 +71,7 @@ module _ (K : Walk) (F : Checked Move → List (Checked Step)) (refuses : (n : �
 -- asked for MAX: the sorted look-up, and no refusal
 rest_items : (on : MatchType) (m : List ℕ) (σ : Sigma) (allowed : Option (List ℕ)) (s : ℕ) → lookup_items (operand_in on m σ allowed) s no_label ≡ good (sorted_items on m s no_label)
 unfolding lookup_items sorted_matches
-rest_items on m σ allowed s = rw (lookup_none (operand_in on m σ allowed) s) (ap good (sorted_items_lem on m s no_label _))
+rest_items on m σ allowed s = rw (lookup_none (operand_in on m σ allowed) s) (ap good (sorted_items_lem on m s no_label (rewrite (operand_in on m σ allowed).sigma.rewrite_both on (operand_in on m σ allowed).sigma.label no_label)))
 
 -- a walk whose walked machine rests, with all its matches
 pub at_rest : (K : Walk) (σ : Sigma) (allowed : Option (List ℕ)) (c : Cursor) → K.operand ≡ operand_in K.on K.looked σ allowed

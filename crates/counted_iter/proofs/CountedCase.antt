@@ -44,12 +44,12 @@ abbrev five : Cursor
 five = record { on = MatchInput; label = record { 0 = 5 }; sigma = record { 0 = no_label }; labels = labels_with plain; both = false; phase = Sigmas; loops = false; tr = 0; sigmas = 0 }
 
 -- the words are lent in a slice, wherever it lies; there is no allowed list, and no label is ignored
-module _ (κs : Lfts 2) (κt : Lfts 3) (ptr : ℕ × ℕ) (name : ℕ) (unread : Bor (List ℕ)) where
+module _ (κs : Lfts 2) (κt : Lfts 3) (ptr : ℕ × ℕ) (unread : Bor (List ℕ)) where
   abbrev lent : Bor (List ℕ)
-  lent = record { ref_ptr = ptr; ghost_name = name; now = words }
+  lent = record { ref_ptr = ptr; now = words }
 
   abbrev none_ignored : Bor (List ℕ)
-  none_ignored = record { ref_ptr = ptr; ghost_name = name; now = [] }
+  none_ignored = record { ref_ptr = ptr; now = [] }
 
   abbrev Reply : Sigma → ℕ → CountedIter → Type 0
   Reply sigma x i = CountedReply κt lent none_ignored unread MatchInput (labels_with sigma) sigma (record { 0 = 0 }) (record { 0 = x }) i

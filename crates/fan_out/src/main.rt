@@ -1,7 +1,7 @@
 // Reads settings, two machines and a query (machine, state, label), a line each, and prints how many matches the look-up of the label gives, or `refused n`.
 #![tactic(auto)]
 
-ghost use Rattle.std.specs.Prelude.{◌≡◌, []};
+ghost use Rattle.std.specs.Prelude.{◌≡◌, [], IfSome};
 ghost use Rattle.std.proofs.Math.Option.{none};
 ghost use Rattle.io.specs.Counts.{IsPrefixLen};
 ghost use Rattle.fan_outs.specs.FanOut.{fan_out_line};
@@ -11,16 +11,16 @@ ghost use Rattle.listing_read.specs.Held.{ended_words};
 ghost use Rattle.listing_write.specs.Written.{Written};
 ghost use Rattle.session_checks.specs.Meaning.{lent_slices};
 ghost use Rattle.fan_out_call.specs.Meaning.{fan_out_means};
-ghost use Rattle.fan_out.specs.Prints.{Prints};
+ghost use Rattle.fan_out.specs.Prints.{Prints, PrintsOf};
 
 use fan_out_call::{FanOut, fan_out};
 use fst::{Label, REFUSED_SETTINGS, StateId, word};
 use lazy_fst::AllowedLists;
-use libc::STDOUT_FILENO;
 use listing_input::read_lines;
 use listing_read::{MACHINE_WORDS, QUERY_WORDS, Reader, line_words};
 use listing_write::{put_count, put_refused};
 use session_checks::{SETTINGS_WORDS, read_settings};
+use std::io::Read;
 
 // A machine that is neither 1 nor 2: a query not of three words names it.
 const NO_MACHINE: u32 = 0;
@@ -112,20 +112,21 @@ fn answer(
 }
 
 // What is printed of the input, at the start of `out`.
-fn printed(out: &mut [u8; 64]) -> usize
+fn printed<R: Read>(input: &mut R, out: &mut [u8; 64]) -> usize
     ensures prints { Prints out.old out.new result }
+    ensures bytes { IfSome (R.remaining input.old) (λ xs. PrintsOf xs out.old out.new result) }
     ensures counts { IsPrefixLen result out.new }
 {
     let mut settings = [0u32; SETTINGS_WORDS];
     let mut first = [0u32; MACHINE_WORDS];
     let mut second = [0u32; MACHINE_WORDS];
     let mut query = [0u32; QUERY_WORDS];
-    let r = read_lines(4, &mut settings, &mut first, &mut second, &mut query);
+    let r = read_lines(input, 4, &mut settings, &mut first, &mut second, &mut query);
     answer(r, &mut settings, &mut first, &mut second, &mut query, out)
 }
 
-fn main() {
+fn main(rt: HostRuntime) -> std::io::Result<()> {
     let mut out = [0u8; 64];
-    let n = printed(&mut out);
-    io::write_all(STDOUT_FILENO, &out[..n]);
+    let n = printed(&mut rt.reader(), &mut out);
+    rt.write_all(&out[..n])
 }

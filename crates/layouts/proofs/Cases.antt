@@ -5,7 +5,6 @@ use mathlib.Core.Option.{none, some}
 use Prim.Native.Nat.{ℕ, zero, suc, ◌≤◌, ◌<◌}
 use native.Mathlib.Omega.{arith}
 use lib.ListN.{get_or, replicate}
-use Rattle.lists.specs.Lists.{first}
 use Rattle.words.specs.Machines.{state_count, tr_count}
 use Rattle.words.specs.Settings.{Lent}
 use Rattle.calls.specs.Store.{Memory, triple_at, expanded_with, field_of, first_with, next_with}

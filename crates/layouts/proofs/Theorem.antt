@@ -8,7 +8,7 @@ use Rattle.words.specs.Settings.{Lent}
 use Rattle.calls.specs.Store.{Memory}
 use Rattle.calls.specs.Checks.{Session}
 use Rattle.calls.specs.Calls.{Outcome, records_place, records_place_with}
-use Rattle.calls.specs.Sequences.{World, Call, opening, expand, final_weight, records, run, Said, accepted, part, weight, answered, handed, Turn, said_of, turn_of, call_of, replies, after_with, call_with, replies_with}
+use Rattle.calls.specs.Sequences.{World, Call, opening, expand, final_weight, records, run, Said, accepted, part, weight, answered, handed, Turn, said_of, turn_of, call_of, after_with, call_with, replies_with}
 use Rattle.layouts.specs.Layout.{five}
 use Rattle.layouts.specs.SameRecords.{new_states, whole_trs, SameWorld, Small, SmallCall, SmallCalls, Few, Many, Above, Moved, SameTurn, SameTurns, MovedAt, EarlierAnswers}
 use Rattle.layouts.proofs.SameSteps.{Wide}

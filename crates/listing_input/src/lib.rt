@@ -1,14 +1,14 @@
-// Standard input, read into the listing's lines and a query. Where a read fails, the line that is being read is never taken for a whole one.
+// An input, as standard input, read into the listing's lines and a query. Where a read fails, the line that is being read is never taken for a whole one.
 #![tactic(auto)]
 
-ghost use Rattle.std.specs.Prelude.{◌≡◌, [], ◌∷◌};
+ghost use Rattle.std.specs.Prelude.{◌≡◌, [], ◌∷◌, IfSome};
 ghost use Rattle.listing_text.specs.Chunks.{in_rooms, read_bytes};
 ghost use Rattle.listing_read.specs.Meaning.{read_input, rooms_of};
 ghost use Rattle.listing_read.specs.Held.{held, held_bytes};
-ghost use Rattle.listing_input.specs.Read.{handed_on, reads_on, Reads};
+ghost use Rattle.listing_input.specs.Read.{handed_on, reads_on, Reads, ReadsFrom, Took};
 
-use libc::STDIN_FILENO;
 use listing_read::{Reader, new_reader, read_chunk};
+use std::io::Read;
 
 // More reads than can be made: at a thousand million a second they take 584 years.
 const MOST_CHUNKS: u64 = 18446744073709551615;
@@ -67,22 +67,36 @@ fn reads_on(lines: u32, at: u32, got: isize) -> bool
     got > 0
 }
 
+// A read of the input: how many bytes came, 0 at its end, or -1 where it failed.
+fn read_some<R: Read>(input: &mut R, chunk: &mut [u8]) -> isize
+    ensures { Took (R.remaining input.old) (R.remaining input.new) result chunk.new }
+{
+    match input.read(chunk) {
+        Ok(n) => n as isize,
+        Err(_) => -1,
+    }
+}
+
 // Reads up to line feed number `lines`, the end of the input or a read that fails. Where the chunks are used up, the line that is being read is spoiled.
-pub fn read_lines(
+pub fn read_lines<R: Read>(
+    input: &mut R,
     lines: u32,
     settings: &mut [u32],
     first: &mut [u32],
     second: &mut [u32],
     query: &mut [u32],
 ) -> Reader
-    ensures { let rooms = rooms_of settings.old first.old second.old query.old in
+    ensures reads { let rooms = rooms_of settings.old first.old second.old query.old in
         Reads rooms (read_input result settings.new first.new second.new query.new) }
+    ensures bytes { let rooms = rooms_of settings.old first.old second.old query.old in
+        let i = read_input result settings.new first.new second.new query.new in
+        IfSome (R.remaining input.old) (λ xs. ReadsFrom lines xs rooms i) }
 {
     let mut chunk = io::large_buffer();
     let mut r = new_reader();
     let mut left = MOST_CHUNKS;
     while left > 0 {
-        let got = libc::read(STDIN_FILENO, &mut chunk);
+        let got = read_some(input, &mut chunk);
         r = after_read(r, got, &chunk, settings, first, second, query);
         if !reads_on(lines, r.at, got) {
             return r;

@@ -1,14 +1,13 @@
 -- Lists that are built alike from what agrees on their members.
-use mathlib.Core.Path.{◌≡◌, refl, sym, ◌∙◌, ap}
+use mathlib.Core.Path.{◌≡◌, refl, ◌∙◌}
 use mathlib.Core.Bool.{Bool, cond}
 use mathlib.Core.List.Memᴰ.{head as here}
 use mathlib.Core.List.Memᴰ.{tail as there}
 use mathlib.Core.List.{List, [], ◌∷◌, map, Memᴰ as In}
-use Prim.Native.Nat.{ℕ, zero, suc, ◌+◌, ◌≤◌, ◌<◌}
+use Prim.Native.Nat.{ℕ, zero, suc, ◌+◌}
 use native.Mathlib.Omega.{arith}
-use lib.ListN.{length, get_or, set}
-use lib.Seq.{sets, get_or-set_same, get_or-set_other}
-use Rattle.lists.specs.Lists.{put_if, keep_if, interval, put}
+use lib.ListN.{length}
+use Rattle.lists.specs.Lists.{put_if, keep_if, interval}
 use Rattle.lists.proofs.Members.{put_length}
 
 pub keep_same : {A : Type 0} (P Q : A → Bool) (l : List A) → ((a : A) → In a l → P a ≡ Q a) → keep_if P l ≡ keep_if Q l

@@ -80,12 +80,12 @@ from_is : {c d : Cursor} → From c ≡ From d → c ≡ d
 from_is e = cc
 
 -- the words are lent in a slice, wherever it lies; there is no allowed list, and no label is ignored
-module _ (κs : Lfts 2) (κt : Lfts 3) (ptr : ℕ × ℕ) (name : ℕ) (unread : Bor (List ℕ)) where
+module _ (κs : Lfts 2) (κt : Lfts 3) (ptr : ℕ × ℕ) (unread : Bor (List ℕ)) where
   abbrev lent : Bor (List ℕ)
-  lent = record { ref_ptr = ptr; ghost_name = name; now = words }
+  lent = record { ref_ptr = ptr; now = words }
 
   abbrev none_ignored : Bor (List ℕ)
-  none_ignored = record { ref_ptr = ptr; ghost_name = name; now = [] }
+  none_ignored = record { ref_ptr = ptr; now = [] }
 
   abbrev Answer : Cursor → Step → Type 0
   Answer c r = NextReply κs lent none_ignored c r

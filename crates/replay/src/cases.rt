@@ -5,7 +5,6 @@ ghost use Rattle.replay.specs.Places.{new_place, room_at, place_ended, place_byt
 use crate::order::print_order;
 use fst::word;
 use lazy_fst::AllowedLists;
-use libc::STDOUT_FILENO;
 use listing::listing;
 use listing_read::{LineReader, MACHINE_WORDS, new_line, step_byte};
 use store_records::store;
@@ -19,6 +18,9 @@ pub const WORDS: usize = LINES * ROOM;
 
 // The end of a line that is not of words.
 const NO_WORDS: u32 = 4294967295;
+
+// The number of standard output.
+pub const STDOUT: i32 = 1;
 
 // The line of the case that is being read, and whether a byte of the case was read.
 #[derive(Clone, Copy)]
@@ -90,9 +92,9 @@ fn answer(words: &[u32], ends: &[u32]) {
         let n = listing(
             settings, m1, m2, allowed1, allowed2, ignored, listed, &mut out,
         );
-        io::write_all(STDOUT_FILENO, &out[..n]);
+        io::write_all(STDOUT, &out[..n]);
     }
-    io::write_all(STDOUT_FILENO, b"--\n");
+    io::write_all(STDOUT, b"--\n");
 }
 
 // What is kept of a line that ended.

@@ -2,11 +2,11 @@
 ghost use Rattle.std.specs.Prelude.{◌/◌, ◌<◌, ◌≤◌, length};
 ghost use Rattle.calls.specs.Store.{tr_size};
 
+use crate::cases::STDOUT;
 use compose_state_tuple::ComposeStateTuple;
 use final_weights::found;
 use fst::{REFUSED_SETTINGS, StateId};
 use lazy_fst::{AllowedLists, Answer, PartAnswer, Session, WeightAnswer};
-use libc::STDOUT_FILENO;
 use listing::{HEADS, STATE_WORDS, TR_WORDS, no_session};
 use listing_write::{put_end, put_refused, put_side, put_state, put_tr};
 use session_checks::{SETTINGS_WORDS, Settings, read_settings};
@@ -15,7 +15,7 @@ use store_records::{TR_SIZE, get_tuple, stored_tr};
 // The first n bytes of a line.
 fn show(line: &[u8], n: usize) {
     if n <= line.len() {
-        io::write_all(STDOUT_FILENO, &line[0..n]);
+        io::write_all(STDOUT, &line[0..n]);
     }
 }
 
@@ -94,9 +94,9 @@ fn print_expanded(
 )
     requires { 64 ≤ length line.old }
 {
-    io::write_all(STDOUT_FILENO, b"e ");
-    io::print_decimal(STDOUT_FILENO, n as u64);
-    io::write_all(STDOUT_FILENO, b"\n");
+    io::write_all(STDOUT, b"e ");
+    io::print_decimal(STDOUT, n as u64);
+    io::write_all(STDOUT, b"\n");
     let s = StateId(n);
     let records = session.records(
         m1, m2, allowed1, allowed2, ignored, listed, heads, states, trs, s,

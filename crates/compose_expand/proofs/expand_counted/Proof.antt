@@ -42,78 +42,78 @@ as_lent c =
     ap (λ (x : Composition). settle s m (expansion x s m a.n.0)) (sym (composing_none a.options a.m1.now a.m2.now a.a1.now a.a2.now a.ignored.now (none c)))
 
 -- the arm in which the steps are stored
-all-stored : (c : tie.After-stored) → let a = c.before.before.before.before.before.before.before.before.before.before.before.before.before.before.before.before.before.before.before.before.before.before.before.before.args in let x = c.before.before.before.before.before.before.before.before.store-tight.new.1.1.1 in
-    StoredIs (store_in a.heads.now a.states.now a.trs.now a.used) a.used (steps_at (composing_words a.options a.m1.now a.m2.now a.a1.now a.a2.now) (tuple_means a.tuple)) x.0 x.1.0 x.1.1.0
-    (After c.stored.given.0.0)
-all-stored c = let a = c.before.before.before.before.before.before.before.before.before.before.before.before.before.before.before.before.before.before.before.before.before.before.before.before.args in rw c.stored.given.1 at (c.before.before.before.before.before.before.before.before.store-tight.ensures a.a1.now a.a2.now)
+all-stored : (c : tie.In-After) → let a = c.args in let x = c.store_tight-stored.new in
+    StoredIs (store_in a.heads.now a.states.now a.trs.now a.used) a.used (steps_at (composing_words a.options a.m1.now a.m2.now a.a1.now a.a2.now) (tuple_means a.tuple)) x.heads x.states x.trs
+    (After c.in-After.after)
+all-stored c = let a = c.args in rw c.in-After.is at (c.store_tight-stored.ensures a.a1.now a.a2.now)
 
-grown : (c : tie.After-stored) → c.before.before.before.before.before.before.before.before.before.before.before.before.before.before.before.before.before.before.before.before.before.before.before.before.args.used.trs ≤ c.stored.given.0.0.trs
+grown : (c : tie.In-After) → c.args.used.trs ≤ c.in-After.after.trs
 grown c =
-    let a = c.before.before.before.before.before.before.before.before.before.before.before.before.before.before.before.before.before.before.before.before.before.before.before.before.args in
+    let a = c.args in
     let k = all-stored c in
     no_fewer (store_in a.heads.now a.states.now a.trs.now a.used) _ _ k.1 k.0
 
-store-tight-requires : tie.Need-store-tight-requires
+store-tight-requires : tie.Need-store_tight-stored-requires
 store-tight-requires c κs =
-    let s = c.before.before.before.before.before.before.before.before.before.before.before.before.before.before in
-    let a = s.before.args in
-    let p = s.before.requires in
+    let s = c.before.before.before.before.before.before.before.before.before.before.before.before.before in
+    let a = s.args in
+    let p = s.requires in
     let m = memory_of a.heads.now a.states.now a.trs.now in
     let plain = none_sigma (option_settings a.options) a.ignored.now p.3 in (
       plain,
-      c.before.before.before.before.before.before.direction.ensures,
-      present a.options a.m1.now a.m2.now a.a1.now a.a2.now a.ignored.now a.used m p.0 (none s.before) a.n.0 p.1 _ p.2 a.facts1 a.facts2 p.4 p.5,
-      (a.a1.now, a.a2.now, weighable a.options a.m1.now a.m2.now a.a1.now a.a2.now a.ignored.now a.used m p.0 (none s.before) a.n.0 p.1 _ p.2 a.facts1 a.facts2 p.4 p.5 plain p.6 (omega (arith, s.before.well-formed.1.1.1.1.1.1.1.1.1.1.1.1.0)) (omega (arith, s.before.well-formed.1.1.1.1.1.1.1.1.1.1.1.1.1.0)) (on_of c.before.before.before.before.before.before.direction.result) c.before.before.before.before.before.before.direction.ensures c.before.before.before.serves.result (c.before.before.before.serves.ensures a.heads.now)),
+      c.direction-on.ensures,
+      present a.options a.m1.now a.m2.now a.a1.now a.a2.now a.ignored.now a.used m p.0 (none s) a.n.0 p.1 _ p.2 a.facts1 a.facts2 p.4 p.5,
+      (a.a1.now, a.a2.now, weighable a.options a.m1.now a.m2.now a.a1.now a.a2.now a.ignored.now a.used m p.0 (none s) a.n.0 p.1 _ p.2 a.facts1 a.facts2 p.4 p.5 plain p.6 (omega (arith, s.well_formed.1.1.1.1.1.1.1.1.1.1.1.1.0)) (omega (arith, s.well_formed.1.1.1.1.1.1.1.1.1.1.1.1.1.0)) (on_of c.direction-on.result) c.direction-on.ensures c.serves-sure.result (c.serves-sure.ensures a.heads.now)),
     )
 
 -- memory as it was
-expand-weighed-requires : tie.Need-expand-weighed-requires
+expand-weighed-requires : tie.Need-expand_weighed-requires
 expand-weighed-requires c κs =
-    let a = c.before.before.before.before.before.before.before.before.before.before.before.before.before.before.before.before.before.before.before.before.before.before.before.before.before.before.before.args in
-    let p = c.before.before.before.before.before.before.before.before.before.before.before.before.before.before.before.before.before.before.before.before.before.before.before.before.before.before.before.requires in
-    let k = rw c.before.before.before.enum-told2.given.1 at (c.before.before.before.before.before.before.before.before.before.before.before.store-tight.ensures a.a1.now a.a2.now) in
+    let a = c.args in
+    let p = c.requires in
+    let k = rw c.in-Unknown.is at (c.store_tight-stored.ensures a.a1.now a.a2.now) in
     (subst (λ (m : Memory). entered (lent_of a.options a.m1.now a.m2.now a.a1.now a.a2.now a.ignored.now) (session_under a.options a.used) m ≡ good (composing a.options a.m1.now a.m2.now a.a1.now a.a2.now a.ignored.now)) (sym (ap (λ (x : Store). x.memory) k)) p.0, p.1)
 
-returns : tie.Need-returns
+returns : tie.Need-returns-in-Lacks
 returns c =
-    let s = c.before.before.before.before.before.before.before.before.before.before.before.before.before.before.before.before.before.before.before.before.before.before.before in
-    let a = s.before.args in
+    let s = c.before.before.before.before.before.before.before.before.before.before.before.before.before.before.before.before.before.before.before.before.before in
+    let a = s.args in
     let o = composing_words a.options a.m1.now a.m2.now a.a1.now a.a2.now in
-    let k = rw c.enum_told.given.1 at (c.before.before.before.before.before.before.before.before.store-tight.ensures a.a1.now a.a2.now) in
+    let k = rw c.in-Lacks.is at (c.store_tight-stored.ensures a.a1.now a.a2.now) in
     ap (λ (x : Store). record { answer = refused 13; session = session_under a.options a.used; memory = x.memory }) k.0
-    ∙ sym (expanded_refused o (session_under a.options a.used) (memory_of a.heads.now a.states.now a.trs.now) a.n.0 13 (subst (λ (t : Triple). store_steps (store_in a.heads.now a.states.now a.trs.now a.used) (steps_at o t) ≡ refused 13) s.before.requires.2 k.1))
-    ∙ as_lent s.before
+    ∙ sym (expanded_refused o (session_under a.options a.used) (memory_of a.heads.now a.states.now a.trs.now) a.n.0 13 (subst (λ (t : Triple). store_steps (store_in a.heads.now a.states.now a.trs.now a.used) (steps_at o t) ≡ refused 13) s.requires.2 k.1))
+    ∙ as_lent s
 
-returns-2 : tie.Need-returns-2
+returns-2 : tie.Need-returns-in-Unknown
 returns-2 c =
-    let a = c.before.before.before.before.before.before.before.before.before.before.before.before.before.before.before.before.before.before.before.before.before.before.before.before.before.before.before.before.before.before.before.before.before.before.args in
-    let k = rw c.before.before.before.before.before.before.before.before.before.before.enum-told2.given.1 at (c.before.before.before.before.before.before.before.before.before.before.before.before.before.before.before.before.before.before.store-tight.ensures a.a1.now a.a2.now) in
-    c.before.before.before.before.before.before.expand-weighed.ensures
+    let a = c.args in
+    let k = rw c.in-Unknown.is at (c.store_tight-stored.ensures a.a1.now a.a2.now) in
+    c.expand_weighed.ensures
     ∙ ap (λ (m : Memory). settle (session_under a.options a.used) m (expansion (composing a.options a.m1.now a.m2.now a.a1.now a.a2.now a.ignored.now) (session_under a.options a.used) m a.n.0)) (ap (λ (x : Store). x.memory) k)
 
-returns-3 : tie.Need-returns-3
+returns-3 : tie.Need-returns-in-After
 returns-3 c =
-    let s = c.before.before.before.before.before.before.before.before.before.before.before.before.before.before.before.before.before.before.before.before.before.before.before.before.before.before.before.before.before.before.before.before.before in
-    let a = s.before.args in
+    let s = c.before.before.before.before.before.before.before.before.before.before.before.before.before.before.before.before.before.before.before.before.before.before.before.before.before.before.before.before.before.before in
+    let a = s.args in
     let o = composing_words a.options a.m1.now a.m2.now a.a1.now a.a2.now in
     let d = store_in a.heads.now a.states.now a.trs.now a.used in
-    let e = s.before.requires.2 in
-    let k = all-stored c.before.before.before.before.before.before.before.before.before.before in
-    let x = c.before.before.before.before.before.before.before.before.before.before.before.before.before.before.before.before.before.before.store-tight.new.1.1.1 in
-    let u = c.before.before.before.before.before.before.before.before.before.before.stored.given.0.0 in
-    let l = c.before.before.before.before.before.before.before.end_List in
-    let v = c.before.before.mark-expanded in
-    sym (plain_left o (session_under a.options a.used) (memory_of a.heads.now a.states.now a.trs.now) a.n.0 (store_in x.0 x.1.0 x.1.1.0 u) (stored x.0 x.1.0 l.new.0 u.states u.trs) (stored x.0 v.new.0 l.new.0 u.states u.trs)
-    (part_means c.before.before.before.before.new-part.result)
+    let e = s.requires.2 in
+    let k = all-stored c.before.before.before.before.before.before.before.before.before in
+    let x = c.store_tight-stored.new in
+    let u = c.in-After.after in
+    let l = c.end_list in
+    let v = c.mark_expanded in
+    sym (plain_left o (session_under a.options a.used) (memory_of a.heads.now a.states.now a.trs.now) a.n.0 (store_in x.heads x.states x.trs u) (stored x.heads x.states l.new.trs u.states u.trs) (stored x.heads v.new.states l.new.trs u.states u.trs)
+    (part_means c.new_part-part.result)
     (subst (λ (t : Triple). Fits d (steps_at o t)) e k.1)
     (k.0 ∙ ap (λ (t : Triple). store_all d (steps_at o t)) e)
-    (l.ensures x.0 x.1.0 u.states)
-    (c.before.before.before.before.new-part.ensures a.used.states u.states)
-    (v.ensures x.0 l.new.0 u.states u.trs))
-    ∙ as_lent s.before
+    (l.ensures x.heads x.states u.states)
+    (c.new_part-part.ensures a.used.states u.states)
+    (v.ensures x.heads l.new.trs u.states u.trs))
+    ∙ as_lent s
 
-pub expand-counted-spec : {M : Type 1} → statement M
-expand-counted-spec =
+pub expand_counted_spec : {M : Type 1} → statement M
+expand_counted_spec =
     tie.close
     (tie.spec
     (λ c κs. search rules)
@@ -123,8 +123,8 @@ expand-counted-spec =
     (λ c. search rules)
     expand-weighed-requires
     (λ c. search rules)
-    (λ c κs. grown c.before.before)
-    (λ c κs. grown c.before.before.before.before.before)
+    (λ c κs. grown c.before)
+    (λ c κs. grown c.before.before.before.before)
     (λ c κs. search rules)
     (λ c. search rules)
     (λ c. search rules)

@@ -21,115 +21,111 @@ use Rattle.compose_walk.proofs.eps_moves.Tie as tie
 
 joined-requires : tie.Need-joined-requires
 joined-requires c κs =
-    let a = c.before.before.before.before.before.before.before.before.before.before.before.before.before.args in
-    let p = c.before.before.before.before.before.before.before.before.before.before.before.before.before.requires in
-    let r = c.before.before.before.resting in
-    let k = c.before.before.before.before.before.lone.given in
+    let a = c.args in
+    let p = c.requires in
+    let r = c.resting-rest in
     let d = store_in a.heads.now a.states.now a.trs.now a.used in
     let v = a.plan in
     let others = both_by v a.mm.now (tr_means a.edge) in
-    fits_product (side_by v) (kind_of v.kind) (tr_means a.edge) (tr_means r.result) k.0.0 d others
-    (subst (λ l. Fits d (l ++ others)) (sym (alone_is v (tr_means a.edge) (tr_means r.result) k.0.0 r.ensures k.1)) p.1)
+    fits_product (side_by v) (kind_of v.kind) (tr_means a.edge) (tr_means r.result) c.in-Kept.fs d others
+    (subst (λ l. Fits d (l ++ others)) (sym (alone_is v (tr_means a.edge) (tr_means r.result) c.in-Kept.fs r.ensures c.in-Kept.is)) p.1)
 
-push-requires : tie.Need-push-requires
+push-requires : tie.Need-push-grown-requires
 push-requires c κs =
-    let a = c.before.before.before.before.before.before.before.before.before.before.before.before.before.before.args in
-    let p = c.before.before.before.before.before.before.before.before.before.before.before.before.before.before.requires in
-    let r = c.before.before.before.before.resting in
-    let k = c.before.before.before.before.before.before.lone.given in
+    let a = c.args in
+    let p = c.requires in
+    let r = c.resting-rest in
     let d = store_in a.heads.now a.states.now a.trs.now a.used in
     let v = a.plan in (
       first_room d (alone_by v (tr_means a.edge)) (both_by v a.mm.now (tr_means a.edge)) (compose_tr_means c.joined.result)
-          (sym (alone_is v (tr_means a.edge) (tr_means r.result) k.0.0 r.ensures k.1) ∙ c.joined.ensures) p.1,
+          (sym (alone_is v (tr_means a.edge) (tr_means r.result) c.in-Kept.fs r.ensures c.in-Kept.is) ∙ c.joined.ensures) p.1,
       p.2,
     )
 
 -- what the first part leaves
-alone : (c : tie.At-match-branch) →
-    let a = c.before.before.before.before.before.before.before.args in
+alone : (c : tie.Joined-lone) →
+    let a = c.args in
     let d = store_in a.heads.now a.states.now a.trs.now a.used in
-    let m = c.match in
+    let m = c.match-lone in
     (length m.heads ≡ length a.heads.now) × (length m.states ≡ length a.states.now) × (length m.trs ≡ length a.trs.now)
     × (store_in m.heads m.states m.trs m.grown ≡ store_all d (alone_by a.plan (tr_means a.edge)))
 alone c =
-    let a = c.before.before.before.before.before.before.before.args in
+    let a = c.args in
     let d = store_in a.heads.now a.states.now a.trs.now a.used in
     let v = a.plan in
     let e = tr_means a.edge in
-    let m = c.match in
+    let m = c.match-lone in
     ⊎_elim
     (λ w.
-    let x = w.8.last in
-    let st = compose_tr_means w.7.result in
-    let l = sym (alone_is v e (tr_means w.3.result) w.1.given.0.0 w.3.ensures w.1.given.1) ∙ w.7.ensures in (
-      ap length w.15 ∙ w.8.kept.0,
-      ap length w.16 ∙ w.8.kept.1.0,
-      ap length w.17 ∙ w.8.kept.1.1.0,
-      same_store m.heads x.0 m.states x.1.0 m.trs x.1.1.0 m.grown w.8.result w.15 w.16 w.17 w.18
-          ∙ one_stored d (store_in x.0 x.1.0 x.1.1.0 w.8.result) (alone_by v e) st w.8.ensures l,
+    let x = w.push-grown.new in
+    let st = compose_tr_means w.joined.result in
+    let l = sym (alone_is v e (tr_means w.resting-rest.result) w.in-Kept.fs w.resting-rest.ensures w.in-Kept.is) ∙ w.joined.ensures in (
+      ap length w.heads-is ∙ w.push-grown.auto.heads,
+      ap length w.states-is ∙ w.push-grown.auto.states,
+      ap length w.trs-is ∙ w.push-grown.auto.trs,
+      same_store m.heads x.heads m.states x.states m.trs x.trs m.grown w.push-grown.result w.heads-is w.states-is w.trs-is w.grown-is
+          ∙ one_stored d (store_in x.heads x.states x.trs w.push-grown.result) (alone_by v e) st w.push-grown.ensures l,
     ))
     (λ w. (
-      ap length w.2,
-      ap length w.3,
-      ap length w.4,
-      same_store m.heads a.heads.now m.states a.states.now m.trs a.trs.now m.grown a.used w.2 w.3 w.4 w.5
-          ∙ none_stored d (alone_by v e) (alone_none v e w.1.given.1),
+      ap length w.heads-is,
+      ap length w.states-is,
+      ap length w.trs-is,
+      same_store m.heads a.heads.now m.states a.states.now m.trs a.trs.now m.grown a.used w.heads-is w.states-is w.trs-is w.grown-is
+          ∙ none_stored d (alone_by v e) (alone_none v e w.in-Dropped.is),
     ))
-    m.branch
+    m.branch-raw
 
-with-eps-requires : tie.Need-with-eps-requires
+with-eps-requires : tie.Need-with_eps-requires
 with-eps-requires c κs =
-    let a = c.before.before.before.before.before.before.before.before.before.before.before.before.before.args in
-    let p = c.before.before.before.before.before.before.before.before.before.before.before.before.before.requires in
-    let k = c.before.before.before.before.both.given in
-    let m = c.before.before.before.before.before.before.match in
+    let a = c.args in
+    let p = c.requires in
+    let m = c.match-lone in
     let d = store_in a.heads.now a.states.now a.trs.now a.used in
     let e = store_in m.heads m.states m.trs m.grown in
     let v = a.plan in
     let w = tr_means a.edge in
-    let s = (alone c.before.before.before.before.before.before).3 in (
+    let s = (alone c.before.before.before.before).3 in (
       p.0.form,
       p.0.base,
       p.0.first,
       p.0.sorted,
       p.0.eps,
-      subst (Fits e) (sym (both_is v a.mm.now w k.0.0 k.1)) (then_fits d e (alone_by v w) (both_by v a.mm.now w) s p.1),
+      subst (Fits e) (sym (both_is v a.mm.now w c.in-Kept-both.fs c.in-Kept-both.is)) (then_fits d e (alone_by v w) (both_by v a.mm.now w) s p.1),
       then_chained d e (alone_by v w) s (fits_append d (alone_by v w) (both_by v a.mm.now w) p.1).0 p.2,
     )
 
-same_length : tie.Need-same-length
-same_length c = c.before.before.before.before.before.before.with-eps.auto.1.0 ∙ (alone c.before.before.before.before.before.before.before.before.before.before.before.before.before).0
+same_length : tie.Need-shape_of-heads-in-Kept-both
+same_length c = c.with_eps.auto.heads ∙ (alone c.before.before.before.before.before.before.before.before.before.before.before).0
 
-same-length-2 : tie.Need-same-length-2
-same-length-2 c = c.before.before.before.before.before.before.with-eps.auto.1.1.0 ∙ (alone c.before.before.before.before.before.before.before.before.before.before.before.before.before).1
+same-length-2 : tie.Need-shape_of-states-in-Kept-both
+same-length-2 c = c.with_eps.auto.states ∙ (alone c.before.before.before.before.before.before.before.before.before.before.before).1
 
-same-length-3 : tie.Need-same-length-3
-same-length-3 c = c.before.before.before.before.before.before.with-eps.auto.1.1.1.0 ∙ (alone c.before.before.before.before.before.before.before.before.before.before.before.before.before).2
+same-length-3 : tie.Need-shape_of-trs-in-Kept-both
+same-length-3 c = c.with_eps.auto.trs ∙ (alone c.before.before.before.before.before.before.before.before.before.before.before).2
 
-returns : tie.Need-returns
+returns : tie.Need-returns-in-Kept-both
 returns c =
-    let a = c.before.before.before.before.before.before.before.before.before.before.before.before.before.before.before.before.before.before.before.before.args in
-    let k = c.before.before.before.before.before.before.before.before.before.before.before.both.given in
-    let m = c.before.before.before.before.before.before.before.before.before.before.before.before.before.match in
-    let x = c.before.before.before.before.before.before.with-eps in
+    let a = c.args in
+    let m = c.match-lone in
+    let x = c.with_eps in
     let e = store_in m.heads m.states m.trs m.grown in
-    let f = store_in x.new.1.0 x.new.1.1.0 x.new.1.1.1.0 x.result in
+    let f = store_in x.new.heads x.new.states x.new.trs x.result in
     let v = a.plan in
     let w = tr_means a.edge in
-    then_stored (store_in a.heads.now a.states.now a.trs.now a.used) e f (alone_by v w) (both_by v a.mm.now w) (alone c.before.before.before.before.before.before.before.before.before.before.before.before.before).3
-    (as_steps e f (with_labelled v a.mm.now w (some k.0.0) eps_label) (both_by v a.mm.now w) (both_is v a.mm.now w k.0.0 k.1) x.ensures)
+    then_stored (store_in a.heads.now a.states.now a.trs.now a.used) e f (alone_by v w) (both_by v a.mm.now w) (alone c.before.before.before.before.before.before.before.before.before.before.before).3
+    (as_steps e f (with_labelled v a.mm.now w (some c.in-Kept-both.fs) eps_label) (both_by v a.mm.now w) (both_is v a.mm.now w c.in-Kept-both.fs c.in-Kept-both.is) x.ensures)
 
-returns-2 : tie.Need-returns-2
+returns-2 : tie.Need-returns-in-Dropped-both
 returns-2 c =
-    let a = c.before.before.before.before.before.before.before.before.before.args in
-    let m = c.before.before.match in
+    let a = c.args in
+    let m = c.match-lone in
     let e = store_in m.heads m.states m.trs m.grown in
     let v = a.plan in
     let w = tr_means a.edge in
-    then_stored (store_in a.heads.now a.states.now a.trs.now a.used) e e (alone_by v w) (both_by v a.mm.now w) (alone c.before.before).3 (none_stored e (both_by v a.mm.now w) (no_pairs _ _ _ _ _ _ (ap filtered_means c.enum-told2.given.1)))
+    then_stored (store_in a.heads.now a.states.now a.trs.now a.used) e e (alone_by v w) (both_by v a.mm.now w) (alone c.before).3 (none_stored e (both_by v a.mm.now w) (no_pairs _ _ _ _ _ _ (ap filtered_means c.in-Dropped-both.is)))
 
-pub eps-moves-spec : {M : Type 1} → statement M
-eps-moves-spec =
+pub eps_moves_spec : {M : Type 1} → statement M
+eps_moves_spec =
     tie.close
     (tie.spec
     (λ c. search rules)
@@ -144,7 +140,7 @@ eps-moves-spec =
     same-length-2
     same-length-3
     returns
-    (λ c. (alone c.before.before).0)
-    (λ c. (alone c.before.before).1)
-    (λ c. (alone c.before.before).2)
+    (λ c. (alone c.before).0)
+    (λ c. (alone c.before).1)
+    (λ c. (alone c.before).2)
     returns-2)

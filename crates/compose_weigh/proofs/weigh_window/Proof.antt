@@ -14,26 +14,26 @@ use borrow.Author.Rules.{rules}
 use Rattle.compose_weigh.proofs.weigh_window.Statement.{statement}
 use Rattle.compose_weigh.proofs.weigh_window.Tie as tie
 
-fill-requires : tie.Need-fill-requires
-fill-requires c κs = (c.before.before.before.before.before.before.before.before.before.before.requires, (headed_none 2039 12288 (omega arith), omega (arith, set_room_lem)))
+fill-requires : tie.Need-fill-window-requires
+fill-requires c κs = (c.requires, (headed_none 2039 12288 (omega arith), omega (arith, set_room_lem)))
 
-counted : (c : tie.After-count-earlier) → let a = c.before.before.before.before.before.before.before.before.before.before.before.before.before.before.before.before.before.before.args in
+counted : (c : tie.After-count_earlier-old) → let a = c.args in
     let d = stored a.heads.now a.states.now a.trs.now a.w.used.states a.w.used.trs in
     let all = steps_from a.w.options a.m1.now a.m2.now a.a1.now a.a2.now a.ignored.now a.w.start in
     let steps = steps_from a.w.options a.m1.now a.m2.now a.a1.now a.a2.now a.ignored.now a.from in
-    c.count-earlier.result + new_within (is_new d all a.before) c.before.before.before.before.before.before.before.fill.ensures.0 steps ≡ c.before.before.before.before.before.before.before.fill.result.states
+    c.count_earlier-old.result + new_within (is_new d all a.before) c.fill-window.ensures.0 steps ≡ c.fill-window.result.states
 unfolding is_new
 counted c =
-    let a = c.before.before.before.before.before.before.before.before.before.before.before.before.before.before.before.before.before.before.args in
+    let a = c.args in
     let d = stored a.heads.now a.states.now a.trs.now a.w.used.states a.w.used.trs in
-    let f = c.before.before.before.before.before.before.before.fill.ensures in
-    c.count-earlier.ensures (λ t. missing (find d t)) f.0 (steps_from a.w.options a.m1.now a.m2.now a.a1.now a.a2.now a.ignored.now a.from) (room_of state_size (replicate 12288 0)) (omega (arith, set_room_lem)) f.2
+    let f = c.fill-window.ensures in
+    c.count_earlier-old.ensures (λ t. missing (find d t)) f.0 (steps_from a.w.options a.m1.now a.m2.now a.a1.now a.a2.now a.ignored.now a.from) (room_of state_size (replicate 12288 0)) (omega (arith, set_room_lem)) f.2
 
 returns : tie.Need-returns
-returns c = let f = c.before.before.before.before.before.before.before.fill.ensures in (f.0, f.1, omega (arith, counted c))
+returns c = let f = c.fill-window.ensures in (f.0, f.1, omega (arith, counted c))
 
-pub weigh-window-spec : {M : Type 1} → statement M
-weigh-window-spec =
+pub weigh_window_spec : {M : Type 1} → statement M
+weigh_window_spec =
     tie.close
     (tie.spec
     (λ c. search rules)

@@ -21,73 +21,72 @@ use Rattle.compose_count.proofs.notes.note_eps.Statement.{statement}
 use Rattle.compose_count.proofs.notes.note_eps.Tie as tie
 
 -- what the first part leaves
-alone : (c : tie.At-match-branch) →
-    let a = c.before.before.before.before.before.before.before.before.before.args in
-    let m = c.match in
+alone : (c : tie.Joined-lone) →
+    let a = c.args in
+    let m = c.match-lone in
     (length m.chains ≡ length a.chains.now) × (length m.records ≡ length a.records.now)
     × ((trs : List ℕ) (w : Transition) → w.target ≡ a.s.0 → AllGood (alone_by a.c.plan w)
     → notes_means m.chains m.records m.noted ≡ note_all (wanted_in a.heads.now a.states.now a.c trs) (notes_means a.chains.now a.records.now a.seen) (alone_by a.c.plan w))
 alone c =
-    let a = c.before.before.before.before.before.before.before.before.before.args in
+    let a = c.args in
     let v = a.c.plan in
-    let m = c.match in
+    let m = c.match-lone in
     let n = notes_means a.chains.now a.records.now a.seen in
     ⊎_elim
     (λ y.
-    let x = y.6.last in (
-      ap length y.11 ∙ y.6.kept.1.1.0,
-      ap length y.12 ∙ y.6.kept.1.1.1.0,
+    let x = y.note-noted.new in (
+      ap length y.chains-is ∙ y.note-noted.auto.chains,
+      ap length y.records-is ∙ y.note-noted.auto.records,
       λ trs w e g.
           let P = wanted_in a.heads.now a.states.now a.c trs in
-          same_notes m.chains x.1.1.0 m.records x.1.1.1.0 m.noted y.6.result y.11 y.12 y.13
-          ∙ alone_noted P n (notes_means x.1.1.0 x.1.1.1.0 y.6.result) v w y.1.given.0.0 a.s.0 (tuple_means y.5.result) y.1.given.1 e
-          y.5.ensures (y.6.ensures trs) g,
+          same_notes m.chains x.chains m.records x.records m.noted y.note-noted.result y.chains-is y.records-is y.noted-is
+          ∙ alone_noted P n (notes_means x.chains x.records y.note-noted.result) v w y.in-Kept.fs a.s.0 (tuple_means y.target.result) y.in-Kept.is e
+          y.target.ensures (y.note-noted.ensures trs) g,
     ))
     (λ y. (
-      ap length y.2,
-      ap length y.3,
+      ap length y.chains-is,
+      ap length y.records-is,
       λ trs w e g.
-          same_notes m.chains a.chains.now m.records a.records.now m.noted a.seen y.2 y.3 y.4
-          ∙ note_none (wanted_in a.heads.now a.states.now a.c trs) n (alone_by v w) (alone_none v w y.1.given.1),
+          same_notes m.chains a.chains.now m.records a.records.now m.noted a.seen y.chains-is y.records-is y.noted-is
+          ∙ note_none (wanted_in a.heads.now a.states.now a.c trs) n (alone_by v w) (alone_none v w y.in-Dropped.is),
     ))
-    m.branch
+    m.branch-raw
 
-same_length : tie.Need-same-length
-same_length c = c.before.before.before.before.note-records.auto.1.1.1.0 ∙ (alone c.before.before.before.before.before.before.before.before.before.before).0
+same_length : tie.Need-shape_of-chains-in-Kept-both
+same_length c = c.note_records.auto.chains ∙ (alone c.before.before.before.before.before.before.before.before).0
 
-same-length-2 : tie.Need-same-length-2
-same-length-2 c = c.before.before.before.before.note-records.auto.1.1.1.1.0 ∙ (alone c.before.before.before.before.before.before.before.before.before.before).1
+same-length-2 : tie.Need-shape_of-records-in-Kept-both
+same-length-2 c = c.note_records.auto.records ∙ (alone c.before.before.before.before.before.before.before.before).1
 
-returns : tie.Need-returns
+returns : tie.Need-returns-in-Kept-both
 returns c =
-    let a = c.before.before.before.before.before.before.before.before.before.before.before.before.before.before.before.before.before.before.before.args in
-    let k = c.before.before.before.before.before.before.before.before.both.given in
-    let m = c.before.before.before.before.before.before.before.before.before.before.match in
-    let x = c.before.before.before.before.note-records in
+    let a = c.args in
+    let m = c.match-lone in
+    let x = c.note_records in
     let v = a.c.plan in
     let o = notes_means m.chains m.records m.noted in
-    let q = notes_means x.new.1.1.1.0 x.new.1.1.1.1.0 x.result in
+    let q = notes_means x.new.chains x.new.records x.result in
     λ trs w e g.
     let P = wanted_in a.heads.now a.states.now a.c trs in
     let h = good_split (alone_by v w) (both_by v a.mm.now w) g in
-    let b = both_is v a.mm.now w k.0.0 k.1 in
+    let b = both_is v a.mm.now w c.in-Kept-both.fs c.in-Kept-both.is in
     note_then P (notes_means a.chains.now a.records.now a.seen) o q (alone_by v w) (both_by v a.mm.now w)
-    ((alone c.before.before.before.before.before.before.before.before.before.before).2 trs w e h.0)
-    (as_noted P o q (with_labelled v a.mm.now w (some k.0.0) eps_label) (both_by v a.mm.now w) b (x.ensures trs (kind_of v.kind) w e (subst AllGood (sym b) h.1)))
+    ((alone c.before.before.before.before.before.before.before.before).2 trs w e h.0)
+    (as_noted P o q (with_labelled v a.mm.now w (some c.in-Kept-both.fs) eps_label) (both_by v a.mm.now w) b (x.ensures trs (kind_of v.kind) w e (subst AllGood (sym b) h.1)))
 
-returns-2 : tie.Need-returns-2
+returns-2 : tie.Need-returns-in-Dropped-both
 returns-2 c =
-    let a = c.before.before.before.before.before.before.before.before.before.before.before.args in
-    let m = c.before.before.match in
+    let a = c.args in
+    let m = c.match-lone in
     let v = a.c.plan in
     let o = notes_means m.chains m.records m.noted in
     λ trs w e g.
     let P = wanted_in a.heads.now a.states.now a.c trs in
     note_then P (notes_means a.chains.now a.records.now a.seen) o o (alone_by v w) (both_by v a.mm.now w)
-    ((alone c.before.before).2 trs w e (good_split (alone_by v w) (both_by v a.mm.now w) g).0) (note_none P o (both_by v a.mm.now w) (no_pairs _ _ _ _ _ _ (ap filtered_means c.enum-told2.given.1)))
+    ((alone c.before).2 trs w e (good_split (alone_by v w) (both_by v a.mm.now w) g).0) (note_none P o (both_by v a.mm.now w) (no_pairs _ _ _ _ _ _ (ap filtered_means c.in-Dropped-both.is)))
 
-pub note-eps-spec : {M : Type 1} → statement M
-note-eps-spec =
+pub note_eps_spec : {M : Type 1} → statement M
+note_eps_spec =
     tie.close
     (tie.spec
     (λ c. search rules)
@@ -100,6 +99,6 @@ note-eps-spec =
     same_length
     same-length-2
     returns
-    (λ c. (alone c.before.before).0)
-    (λ c. (alone c.before.before).1)
+    (λ c. (alone c.before).0)
+    (λ c. (alone c.before).1)
     returns-2)

@@ -34,10 +34,10 @@ overflow_add-place-in-records c =
 
 pub records-preserved : goal.records-preserved
 records-preserved c = let l = c.records.invariant in
-    (l.0, omega arith, omega (arith, l.2), rw (run_turn (fits _ _ _) _ _ _ c.records-test.true, holds c.before.fits2.ensures c.if-not-fits.false) at l.3)
+    (l.0, omega arith, omega (arith, l.2), rw (run_turn (fits _ _ _) _ _ _ c.records-test.true, holds c.fits.ensures c.if-not-fits.false) at l.3)
 
 pub returns-after-records : goal.returns-after-records
 returns-after-records c = let l = c.records.invariant in l.0 ∙ sym (run_end _ _ _ _ c.records-test.false) ∙ l.3
 
 pub returns-then-not-fits : goal.returns-then-not-fits
-returns-then-not-fits c = rw (run_turn (fits _ _ _) _ _ _ c.records-test.true, fails c.before.fits2.ensures c.if-not-fits.true) at c.records.invariant.3
+returns-then-not-fits c = rw (run_turn (fits _ _ _) _ _ _ c.records-test.true, fails c.fits.ensures c.if-not-fits.true) at c.records.invariant.3

@@ -1,11 +1,23 @@
 -- As lent under an empty list; else by the acceptor property after replacement.
 use mathlib.Core.Path.{◌≡◌, sym, ◌∙◌}
 use mathlib.Core.Bool.{Bool, true, false, cond}
+use mathlib.Core.List.{List}
+use mathlib.Core.Logic.{◌≢◌}
 use Prim.Native.Nat.{ℕ}
+use lib.ListN.{length}
+use Rattle.words.specs.Matches.{MatchType}
 use Rattle.words.specs.Machines.{acceptor_mark, acceptor}
-use Rattle.words.specs.Ignored.{words_read}
+use Rattle.words.specs.Ignored.{Ignored, words_read}
+use Rattle.words.proofs.ReplacedLaws.{acceptor_mark_read, otherwise_none, otherwise_some}
 use Rattle.fst.specs.Meaning.{on_of, ignored_under}
 use Rattle.fst_properties.proofs.properties.inner_acceptor_mark.Goals as goal
+
+module _ (on : MatchType) (g : Ignored) (m : List ℕ) where
+  as_lent : length g.list ≡ 0 → acceptor_mark (words_read on g m) ≡ acceptor_mark m
+  as_lent e = acceptor_mark_read on g m ∙ otherwise_none g.list (acceptor_mark m) (cond (acceptor (words_read on g m)) (acceptor_mark m) 0) e
+
+  judged : length g.list ≢ 0 → acceptor_mark (words_read on g m) ≡ cond (acceptor (words_read on g m)) (acceptor_mark m) 0
+  judged h = acceptor_mark_read on g m ∙ otherwise_some g.list (acceptor_mark m) (cond (acceptor (words_read on g m)) (acceptor_mark m) 0) h
 
 zero-either : (b : Bool) (n : ℕ) → n ≡ 0 → cond b n 0 ≡ 0
 zero-either true n e = e

@@ -1,0 +1,13 @@
+-- `put_refused` meets its contract: its texts one after the other are the line of the definition.
+use Rattle.listing_text.specs.Printing.{line_bytes, spaced}
+use native.Mathlib.Omega.{arith}
+use Rattle.listing_write.proofs.WrittenLaws.{then}
+use Rattle.listing_write.proofs.put_refused.Goals as goal
+
+pub returns : goal.returns
+unfolding line_bytes spaced
+returns c =
+    let p = c.put_text-a.ensures in
+    let q = c.put_word-b.ensures in
+    let t = c.put_text.ensures in
+    record { written = then p (then q.written t); near = omega (arith, p.after, q.near, t.after) }
