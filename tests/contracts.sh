@@ -52,4 +52,4 @@ END {
     for (f in listed) if (!(f in asking)) { print "contracts: DECISIONS 33 names " f ", which has no requires"; bad = 1 }
     if (!bad) print "contracts: of " all " functions, each public one with a reply says what it is, and " n " with a requires are named"
     exit bad || !all
-}' $(find crates -path '*/src/*' -name '*.rt' | sort)
+}' $(find crates/*/src -name '*.rt' | sort)

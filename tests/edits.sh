@@ -15,7 +15,7 @@ rows=$(awk '$0 == "| crate | seconds | edits |" { on = 1; rows = ""; next }
     on { rows = rows $0 "\n" }
     END { printf "%s", rows }' docs/LANDINGS.md |
     sed -n 's/^| `\([a-z0-9_]*\)` | \([0-9]\{1,\}\) | \([0-9]\{1,\}\) |$/\1 \2 \3/p')
-crates=$(sed -n 's/^\([a-z0-9_]*\):.*/\1/p' crates.txt)
+crates=$(sed -n 's/^\([a-z0-9_]*\)\( [^:]*\)\{0,1\}:.*/\1/p' crates.txt)
 if [ "$(printf '%s\n' "$rows" | cut -d ' ' -f 1 | sort)" != "$(printf '%s\n' "$crates" | sort)" ]; then
     say "the rows of LANDINGS' last table are not the crates of crates.txt, once each"
     exit 1

@@ -1,28 +1,61 @@
 #!/bin/sh
-# After `rt ci`: a must-fail edit is worth something where it is refused because a fact no longer holds. Some first errors say that the proof names steps, or uses a test in a form, that the
-# changed code has not: then a right program of that shape would be refused too, and the edit shows nothing. This looks for the messages of that sort that are known; it cannot know others.
+# After `rt ci`: a must-fail edit is worth something where it is refused because a fact no longer holds. Some are refused since the proof names goals or steps, or uses a test in a form, that the
+# changed code has not: then a right program of that shape would be refused too, and the edit shows nothing. `rt must-fail` tells again what `rt ci` found of each edit, with the first error that
+# names nothing that is gone. Wrong are: an edit that was not tried, cannot be applied or is not refused; one that is refused for names alone, or at a limit of the prover; one whose error is among
+# those that are known to tell of a shape; and one that leaves a goal open which its function, a function whose proof names goals, has not as it stands. This cannot know others.
 set -eu
 cd "$(dirname "$0")/.."
+room=$(mktemp -d)
+trap 'rm -rf "$room"' EXIT
+rt must-fail >"$room/said" 2>&1 || true
 bad=0 seen=0
+
+wrong() { # EDIT WHAT SAID
+    printf 'refusals: %s %s:\n%s\n' "$1" "$2" "$3"
+    bad=1
+}
+
+# The name of the function that holds line LINE of a file.
+function_at() { # FILE LINE
+    head -n "$2" "$1" | sed -n 's/^ *\(pub \)\{0,1\}\(\(const\|unsafe\|extern "C"\) \)*fn \([A-Za-z0-9_]*\).*/\4/p' | tail -n 1
+}
+
+# Whether the function has a goal whose name begins so, as its crate stands; of a name that is told to its end, that name.
+has_goal() { # CRATE FUNCTION GOAL
+    if [ ! -f "$room/$1/names.json" ]; then
+        (cd "crates/$1" && rt names "$room/$1") >"$room/log" 2>&1 || { cat "$room/log"; exit 1; }
+    fi
+    sed 's/"Rattle-/\n&/g' "$room/$1/names.json" |
+        sed -n "s/^\"Rattle-[^\"]*[.+]$2\\.Lts\".*\"needs\":\\[\\(.*\\)\\],\"params\":.*/\\1/p" | grep -qF -- ",\"$3"
+}
+
 for edit in crates/*/must-fail/*.edit; do
     crate=${edit#crates/} label=${edit##*/}
-    log=target/must-fail/${crate%%/*}/${label%.edit}/.log
-    if [ ! -f "$log" ]; then
-        echo "refusals: $edit was not tried"
-        bad=1
-        continue
-    fi
-    seen=$((seen + 1))
-    # the first error, up to the next message or line of the report
-    first=$(awk '/: error: / { if (on) exit; on = 1; print; next }
-        on && (/^[^ ]*:[0-9]+:[0-9]+: / || /^(fn|struct|enum|logic|library|crate) /) { exit }
-        on' "$log")
-    case $first in
-    *'has no field'* | *'has no `Need-'* | *'in a cycle of calls'* | *'this is applied to an argument but has type'*)
-        echo "refusals: $edit is refused for the shape of its code:"
-        echo "$first"
-        bad=1
+    crate=${crate%%/*}
+    said=$(grep -F -- "rt: must-fail $crate/$label: " "$room/said" | head -n 1)
+    case $said in
+    '') wrong "$edit" 'was not tried' "$(tail -n 1 "$room/said")" ;;
+    *': refused, as it must be: note: src/'*)
+        seen=$((seen + 1))
+        at=${said#*: note: }
+        file=crates/$crate/${at%%:*} line=${at#*:}
+        name=$(function_at "$file" "${line%%:*}")
+        goal=$(printf '%s\n' "$said" | sed -n 's/.*(`\([^`]*\)\(`)\)\{0,1\}$/\1/p')
+        case $said in *'`)') goal=$goal\" ;; esac
+        if find "crates/$crate/proofs" -path "*/$name/*.antt" | grep -q . && ! has_goal "$crate" "$name" "$goal"; then
+            wrong "$edit" "leaves open a goal that $name has not as it stands" "$said"
+        fi
         ;;
+    *': refused, as it must be: '*)
+        seen=$((seen + 1))
+        case $said in
+        *'has no field'* | *'has no `'* | *'is not in scope'* | *' that depend on `'* | *' that depends on `'* | *'in a cycle of calls'* | *'this is applied to an argument but has type'*)
+            wrong "$edit" 'is refused for the shape of its code' "$said"
+            ;;
+        esac
+        ;;
+    *': refused, as it must be (only '*) wrong "$edit" 'is refused, but for no fact' "$said" ;;
+    *) wrong "$edit" 'is not refused for a fact' "$said" ;;
     esac
 done
 echo "refusals: the first errors of $seen edits were read"
