@@ -23,4 +23,4 @@ returns c =
     let x = c.args in
     let m = memory_of x.heads.now x.states.now x.trs.now in
     rw (eq-eqb _ _ c.if-settings-ne-SETTINGS_WORDS.false, eq-eqb _ _ c.if-session-ne-SESSION_WORDS.false)
-    (c.leave.ensures _ ∙ ap (in_words (λ u. accepted) []) (c.before.before.before.before.before.before.before.before.before.before.before.«open».ensures ∙ (λ i. open_of (c.read_settings-wanted.ensures i) (lent_with x.m1.now x.m2.now x.allowed1.now x.allowed2.now x.ignored.now (c.listed_by-listed.ensures i)) (c.read_session-given.ensures i) m)))
+    (c.leave.ensures _ ∙ ap (in_words (λ u. accepted) []) (c.open-answer.ensures ∙ (λ i. open_of (c.read_settings-wanted.ensures i) (lent_with x.m1.now x.m2.now x.allowed1.now x.allowed2.now x.ignored.now (c.listed_by-listed.ensures i)) (c.read_session-given.ensures i) m)))

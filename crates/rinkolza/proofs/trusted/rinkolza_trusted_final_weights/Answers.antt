@@ -35,7 +35,7 @@ returns-in-All c =
     let used = c.found-count.ensures ∙ ap (λ (s : Session). s.used.states) c.read_session-given.ensures in
     let done = c.write_weights-weights.ensures in
     rw (eq-eqb _ _ c.if-session-ne-SESSION_WORDS.false, eq-eqb _ _ (c.if-answer-count.false ∙ ap (λ (k : ℕ). 2 * k) used))
-    (weights_left x.answer.now _ _ _ (final_weights_of (lent_words x.m1.now x.m2.now x.allowed1.now x.has1 x.allowed2.now x.has2 x.ignored.now) (session_at x.session.now) m) _ _ (done.0 ∙ (λ i. verdict (final_weights_of (lent_with x.m1.now x.m2.now x.allowed1.now x.allowed2.now x.ignored.now (listed i)) (given i) m))) c.in-All.is (done.1 ∙ (λ i. weights_words x.answer.now (final_weights_of (lent_with x.m1.now x.m2.now x.allowed1.now x.allowed2.now x.ignored.now (listed i)) (given i) m))))
+    (weights_left x.answer.now _ _ _ (final_weights_of (lent_words x.m1.now x.m2.now x.allowed1.now x.has1 x.allowed2.now x.has2 x.ignored.now) (session_at x.session.now) m) _ _ (done.result_value ∙ (λ i. verdict (final_weights_of (lent_with x.m1.now x.m2.now x.allowed1.now x.allowed2.now x.ignored.now (listed i)) (given i) m))) c.in-All.is (done.words ∙ (λ i. weights_words x.answer.now (final_weights_of (lent_with x.m1.now x.m2.now x.allowed1.now x.allowed2.now x.ignored.now (listed i)) (given i) m))))
 
 pub returns-in-Refused : goal.returns-in-Refused
 unfolding final_weights_words
@@ -47,4 +47,4 @@ returns-in-Refused c =
     let used = c.found-count.ensures ∙ ap (λ (s : Session). s.used.states) c.read_session-given.ensures in
     let done = c.write_weights-weights.ensures in
     rw (eq-eqb _ _ c.if-session-ne-SESSION_WORDS.false, eq-eqb _ _ (c.if-answer-count.false ∙ ap (λ (k : ℕ). 2 * k) used))
-    (weights_left x.answer.now _ _ _ (final_weights_of (lent_words x.m1.now x.m2.now x.allowed1.now x.has1 x.allowed2.now x.has2 x.ignored.now) (session_at x.session.now) m) _ _ (done.0 ∙ (λ i. verdict (final_weights_of (lent_with x.m1.now x.m2.now x.allowed1.now x.allowed2.now x.ignored.now (listed i)) (given i) m))) c.in-Refused.is (done.1 ∙ (λ i. weights_words x.answer.now (final_weights_of (lent_with x.m1.now x.m2.now x.allowed1.now x.allowed2.now x.ignored.now (listed i)) (given i) m))))
+    (weights_left x.answer.now _ _ _ (final_weights_of (lent_words x.m1.now x.m2.now x.allowed1.now x.has1 x.allowed2.now x.has2 x.ignored.now) (session_at x.session.now) m) _ _ (done.result_value ∙ (λ i. verdict (final_weights_of (lent_with x.m1.now x.m2.now x.allowed1.now x.allowed2.now x.ignored.now (listed i)) (given i) m))) c.in-Refused.is (done.words ∙ (λ i. weights_words x.answer.now (final_weights_of (lent_with x.m1.now x.m2.now x.allowed1.now x.allowed2.now x.ignored.now (listed i)) (given i) m))))

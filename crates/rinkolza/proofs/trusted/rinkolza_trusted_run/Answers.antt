@@ -43,4 +43,4 @@ returns c =
     let given = c.read_session-given.ensures in
     let e = holds c.sized.ensures c.if-not-sized.false in record { m_after = rw e
           (c.leave_piece.ensures _
-          ∙ ap₂ piece_left (done.1.0 ∙ (λ i. stop_from (lent_with x.m1.now x.m2.now x.allowed1.now x.allowed2.now x.ignored.now (listed i)) x.k x.n (given i) m)) (done.0 ∙ (λ i. run_from (lent_with x.m1.now x.m2.now x.allowed1.now x.allowed2.now x.ignored.now (listed i)) x.k x.n (given i) m))); asked = (rw e (done.1.1.0.0 ∙ (λ i. memo_from outputs (lent_with x.m1.now x.m2.now x.allowed1.now x.allowed2.now x.ignored.now (listed i)) x.k x.n (given i) m x.memo1.now)), rw e (done.1.1.0.1 ∙ (λ i. memo_from inputs (lent_with x.m1.now x.m2.now x.allowed1.now x.allowed2.now x.ignored.now (listed i)) x.k x.n (given i) m x.memo2.now))); remembered = memos_kept (lent_words x.m1.now x.m2.now x.allowed1.now x.has1 x.allowed2.now x.has2 x.ignored.now) x.session.now _ _ _ given done.1.1.1; }
+          ∙ ap₂ piece_left (done.next ∙ (λ i. stop_from (lent_with x.m1.now x.m2.now x.allowed1.now x.allowed2.now x.ignored.now (listed i)) x.k x.n (given i) m)) (done.m_after ∙ (λ i. run_from (lent_with x.m1.now x.m2.now x.allowed1.now x.allowed2.now x.ignored.now (listed i)) x.k x.n (given i) m))); asked = (rw e (done.asked.0 ∙ (λ i. memo_from outputs (lent_with x.m1.now x.m2.now x.allowed1.now x.allowed2.now x.ignored.now (listed i)) x.k x.n (given i) m x.memo1.now)), rw e (done.asked.1 ∙ (λ i. memo_from inputs (lent_with x.m1.now x.m2.now x.allowed1.now x.allowed2.now x.ignored.now (listed i)) x.k x.n (given i) m x.memo2.now))); remembered = memos_kept (lent_words x.m1.now x.m2.now x.allowed1.now x.has1 x.allowed2.now x.has2 x.ignored.now) x.session.now _ _ _ given done.remembered; }
