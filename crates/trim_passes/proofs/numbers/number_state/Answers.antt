@@ -1,0 +1,8 @@
+use Rattle.trim_passes.proofs.NumberLaws.{alive_turn, other_turn}
+use Rattle.trim_passes.proofs.numbers.number_state.Goals as goal
+
+pub returns-then-high_of-eq-ALIVE : goal.returns-then-high_of-eq-ALIVE
+returns-then-high_of-eq-ALIVE c = alive_turn c.args.work.now _ c.args.n _ (rw c.high_of.ensures.0 at c.if-high_of-eq-ALIVE.true) c.store64.ensures
+
+pub returns : goal.returns
+returns c = other_turn c.args.work.now _ c.args.n _ (rw c.high_of.ensures.0 at c.if-high_of-eq-ALIVE.false) c.store64-2.ensures
