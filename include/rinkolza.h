@@ -4,23 +4,21 @@
  * The library is an archive made by `rt staticlib rinkolza` from the crate
  * crates/rinkolza, for x86-64 Linux. Every function below is proved to meet
  * its contract (crates/rinkolza/src), an equation with the definitions in
- * crates/rinkolza/specs, crates/calls/specs, crates/fan_outs/specs and
- * crates/trims/specs. Seven of them check all that they are given; the six
- * rinkolza_trusted_... do not, and may be called by those alone who own their
- * memory, see below.
+ * crates/rinkolza/specs, crates/calls/specs and crates/fan_outs/specs. Six of
+ * them check all that they are given; the five rinkolza_trusted_... do not, and
+ * may be called by those alone who own their memory, see below.
  *
  * ---------------------------------------------------------------------------
  * Rules for every call
  *
- * - All words are uint32_t, but those of `work`, which are uint64_t. A slice is
- *   a pointer and then its length, counted in words (not in bytes). The pointer
- *   must point to that many words, placed as uint32_t (of `work`: uint64_t) are;
- *   where the length is 0 nothing is read or written through it, and it may be
- *   NULL. A memo is a pointer without a length, to
+ * - All words are uint32_t. A slice is a pointer and then its length, counted
+ *   in words (not in bytes). The pointer must point to that many words, placed
+ *   as uint32_t are; where the length is 0 nothing is read or written through
+ *   it, and it may be NULL. A memo is a pointer without a length, to
  *   RINKOLZA_MEMO_WORDS words; it counts as a slice that is not const.
  * - A slice that is not const must not overlap any other slice of the same
  *   call. Slices that are const may overlap each other.
- * - The seven functions that check ask nothing else of a caller: any words in
+ * - The six functions that check ask nothing else of a caller: any words in
  *   any slice, of any length, and any number are answered. Bad machines,
  *   settings, sessions, memory and lengths get a refusal.
  * - There is no global state, no allocation and no input or output. A call
@@ -28,16 +26,15 @@
  *   at the same time, as long as no slice that one call may write is lent to
  *   the other.
  * - A call returns 0 where it is accepted, else the number of the refusal
- *   (RINKOLZA_REFUSED_..., 1 to 14 or 18). A refused call changes no word of any
+ *   (RINKOLZA_REFUSED_..., 1 to 13 or 18). A refused call changes no word of any
  *   slice. The exceptions are rinkolza_run and rinkolza_trusted_run: refused
  *   at a state, they keep the expansions before it, with the session that
- *   belongs to them; the memos, which may change in any call that is lent them;
- *   and the work of rinkolza_trim and rinkolza_trusted_trim, see there. The two
- *   for records return no number.
+ *   belongs to them; and the memos, which may change in any call that is lent
+ *   them. The two for records return no number.
  * - Lengths: settings has 6 words, session 9, answer 2 (the answer of
- *   rinkolza_trusted_final_weights: 2 for each found state; of rinkolza_fan_out,
- *   rinkolza_trim and rinkolza_trusted_trim: 1). With any other length the call is
- *   refused with 1 and changes nothing (rinkolza_records: see there).
+ *   rinkolza_trusted_final_weights: 2 for each found state; of rinkolza_fan_out:
+ *   1). With any other length the call is refused with 1 and changes nothing
+ *   (rinkolza_records: see there).
  * - rinkolza_run uses at most 128 KiB of stack, rinkolza_expand,
  *   rinkolza_trusted_expand and rinkolza_trusted_run 80 KiB, every other call
  *   16 KiB.
@@ -321,7 +318,7 @@
  *
  * What the words of a memo mean is the library's own. No answer depends on them.
  * A call that is refused may have written to them too. The calls that check take
- * no memo, nor do the other four that do not.
+ * no memo, nor do the other three that do not.
  *
  * The words count, not where they stand: copies will do. Anything else is
  * undefined behaviour, and words outside of the slices may be read and written.
@@ -344,10 +341,7 @@
  *                          it makes
  *   rinkolza_records       1, 2, 3, 18, 4 to 9, each of which gives an empty part
  *   rinkolza_fan_out       1, 2, 3, 18, 4 to 7, then 9, then 11
- *   rinkolza_trim          1, 2, 3, 18, 4 to 8, then 13 for a short work, then
- *                          14, then 12, then 13 for a short out
- *   rinkolza_trusted_...   1 for lengths, then as above from 9 on (of
- *                          rinkolza_trusted_trim: from the first 13 on)
+ *   rinkolza_trusted_...   1 for lengths, then as above from 9 on
  */
 #ifndef RINKOLZA_H
 #define RINKOLZA_H
@@ -371,7 +365,6 @@ extern "C" {
 #define RINKOLZA_SESSION_WORDS 9
 #define RINKOLZA_ANSWER_WORDS 2
 #define RINKOLZA_FAN_OUT_WORDS 1
-#define RINKOLZA_TRIM_WORDS 1
 #define RINKOLZA_STATE_WORDS 6
 #define RINKOLZA_TR_WORDS 5
 #define RINKOLZA_MEMO_WORDS 5120
@@ -446,11 +439,8 @@ extern "C" {
 #define RINKOLZA_REFUSED_SIGMA_WALKED UINT32_C(11)
 /* a weight is too large */
 #define RINKOLZA_REFUSED_WEIGHT UINT32_C(12)
-/* a record or, at opening, a head is lacking; of rinkolza_trim: work or out is
- * short */
+/* a record or, at opening, a head is lacking */
 #define RINKOLZA_REFUSED_NO_ROOM UINT32_C(13)
-/* a found state is not expanded yet, and the call needs all of them expanded */
-#define RINKOLZA_REFUSED_NOT_EXPANDED UINT32_C(14)
 /* the list of ignored labels holds 0 or RINKOLZA_NO_LABEL; judged after 3 and
  * before 4 */
 #define RINKOLZA_REFUSED_IGNORED UINT32_C(18)
@@ -570,45 +560,6 @@ uint32_t rinkolza_fan_out(const uint32_t *settings, size_t settings_len,
                           uint32_t *answer, size_t answer_len);
 
 /*
- * The trimmed machine. Of the composition, all of whose found states must be
- * expanded, it has exactly the states on some path from the start to a final
- * state, in their old order and numbered from 0, and the transitions between them,
- * in the order of their lists and one after the other; final weights stay. A
- * composed state is final as rinkolza_final_weight says, so not where the weight
- * is zero; a transition of weight zero counts as any other. Its accepting paths
- * are those of the composition. All marks are 0. Where no state remains there is
- * no start: six words 0.
- *
- * Accepted: `out` begins with the machine in words, as machines are lent, and
- * answer[0] is how many words it has; those behind stay as they are. 6 and 3 for
- * each used state and 5 for each used transition suffice.
- *
- * `work` is lent for the search: two words (uint64_t) for each used state, whatever
- * stands there. Past the check of its length these end as 0, accepted or refused;
- * words behind them stay. Session and memory are only read, and the call takes
- * time in proportion to used states and the lengths of their lists, beside the
- * checks.
- * Refusals: 1 (also where session has not 9 words or answer not 1) to 8 and 18;
- * then 13 where work has fewer than two words for each used state; then 14 where
- * a used state is not expanded; then 12 where the final weight of a used state,
- * kept or not, is too large; then 13 where out is shorter than the machine. (That
- * more than RINKOLZA_LIMIT transitions are kept is 13 too; memory that these calls
- * alone have written to has no more.)
- */
-uint32_t rinkolza_trim(const uint32_t *session, size_t session_len,
-                       const uint32_t *m1, size_t m1_len,
-                       const uint32_t *m2, size_t m2_len,
-                       const uint32_t *allowed1, size_t allowed1_len, uint32_t has1,
-                       const uint32_t *allowed2, size_t allowed2_len, uint32_t has2,
-                       const uint32_t *ignored, size_t ignored_len,
-                       const uint32_t *heads, size_t heads_len,
-                       const uint32_t *states, size_t states_len,
-                       const uint32_t *trs, size_t trs_len,
-                       uint32_t *out, size_t out_len,
-                       uint64_t *work, size_t work_len,
-                       uint32_t *answer, size_t answer_len);
-
-/*
  * As rinkolza_expand, without the checks 1 to 8 and 18, which must pass. The memos
  * are read and written: zeros after the opening, then as these calls leave them.
  * Refusals: 1 for a length, 9 to 13.
@@ -703,23 +654,6 @@ uint32_t rinkolza_trusted_run(uint32_t *session, size_t session_len,
                               uint32_t n,
                               uint32_t k,
                               uint32_t *answer, size_t answer_len);
-
-/*
- * As rinkolza_trim, without the checks 1 to 8 and 18, which must pass.
- * Refusals: 1 for a length, 13, 14, 12, 13, in this order and as there.
- */
-uint32_t rinkolza_trusted_trim(const uint32_t *session, size_t session_len,
-                               const uint32_t *m1, size_t m1_len,
-                               const uint32_t *m2, size_t m2_len,
-                               const uint32_t *allowed1, size_t allowed1_len, uint32_t has1,
-                               const uint32_t *allowed2, size_t allowed2_len, uint32_t has2,
-                               const uint32_t *ignored, size_t ignored_len,
-                               const uint32_t *heads, size_t heads_len,
-                               const uint32_t *states, size_t states_len,
-                               const uint32_t *trs, size_t trs_len,
-                               uint32_t *out, size_t out_len,
-                               uint64_t *work, size_t work_len,
-                               uint32_t *answer, size_t answer_len);
 
 #ifdef __cplusplus
 }

@@ -1,4 +1,4 @@
-/* Calls the library from C: document 01's case 1 by each filter, by the first listed and compared with 01's listing by tests/c_example.sh; sigma; ignored labels; look-ups; trimming; then slices of every short length and
+/* Calls the library from C: document 01's case 1 by each filter, by the first listed and compared with 01's listing by tests/c_example.sh; sigma; ignored labels; look-ups; then slices of every short length and
  * damaged words, where it checks that a refused call changes nothing. Where the checks 1 to 8 pass, it makes the call that does not check too, on a copy of the same words, and
  * compares all that the two leave. Memos are lent from call to call of an opening, and now and then put back to zeros; so too in compositions of drawn machines, state by state.
  * It prints the listing, then what it counted; it ends with 1 at the first thing that is wrong. */
@@ -133,28 +133,6 @@ static void look_ups(void) {
     }
 }
 
-/* Machine 1 reads 1, after which nothing ends, or 2: of three composed states two remain. Then `out`, `work` and answer by turns of one word too few or too many: the words behind the result and behind the
- * six words of `work` that are used, two for each state of three, stay. Before the run no state is expanded. */
-static void trimming(void) {
-    static const uint32_t one[] = {3, 2, 1, 0, 0, 0, 1, 0, 0, 0, 0, 0, 0, 1, 4, 1, 3, 5, 1, 2, 2, 3, 6, 2, 0}, two[] = {1, 1, 1, 0, 0, 0, 1, 1, 0, 3, 7, 0, 0, 0};
-    static const uint32_t left[] = {2, 1, 1, 0, 0, 0, 1, 0, 0, 0, 1, 4, 2, 7, 6, 1, 0};
-    uint32_t out[LEN(left) + 1], number[2];
-    uint64_t work[7];
-    size_t i;
-    need(rinkolza_open(settings, 6, session, 9, one, LEN(one), two, LEN(two), NULL, 0, 0, NULL, 0, 0, NULL, 0, heads, HEADS, states, LEN(states), trs, LEN(trs)) == 0, "an opening to be trimmed");
-    need(rinkolza_trim(session, 9, one, LEN(one), two, LEN(two), NULL, 0, 0, NULL, 0, 0, NULL, 0, heads, HEADS, states, LEN(states), trs, LEN(trs), out, LEN(out), work, LEN(work), number, 1) == RINKOLZA_REFUSED_NOT_EXPANDED, "trimming before a run");
-    need(rinkolza_run(session, 9, one, LEN(one), two, LEN(two), NULL, 0, 0, NULL, 0, 0, NULL, 0, heads, HEADS, states, LEN(states), trs, LEN(trs)) == 0 && session[RINKOLZA_SESSION_USED_STATES] == 3, "a run to be trimmed");
-    for (i = 0; i < 9; i++) {
-        size_t out_len = LEN(left) - (i == 1) + (i == 2), work_len = 6 - (i == 3) + (i == 4), answer_len = RINKOLZA_TRIM_WORDS - (i == 5) + (i == 6), session_len = 9 - (i == 7), lent = i == 8 ? LEN(two) - 1 : LEN(two);
-        uint32_t r = i == 1 || i == 3 ? RINKOLZA_REFUSED_NO_ROOM : i == 8 ? RINKOLZA_REFUSED_MACHINE_2 : i >= 5 ? RINKOLZA_REFUSED_SETTINGS : RINKOLZA_ACCEPTED;
-        memset(out, 77, sizeof out), memset(work, 77, sizeof work), memset(number, 77, sizeof number);
-        need(rinkolza_trim(session, session_len, one, LEN(one), two, lent, NULL, 0, 0, NULL, 0, 0, NULL, 0, heads, HEADS, states, LEN(states), trs, LEN(trs), out, out_len, work, work_len, number, answer_len) == r, "what trimming returns");
-        need(r ? number[0] == 77 * UINT32_C(16843009) && out[0] == number[0] : number[0] == LEN(left) && memcmp(out, left, sizeof left) == 0, "the trimmed machine");
-        need(out[LEN(left)] == 77 * UINT32_C(16843009) && number[1] == out[LEN(left)], "words behind the trimmed machine");
-        need((r == 0 || i == 1) == (work[0] == 0) && (work[0] == 0) == (work[5] == 0) && work[6] == 77 * UINT64_C(72340172838076673), "the words to work in");
-    }
-}
-
 /* The listing of document 01. */
 static void list(void) {
     static const char *const sides[3] = {"input", "output", "both"};
@@ -187,10 +165,10 @@ typedef struct {
 } slice;
 
 #define SLICES 10
-#define LENDINGS (2 * SLICES + 9)
+#define LENDINGS (2 * SLICES + 3)
 #define PAGES 8
 
-/* Slice `which`, a second one of the sort at SLICES + `which`, a memo at 2 * SLICES and behind, a number of matches or what trimming is lent after them: `held` words of `from`, then others. */
+/* Slice `which`, a second one of the sort at SLICES + `which`, a memo at 2 * SLICES and behind, or a number of matches after them: `held` words of `from`, then others. */
 static slice lend(int which, const uint32_t *from, size_t n, size_t held) {
     static unsigned char *ends[LENDINGS];
     static uint32_t olds[LENDINGS][RINKOLZA_STATE_WORDS * RECORDS];
@@ -221,7 +199,7 @@ static uint32_t draw(void) {
     return seed >> 8;
 }
 
-static unsigned long calls, refused, trusted, recalled, expanded, looked_up, quiet, quietly, trims, trimmed, useful;
+static unsigned long calls, refused, trusted, recalled, expanded, looked_up, quiet, quietly;
 
 /* What a call after the opening is lent, the slices in the order of `all` below; without the session, and with it. */
 #define REST(x) (x)[2].w, (x)[2].n, (x)[3].w, (x)[3].n, (x)[8].w, (x)[8].n, has, (x)[8].w, (x)[8].n, has, (x)[9].w, (x)[9].n, (x)[4].w, (x)[4].n, (x)[5].w, (x)[5].n, (x)[6].w, (x)[6].n
@@ -313,30 +291,6 @@ static void look_up(const slice *x, uint32_t has, uint32_t r) {
     else if (x[1].n == 9) need(got == r, "a look-up: another refusal than the opening's");
 }
 
-/* Trims what is lent in `x`, where a call with checks left it, into slices that may be short; with checks and, where they pass, without: both leave the same. */
-static void trim(const slice *x, uint32_t has) {
-    size_t lens[3], used, i, came;
-    uint32_t r[2] = {0, 0}, side, sides = 1 + (uint32_t)passes(x, has);
-    slice s[2][3];
-    lens[0] = draw() % 2 ? draw() % 48 : 64, lens[1] = 2 * (draw() % 2 ? draw() % 12 : 16), lens[2] = draw() % 8 ? 1 : draw() % 3;
-    for (side = 0; side < sides; side++) {
-        slice *y = s[side];
-        for (i = 0; i < 3; i++) y[i] = lend(2 * SLICES + 3 + 3 * (int)side + (int)i, NULL, lens[i], 0);
-        if (side == 0) r[side] = rinkolza_trim(LENT(x), y[0].w, y[0].n, (uint64_t *)(void *)y[1].w, y[1].n / 2, y[2].w, y[2].n);
-        else r[side] = rinkolza_trusted_trim(LENT(x), y[0].w, y[0].n, (uint64_t *)(void *)y[1].w, y[1].n / 2, y[2].w, y[2].n);
-        need(r[side] == r[0], "trimming without checks returns another number");
-        for (i = 0; i < 3; i++) need(memcmp(y[i].w, s[0][i].w, lens[i] * sizeof(uint32_t)) == 0, "trimming without checks leaves other words");
-    }
-    need(r[0] <= 8 || (r[0] >= 12 && r[0] <= 14) || r[0] == 18, "trimming: a number of no refusal of it");
-    if (x[1].n != 9 || lens[2] != 1) need(r[0] == 1, "trimming: lengths");
-    need(r[0] == 0 || (same(s[0][0]) && same(s[0][2])), "trimming that was refused wrote");
-    need(r[0] != 0 || (s[0][2].w[0] >= 6 && s[0][2].w[0] <= lens[0]), "how many words trimming wrote");
-    used = sides == 2 && x[1].n == 9 ? x[1].w[RINKOLZA_SESSION_USED_STATES] : 0;
-    came = sides == 2 && r[0] != 1 && lens[1] >= 4 * used ? 4 * used : 0;
-    for (i = 0; i < lens[1]; i++) need(s[0][1].w[i] == (i < came ? 0 : 77), "the words that trimming works in");
-    trims++, trimmed += r[0] == 0;
-}
-
 /* Three in four times no ignored labels; else up to three, seldom one that is refused. */
 static slice some_ignored(void) {
     uint32_t list[3];
@@ -345,7 +299,7 @@ static slice some_ignored(void) {
     return lend(9, list, n, n);
 }
 
-/* All five calls, with the opening a look-up and after another call a trimming, on fresh copies of the words, with slices of the given lengths and, where `damage` is not 0, some words replaced. */
+/* All five calls, and with the opening a look-up, on fresh copies of the words, with slices of the given lengths and, where `damage` is not 0, some words replaced. */
 static void all_calls(size_t settings_len, size_t session_len, size_t answer_len, size_t heads_len, size_t states_len, size_t trs_len, int damage) {
     int call, i;
     for (call = 0; call < 5; call++) {
@@ -370,7 +324,7 @@ static void all_calls(size_t settings_len, size_t session_len, size_t answer_len
         case 3: r = rinkolza_run(LENT(all)); break;
         default: rinkolza_records(LENT(all), n, a.w, a.n); break;
         }
-        if (call != 0) trust(call, all, n, has, r), trim(all, has);
+        if (call != 0) trust(call, all, n, has, r);
         else look_up(all, has, r);
         calls++;
         refused += r != 0;
@@ -415,8 +369,6 @@ static void draw_machine(uint32_t *m, uint32_t inner) {
 /* All states one by one, with checks and without, with ignored labels, which may leave no side, and without; the memos are lent all along, and now and then one is put back to zeros. Then the rest by a run. */
 static void one_by_one(void) {
     static uint32_t drawn[2][6 + 3 * STATES + 5 * STATES * MOST], nine[2][9], h[2][HEADS], st[2][RINKOLZA_STATE_WORDS * RECORDS], t[2][RINKOLZA_TR_WORDS * RECORDS];
-    static uint32_t out[2][6 + 3 * RECORDS + 5 * RECORDS];
-    static uint64_t work[2 * RECORDS];
     uint32_t kind = draw() % 2, filter = draw() % (RINKOLZA_NO_MATCH + 1), n, r, got, two[2], other[2];
     const uint32_t six[6] = {kind, filter, RINKOLZA_NO_LABEL, 0, RINKOLZA_NO_LABEL, 0}, list[2] = {1 + draw() % 5, 1 + draw() % 5};
     const size_t listed = draw() % 3;
@@ -439,12 +391,6 @@ static void one_by_one(void) {
     got = rinkolza_trusted_run(DRAWN(1), memos[0], memos[1], 0, RINKOLZA_MAX, other, 2);
     need(got == r && memcmp(nine[0], nine[1], sizeof nine[0]) == 0 && memcmp(h[0], h[1], sizeof h[0]) == 0, "one by one: the run");
     need(memcmp(st[0], st[1], sizeof st[0]) == 0 && memcmp(t[0], t[1], sizeof t[0]) == 0, "one by one: other records");
-    two[0] = 0;
-    need(rinkolza_trim(DRAWN(0), out[0], LEN(out[0]), work, LEN(work), two, 1) == (r ? RINKOLZA_REFUSED_NOT_EXPANDED : 0), "one by one: trimming");
-    if (r) return;
-    need(rinkolza_trusted_trim(DRAWN(1), out[1], two[0], work, 2 * nine[1][RINKOLZA_SESSION_USED_STATES], other, 1) == 0 && other[0] == two[0], "one by one: trimming into no more words than are needed");
-    need(memcmp(out[0], out[1], two[0] * sizeof(uint32_t)) == 0 && two[0] == 6 + 3 * out[0][0] + 5 * out[0][1] && out[0][2] == (out[0][0] > 0), "one by one: the trimmed machine");
-    useful += out[0][0] > 0;
 }
 
 int main(void) {
@@ -454,7 +400,6 @@ int main(void) {
     any_letter();
     joiners();
     look_ups();
-    trimming();
     list();
 
     /* expand again: as stored */
@@ -483,7 +428,6 @@ int main(void) {
     for (round = 0; round < 400; round++) one_by_one();
     need(recalled > 1000 && expanded > 10000, "few expansions with memos that know something");
     need(quiet > 10000 && quietly > 1000, "few calls with ignored labels");
-    need(trims > 10000 && trimmed > 1000 && useful > 20, "few trimmings");
-    fprintf(stderr, "%lu calls, %lu refused, %lu made without checks too, %lu of them expanded by memos of calls before; %lu expansions of drawn machines; %lu look-ups; with ignored labels %lu calls and %lu expansions; %lu trimmings, %lu accepted, and %lu of drawn machines of which something is left\n", calls, refused, trusted, recalled, expanded, looked_up, quiet, quietly, trims, trimmed, useful);
+    fprintf(stderr, "%lu calls, %lu refused, %lu made without checks too, %lu of them expanded by memos of calls before; %lu expansions of drawn machines; %lu look-ups; with ignored labels %lu calls and %lu expansions\n", calls, refused, trusted, recalled, expanded, looked_up, quiet, quietly);
     return 0;
 }

@@ -7,7 +7,7 @@
 What must be printed is worked out by the model in model.py. RUST is the folder of rustfst's sources, or the program that oracle/build made around it; it knows
 no sessions and no memory, so what is compared with it are the side, the lists and final weights, where it is the reference (reference.py). Fan-outs of look-ups
 (request 2.6) stand after openings, and in lists of their own. Labels are ignored (request 2.7), sigma labels listed among them (request 2.8), in further
-lists, where the labels may change between calls. In the last lists stores are trimmed (request 2.2): such as calls left, and such as are made up.
+lists, where the labels may change between calls.
 """
 import os
 import random
@@ -17,20 +17,18 @@ from functools import partial
 from itertools import product
 
 import rust
-import trims
 from fan_outs import drawn_query, of_fan_out, of_fan_outs
 from features import BOTH, Watched, of_cell, of_sigmas
-from gen import ADDED, ALL, FILTERS, QUIET, damaged_case, epsilon_case, ignored_of, own_and_sigma_case, quiet_case, sigma_case, unsorted_case
+from gen import ADDED, ALL, FILTERS, QUIET, damaged_case, ignored_of, own_and_sigma_case, quiet_case, sigma_case, unsorted_case
 from ignored import WALKED, checked, of_ignored, of_ignored_checks, of_ignored_moves, of_list
 from machine import LIMIT, MAX, Words
-from model import EXPANDED, FILTER_STATE, FIRST, MOVES, STATE_WORDS, TR_WORDS, Composition, Lent, World, fan_out, filtered
+from model import EXPANDED, FILTER_STATE, FIRST, MOVES, STATE_WORDS, TR_WORDS, Lent, World, fan_out, filtered
 from reference import reference
 from state_cases import parsed
 
 SEED, CASES, OPENINGS = 1, 80, 3000
-# the sizes of the arrays of the program, and of those for the slices of a trimming
-WORDS, BYTES = 65536, 196608
-OUT, WORK = 512, 64
+# the sizes of the arrays of the program
+WORDS, BYTES = 49152, 131072
 # the lists of fan-outs alone that are drawn, to take few of them, and the fan-outs in each
 FAN_OUT_LISTS, IN_EACH = 2000, 6
 # the numbers that each call must answer somewhere in the lists
@@ -47,10 +45,6 @@ OF_IGNORED = [of_list(f"fan-out of an ignored label, {what}") for what in ("no m
 OF_LISTED = [of_list(f"fan-out of a listed sigma, {what}") for what in ("refused 11", "own matches on the other machine")]
 EMPTY_PART = of_list("an empty part where the list is refused")
 IGNORED = [*((letter, 18) for letter in "oefrc"), *of_ignored_checks(), *of_ignored_moves(), *OF_IGNORED, *OF_LISTED, EMPTY_PART]
-# and of trimming: the lists that are drawn, to take few of them; the first of them, which are taken whatever they show; in how many lists each sort stands; the
-# most states and transitions of a store that is made up
-TRIMMING_LISTS, TRIMMED, TRIMMED_OFTEN = 6000, 60, 5
-TRIMS, MADE_UP = trims.of_trims(), (7, 12)
 
 
 def weight(draw, kind):
@@ -122,17 +116,6 @@ def ignoring_inputs(draw):
     return quiet_case(draw, ALL, [aim for aim in QUIET if aim[0] is not damaged_case])
 
 
-def trimming_inputs(draw):
-    """With final weights of all sorts, mostly such as an opening accepts; in some labels are ignored, lists fall, or there are many epsilons."""
-    aims = [partial(aim, filters=ALL) for aim in (epsilon_case, unsorted_case)]
-    while True:
-        settings, *lists, m1, m2 = draw.choice((drawn_inputs, drawn_inputs, ignoring_inputs, *aims))(draw)
-        ignored = lists[2] if len(lists) > 2 else ()
-        inputs = [settings, *lists, *(trims.weighed(draw, m, settings[0]) for m in (m1, m2))]
-        if checked(settings, Lent(*inputs[-2:], *lists[:2], ignored))[0] == 0 or draw.random() < 0.05:
-            return inputs
-
-
 ODD = (0, 1, 2, 3, 4, 5, len(FILTERS), 7, 8, 9, 65536, LIMIT, LIMIT + 1, 2 ** 31, MAX)
 
 
@@ -140,14 +123,12 @@ class Case:
     """One list of calls: its lines in `asked`, what the program prints in `seen`, what its accepted calls passed in `passed`, the present one in `passing`.
     Fan-outs are drawn by `asking`, so that the other calls do not depend on them."""
 
-    def __init__(self, draw, asking=None, inputs=drawn_inputs, made_up=False):
+    def __init__(self, draw, asking=None, inputs=drawn_inputs):
         self.draw, self.asking, self.asked, self.seen, self.passed, self.passing = draw, asking, [], [], set(), set()
         self.settings, *lists, m1, m2 = inputs(draw)
         self.lent = Lent(m1, m2, *lists)
         fill = draw.choice((0, 0, 7, MAX))
-        self.made_up = made_up
-        sizes = (draw.choice((1, 2, 5)), STATE_WORDS * MADE_UP[0] + draw.randrange(STATE_WORDS), TR_WORDS * MADE_UP[1] + draw.randrange(TR_WORDS)) if made_up else \
-                (draw.choice((1, 2, 5)) * some(draw), STATE_WORDS * draw.choice((1, 3, 6, 12)) * some(draw) + draw.randrange(STATE_WORDS),
+        sizes = (draw.choice((1, 2, 5)) * some(draw), STATE_WORDS * draw.choice((1, 3, 6, 12)) * some(draw) + draw.randrange(STATE_WORDS),
                  TR_WORDS * draw.choice((2, 6, 20, 20)) * some(draw) + draw.randrange(TR_WORDS))
         self.world = World([fill] * sizes[0], [fill] * sizes[1], [fill] * sizes[2], [0] * 9, partial(Watched, self.passing))
         self.ask(1, *sizes, fill)
@@ -359,65 +340,6 @@ class Case:
         self.show()
         return self
 
-    def trim(self, out, work, fill):
-        """With slices of these lengths, their words filled from one on."""
-        self.ask(17, out, work, fill)
-        needed = self.trimmed_length()
-        slices = [(fill + i) % 2 ** 32 for i in range(out)], [fill * 2 ** 32 + i for i in range(work)]
-        answer = self.world.calling(self.world.trim, self.lent, *slices)
-        shown = trims.shown(answer, self.world, self.lent, out, work, needed, self.made_up)
-        assert answer[0] or trims.of_trim(trims.NO_LABEL) in shown or Words(slices[0][:answer[1]]).well_formed(), slices
-        self.passed |= shown
-        self.answered("m", [*answer, "/", *slices[0], "/", *slices[1]])
-
-    def trimmed_length(self):
-        """How long the output slice must be; None where no length is enough."""
-        answer = self.world.calling(self.world.trim, self.lent, [0] * OUT, [0] * WORK)
-        return answer[1] if answer[0] == 0 else None
-
-    def drawn_trim(self):
-        """With slices that are long enough, or just not."""
-        draw, needed, words = self.draw, self.trimmed_length(), 2 * self.world.session[7]
-        out = draw.choice((0, 5, 6, 20)) if needed is None else draw.choice((needed, needed, needed + draw.randint(1, 3), needed - 1, 0))
-        work = words if words <= WORK else 2
-        work = draw.choice((work, work, work, work + 1, work + 3, work - 1, 0))
-        self.trim(out, min(max(0, work), WORK), draw.choice((1, 7, 100, MAX - 1)))
-
-    def make_up(self):
-        """Writes a store by hand; as opened where there is none to write."""
-        self.open(self.settings)
-        number, side = checked(self.settings, self.lent)
-        kinds = self.draw.choice((("none", "final"), ("none", "final"), ("none", "final", "large")))
-        made = None if number else trims.store(self.draw, Composition(self.settings, self.lent, side), kinds, (len(self.world.heads), *MADE_UP))
-        if made is not None:
-            for which, words in enumerate(made[:3]):
-                self.words_set(which, words)
-            self.session_back([*self.settings, side, *made[3:]])
-
-    def words_set(self, which, words):
-        (self.world.heads, self.world.states, self.world.trs)[which][:len(words)] = words
-        self.ask(16, which, *words)
-
-    def play_trims(self):
-        """Trims a store that is made up, or one that calls left, now and then before its last state is expanded; damaged for a call too."""
-        draw = self.draw
-        if self.made_up:
-            self.make_up()
-        else:
-            self.open(self.settings)
-            for _ in range(draw.randint(0, 2)):
-                self.call()
-        for _ in range(draw.randint(1, 3)):
-            what = draw.random()
-            back = self.ignore_otherwise() if what < 0.1 else self.damage() if what < 0.35 else self.damage_machine() if what < 0.5 else lambda: None
-            self.drawn_trim()
-            back()
-            if not self.made_up and what > 0.6:
-                self.ask(11)
-                self.answered("r", self.world.run(self.lent))
-        self.drawn_trim()
-        return self
-
     def fan_outs(self):
         """Fan-outs alone: with the settings, with another word among them, with a damaged machine."""
         for _ in range(IN_EACH):
@@ -444,7 +366,7 @@ def cases():
             found.append(c)
             lacking -= new
     found += fan_out_cases(found)
-    return found + ignoring_cases() + trimming_cases()
+    return found + ignoring_cases()
 
 
 def fan_out_cases(before):
@@ -459,14 +381,6 @@ def ignoring_cases():
     draw = random.Random(SEED)
     drawn = [Case(draw, draw, ignoring_inputs).play_ignoring() for _ in range(IGNORING_LISTS)]
     return few_of(drawn, Counter(dict.fromkeys(IGNORED, OFTEN)))
-
-
-def trimming_cases():
-    """Lists in which stores are trimmed, each sort in TRIMMED_OFTEN of them."""
-    draw = random.Random(SEED)
-    drawn = [Case(draw, draw, trimming_inputs, made_up=draw.random() < 0.6).play_trims() for _ in range(TRIMMING_LISTS)]
-    first = drawn[:TRIMMED]
-    return first + few_of(drawn[TRIMMED:], Counter(dict.fromkeys(TRIMS, TRIMMED_OFTEN)) - Counter(row for c in first for row in c.shown()))
 
 
 def few_of(drawn, lacking):
@@ -495,7 +409,7 @@ def main():
     if sys.argv[1:2] == ["--rust"]:
         return compare(rust.oracle_at(sys.argv[2]))
     found = cases()
-    for row, n in sorted(Counter(str(row) for c in found for row in c.shown().intersection([BOTH, *SIGMAS, *FAN_OUTS, *IGNORED, *TRIMS])).items()):
+    for row, n in sorted(Counter(str(row) for c in found for row in c.shown().intersection([BOTH, *SIGMAS, *FAN_OUTS, *IGNORED])).items()):
         print(f"{n:4} {row}")
     asked = [" ".join(map(str, r)) for c in found for r in c.asked]
     words, size = sum(len(r.split()) for r in asked), sum(len(r) + 1 for r in asked)

@@ -5,7 +5,7 @@
 set -eu
 cd "$(dirname "$0")/.."
 free='crates/(fst|semirings|compose_filters|fst_properties|compose_state_tuple|compose_fst_op|tr_lists|matchers|counted_iter|match_input|compose_moves|compose_weigh|session_checks|listing_read|listing_input|fan_out_call)/'
-free="$free|crates/(lazy_fst|rinkolza|listing)/src/lib.rt|crates/rinkolza/src/fan_out.rt|crates/rinkolza/src/trimming.rt|crates/store_links/"
+free="$free|crates/(lazy_fst|rinkolza|listing)/src/lib.rt|crates/rinkolza/src/fan_out.rt"
 owned='crates/rinkolza/src/trusted.rt'
 named=$(awk '/^[0-9]+\. / { on = /^33\. / } on' docs/DECISIONS.md | grep -o '`[^` ]*` in `crates/[^` ]*`' | sed 's/`//g; s/ in / /' | sort -u)
 [ -n "$named" ] || { echo "contracts: DECISIONS 33 names no function"; exit 1; }

@@ -1,7 +1,7 @@
-"""Document 01's calls with request 2.1's filters, 2.2's trimming, 2.4's sigma, 2.6's fan-out, 2.7's ignored labels and 2.8's exemption, worked out from their text: the checks, the
-moves, the memory."""
+"""Document 01's calls with request 2.1's filters, 2.4's sigma, 2.6's fan-out, 2.7's ignored labels and 2.8's exemption, worked out from their text: the checks, the moves, the
+memory."""
 from machine import LIMIT, MAX, Words
-from gen import FILTERS, listed
+from gen import FILTERS
 
 # the words of a state record (s1, s2, f, expanded, first, next) and of a transition record
 STATE_WORDS, TR_WORDS = 6, 5
@@ -223,31 +223,6 @@ def fan_out(settings, lent, query):
     return [c.fan_out(machine - 1, s, x)]
 
 
-def closure(begin, links):
-    """What the links lead to from some states, these included."""
-    found, waiting = set(begin), list(begin)
-    while waiting:
-        new = set(links(waiting.pop())) - found
-        found |= new
-        waiting += new
-    return found
-
-
-def useful(lists, ends):
-    """Request 2.2: the states on some path from state 0 to one of the ends, in their order. A list has the records of a state, the target fourth."""
-    states = range(len(lists))
-    reached = closure(states[:1], lambda n: [r[3] for r in lists[n]])
-    leading = closure(ends, lambda n: [k for k in states if n in [r[3] for r in lists[k]]])
-    return sorted(reached & leading)
-
-
-def trimmed(lists, finals):
-    """Request 2.2: the words of the trimmed machine; a final weight is None where a state is not final."""
-    kept = useful(lists, [n for n, w in enumerate(finals) if w is not None])
-    rows = [(finals[n], [[*r[:3], kept.index(r[3])] for r in lists[n] if r[3] in kept]) for n in kept]
-    return listed(rows, start=1 if kept else 0)
-
-
 def room(slice, size):
     return min(LIMIT, len(slice) // size)
 
@@ -400,22 +375,6 @@ class World:
         """The records of state n; none where it is not expanded."""
         first, count = self.part(n) if self.state(n, EXPANDED) == 1 else (0, 0)
         return self.trs[TR_WORDS * (first - 1):TR_WORDS * (first - 1 + count)] if count else []
-
-    def lists(self):
-        """The records of each used state, without their next."""
-        of = [self.stored(n) for n in range(self.session[7])]
-        return [[records[i:i + 4] for i in range(0, len(records), TR_WORDS)] for records in of]
-
-    def trim(self, lent, out, work):
-        """Request 2.2, into the two slices that are lent. The work words are cleared whatever is answered past their check."""
-        c, used = self.entered(lent), self.session[7]
-        refuse(len(work) < 2 * used, 13)
-        work[:2 * used] = [0] * (2 * used)
-        refuse(any(self.state(n, EXPANDED) == 0 for n in range(used)), 14)
-        words = trimmed(self.lists(), [c.final(*self.triple(n)[:2]) for n in range(used)])
-        refuse(words[1] > LIMIT or len(out) < len(words), 13)
-        out[:len(words)] = words
-        return [len(words)]
 
     def mixed(self):
         h = 0

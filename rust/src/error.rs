@@ -33,16 +33,14 @@ pub enum Refusal {
     SigmaWalked = 11,
     /// 12: weight too large.
     TooLarge = 12,
-    /// 13: a record or, at opening, a head is lacking; of a trimming, words to work in or to write to.
+    /// 13: a record or, at opening, a head is lacking.
     NoRoom = 13,
-    /// 14: a found state is not expanded, and a trimming needs all of them.
-    NotExpanded = 14,
     /// 18: the ignored labels hold 0 or 4294967295. It is judged after 3 and before 4.
     Ignored = 18,
 }
 
 /// All refusals, in the order of their numbers.
-const ALL: [Refusal; 15] = [
+const ALL: [Refusal; 14] = [
     Refusal::Settings,
     Refusal::FirstMalformed,
     Refusal::SecondMalformed,
@@ -56,12 +54,11 @@ const ALL: [Refusal; 15] = [
     Refusal::SigmaWalked,
     Refusal::TooLarge,
     Refusal::NoRoom,
-    Refusal::NotExpanded,
     Refusal::Ignored,
 ];
 
 impl Refusal {
-    /// The refusal's number, from 1 to 14 or 18, as in the library's header.
+    /// The refusal's number, from 1 to 13 or 18, as in the library's header.
     pub fn number(self) -> u32 {
         self as u32
     }
@@ -104,7 +101,6 @@ impl Refusal {
                 "a weight is too large: a sum of finite costs reaches 4294967295, or a count is above it"
             }
             Refusal::NoRoom => "no room: a state or transition record, or at opening a head, is lacking",
-            Refusal::NotExpanded => "not all states that are found are expanded, and trimming needs them all",
             Refusal::Ignored => {
                 "a label to ignore is 0, which is epsilon already, or 4294967295, which is no label"
             }
@@ -217,13 +213,13 @@ mod tests {
 
     #[test]
     fn numbers_and_words() {
-        for number in (1..=14).chain([18]) {
+        for number in (1..=13).chain([18]) {
             let refusal = Refusal::from_number(number).expect("a refusal has this number");
             assert_eq!(refusal.number(), number);
             assert!(!refusal.meaning().is_empty());
         }
         assert_eq!(Refusal::from_number(0), None);
-        assert!((15..18)
+        assert!((14..18)
             .chain(19..99)
             .all(|number| Refusal::from_number(number).is_none()));
         let error = Error::Refused {

@@ -27,9 +27,6 @@
 //! [`Options::ignored`] names labels that no rule is to notice, joiners and soft hyphens: they count as epsilon between the
 //! two machines.
 //!
-//! [`Options::connect`] takes out the states from which no reading ends; [`Composition::trimmed`] does so for a composition
-//! that is kept open.
-//!
 //! [`Composition`] keeps a composition open: it expands states one by one, as they are asked for, which costs some
 //! third more than a whole run (more where states are few), and shows how far a long run has come. A machine, and a
 //! composition, has at most [`LARGEST_COUNT`] states and as many transitions. What a composition may be refused for is a

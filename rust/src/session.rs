@@ -11,7 +11,7 @@ use crate::error::{Error, Refusal};
 use crate::machine::Machine;
 use crate::prepare::{Inputs, Which};
 use crate::settings::{Options, Room, FEW_STATES, FEW_TRS};
-use crate::sys::{self, Owned};
+use crate::sys::Owned;
 use crate::words::{self, Trs};
 use std::ops::Range;
 
@@ -227,49 +227,6 @@ impl Composition {
         Ok(machine)
     }
 
-    /// The trimmed machine: of the composed one, whose found states must all be expanded, exactly the states on some path
-    /// from the start to a final state, in their order and numbered from 0, and the transitions between them, in the order
-    /// of their lists. It has the same accepting paths. Where no state remains there is no start. A state whose final weight
-    /// is zero (an infinite cost, a count 0) is not final; a transition of weight zero is one like others.
-    ///
-    /// # Errors
-    ///
-    /// [`Error::Refused`] by [`Refusal::NotExpanded`], with the lowest state that is not (run first), or by
-    /// [`Refusal::TooLarge`], with the first state whose final weight is, be it one that is kept or not; [`Error::Memory`]
-    /// where there is no memory for the machine.
-    ///
-    /// ```
-    /// use rinkolza::{text, Composition, Format, Options};
-    ///
-    /// // After 1 nothing ends: that state, and the way there, are taken out.
-    /// let first = text::read("0 1 1 5\n0 2 2 6\n2\n", "first", &Format::default())?;
-    /// let second = text::read("0 0 5 7\n0 0 6 8\n0\n", "second", &Format::default())?;
-    /// let mut composition = Composition::open(&first, &second, &Options::default())?;
-    /// composition.run()?;
-    /// assert_eq!(composition.machine()?.state_count(), 3);
-    /// let trimmed = composition.trimmed()?;
-    /// assert_eq!(text::write(&trimmed, &Format::default())?, "0\t1\t2\t8\n1\n");
-    /// # Ok::<(), rinkolza::Error>(())
-    /// ```
-    pub fn trimmed(&self) -> Result<Machine, Error> {
-        let (found, stored) = (self.found() as usize, self.tr_count() as usize);
-        let mut out = sys::zeros(words::length(found, stored))?;
-        let mut work = sys::zeros(2 * found)?;
-        match self.owned.trim(&mut out, &mut work) {
-            Ok(count) => words::decode(&out[..count as usize]),
-            Err(number) => Err(self.untrimmed(Refusal::known(number))),
-        }
-    }
-
-    /// Why there is no trimmed machine, and at which state.
-    fn untrimmed(&self, refusal: Refusal) -> Error {
-        let at = match refusal {
-            Refusal::NotExpanded => Some(self.lowest_unexpanded()),
-            _ => self.owned.first_too_large(),
-        };
-        Error::refused(refusal).at(at)
-    }
-
     /// The side on which the machines are matched.
     pub fn side(&self) -> Side {
         match self.owned.session().side() {
@@ -442,13 +399,12 @@ fn suited(room: Room, inputs: &Inputs, most: Room) -> Room {
     }
 }
 
-/// Composes two machines whole: opens, runs, and gives the composed machine, with [`Options::connect`] the trimmed one.
-/// [`Filter`](crate::Filter) says how often a reading is listed there.
+/// Composes two machines whole: opens, runs, and gives the composed machine. [`Filter`](crate::Filter) says how often a
+/// reading is listed there.
 ///
 /// # Errors
 ///
-/// As for [`Composition::open`], [`Composition::run`] and [`Composition::machine`] or [`Composition::trimmed`]; there is
-/// nothing half done.
+/// As for [`Composition::open`], [`Composition::run`] and [`Composition::machine`]; there is nothing half done.
 ///
 /// ```
 /// use rinkolza::{compose, text, Format, Options};
@@ -463,10 +419,7 @@ fn suited(room: Room, inputs: &Inputs, most: Room) -> Room {
 pub fn compose(first: &Machine, second: &Machine, options: &Options) -> Result<Machine, Error> {
     let mut composition = Composition::open(first, second, options)?;
     composition.run()?;
-    match options.connect {
-        true => composition.trimmed(),
-        false => composition.machine(),
-    }
+    composition.machine()
 }
 
 #[cfg(test)]

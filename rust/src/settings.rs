@@ -1,4 +1,4 @@
-//! How to compose: weights, filter, sigma labels, ignored labels, sorting, room, trimming.
+//! How to compose: weights, filter, sigma labels, ignored labels, sorting, room.
 
 #![forbid(unsafe_code)]
 
@@ -320,23 +320,6 @@ pub struct Options {
     pub room: Room,
     /// The room beyond which it does not grow. What is above [`Room::LARGEST`] counts as that.
     pub most: Room,
-    /// Whether [`compose`](crate::compose) gives the trimmed machine: the states on some path from the start to a final
-    /// state, and no others. By default it gives all states that are reached. OpenFst's `connect`, but that states keep
-    /// their order. An open [`Composition`](crate::Composition) does not look at it: it gives both machines, see
-    /// [`Composition::trimmed`](crate::Composition::trimmed).
-    ///
-    /// ```
-    /// use rinkolza::{compose, text, Format, Options};
-    ///
-    /// let word = text::read("0 1 1 5\n1\n", "word", &Format::default())?;
-    /// // The state 1 of the rules leads nowhere.
-    /// let rules = text::read("0 1 5 8\n0 2 5 9\n2\n", "rules", &Format::default())?;
-    /// let whole = compose(&word, &rules, &Options::new())?;
-    /// let trimmed = compose(&word, &rules, &Options::new().with_connect(true))?;
-    /// assert_eq!((whole.state_count(), trimmed.state_count()), (3, 2));
-    /// # Ok::<(), rinkolza::Error>(())
-    /// ```
-    pub connect: bool,
 }
 
 impl Default for Options {
@@ -354,14 +337,13 @@ impl Default for Options {
                 trs: 0,
             },
             most: Room::LARGEST,
-            connect: false,
         }
     }
 }
 
 impl Options {
-    /// Costs, the filter sequence, no sigma, no ignored labels, sorted where needed, room as the machines ask for,
-    /// records that grow up to [`Room::LARGEST`], and nothing trimmed.
+    /// Costs, the filter sequence, no sigma, no ignored labels, sorted where needed, room as the machines ask for, and
+    /// records that grow up to [`Room::LARGEST`].
     pub fn new() -> Options {
         Options::default()
     }
@@ -419,13 +401,6 @@ impl Options {
     #[must_use]
     pub fn with_most(mut self, most: Room) -> Options {
         self.most = most;
-        self
-    }
-
-    /// With useless states taken out, or not, see [`Options::connect`].
-    #[must_use]
-    pub fn with_connect(mut self, connect: bool) -> Options {
-        self.connect = connect;
         self
     }
 

@@ -5,7 +5,7 @@
 //! points to as many words as its length says and that a slice that is written overlaps no other; Rust's slices and
 //! borrows give both.
 //!
-//! The seven functions here answer any words: machines, settings, sessions and memory may be damaged, and each call
+//! The six functions here answer any words: machines, settings, sessions and memory may be damaged, and each call
 //! checks them anew. The calls that do not check are made by [`Owned`] alone, which nobody else can write to.
 
 use crate::error::{reserve, Error, Refusal};
@@ -85,11 +85,10 @@ impl Memory {
     }
 }
 
-/// So many words, of 32 or 64 bits.
-pub(crate) fn zeros<T: Clone + Default>(count: usize) -> Result<Vec<T>, Error> {
+fn zeros(count: usize) -> Result<Vec<u32>, Error> {
     let mut words = Vec::new();
     reserve(&mut words, count, "words")?;
-    words.resize(count, T::default());
+    words.resize(count, 0);
     Ok(words)
 }
 
@@ -299,44 +298,6 @@ pub fn fan_out(
     }
 }
 
-/// Writes the trimmed machine to the beginning of `out`, in words with marks 0: of the composition, all of whose found states
-/// must be expanded, the states on some path from the start to a final state, in their order, and the transitions between
-/// them. Answers how many words it has; those behind stay. `work` has two words or more for each found state; whatever
-/// stands there, these end as 0, refused or not, but where they are too few.
-///
-/// # Errors
-///
-/// The refusal's number: 1 to 8 or 18; 13 where `work` is short; then 14 where a found state is not expanded, 12 where a
-/// final weight is too large, of a state that is kept or not, 13 where `out` is short. Nothing is written to `out`.
-pub fn trim(
-    lent: &Lent<'_>,
-    session: &Session,
-    memory: &Memory,
-    out: &mut [u32],
-    work: &mut [u64],
-) -> Result<u32, u32> {
-    let mut answer = [0; 1];
-    match call!(
-        rinkolza_trim,
-        as_ptr,
-        [],
-        session,
-        lent,
-        memory,
-        [
-            out.as_mut_ptr(),
-            out.len(),
-            work.as_mut_ptr(),
-            work.len(),
-            answer.as_mut_ptr(),
-            answer.len()
-        ]
-    ) {
-        0 => Ok(answer[0]),
-        refused => Err(refused),
-    }
-}
-
 /// A composition that owns its inputs, session and memory, so that its calls need not check them.
 ///
 /// The calls that do not check ask that the checks 1 to 8 and 18 pass. That is proved (`OwnedClaim` in
@@ -506,42 +467,12 @@ impl Owned {
         ) {
             0 => weights.extend(answer.chunks_exact(2).map(weight_of)),
             refused => {
-                let error = Error::refused(Refusal::known(refused));
-                return Err(error.at(self.first_too_large()));
+                let mut states = 0..self.session.used_states();
+                let at = states.find(|&n| self.final_weight(n).is_err());
+                return Err(Error::refused(Refusal::known(refused)).at(at));
             }
         }
         Ok(weights)
-    }
-
-    /// The first found state whose final weight is too large.
-    pub(crate) fn first_too_large(&self) -> Option<u32> {
-        let mut states = 0..self.session.used_states();
-        states.find(|&n| self.final_weight(n).is_err())
-    }
-
-    /// As [`trim`].
-    ///
-    /// # Errors
-    ///
-    /// The refusal's number: 12, 13 or 14.
-    pub fn trim(&self, out: &mut [u32], work: &mut [u64]) -> Result<u32, u32> {
-        let mut answer = [0; 1];
-        match trusted!(
-            rinkolza_trusted_trim,
-            as_ptr,
-            self,
-            [
-                out.as_mut_ptr(),
-                out.len(),
-                work.as_mut_ptr(),
-                work.len(),
-                answer.as_mut_ptr(),
-                answer.len()
-            ]
-        ) {
-            0 => Ok(answer[0]),
-            refused => Err(refused),
-        }
     }
 
     /// A piece of a run: from state n on, in number order, at most k states are expanded. A state that is expanded
@@ -761,35 +692,6 @@ extern "C" {
         answer_len: usize,
     ) -> u32;
 
-    fn rinkolza_trim(
-        session: *const u32,
-        session_len: usize,
-        m1: *const u32,
-        m1_len: usize,
-        m2: *const u32,
-        m2_len: usize,
-        allowed1: *const u32,
-        allowed1_len: usize,
-        has1: u32,
-        allowed2: *const u32,
-        allowed2_len: usize,
-        has2: u32,
-        ignored: *const u32,
-        ignored_len: usize,
-        heads: *const u32,
-        heads_len: usize,
-        states: *const u32,
-        states_len: usize,
-        trs: *const u32,
-        trs_len: usize,
-        out: *mut u32,
-        out_len: usize,
-        work: *mut u64,
-        work_len: usize,
-        answer: *mut u32,
-        answer_len: usize,
-    ) -> u32;
-
     fn rinkolza_trusted_expand(
         session: *mut u32,
         session_len: usize,
@@ -920,35 +822,6 @@ extern "C" {
         memo2: *mut u32,
         n: u32,
         k: u32,
-        answer: *mut u32,
-        answer_len: usize,
-    ) -> u32;
-
-    fn rinkolza_trusted_trim(
-        session: *const u32,
-        session_len: usize,
-        m1: *const u32,
-        m1_len: usize,
-        m2: *const u32,
-        m2_len: usize,
-        allowed1: *const u32,
-        allowed1_len: usize,
-        has1: u32,
-        allowed2: *const u32,
-        allowed2_len: usize,
-        has2: u32,
-        ignored: *const u32,
-        ignored_len: usize,
-        heads: *const u32,
-        heads_len: usize,
-        states: *const u32,
-        states_len: usize,
-        trs: *const u32,
-        trs_len: usize,
-        out: *mut u32,
-        out_len: usize,
-        work: *mut u64,
-        work_len: usize,
         answer: *mut u32,
         answer_len: usize,
     ) -> u32;

@@ -23,15 +23,10 @@ pub enum Marks {
     Unknown,
 }
 
-/// How many words a machine with so many states and transitions has.
-pub(crate) fn length(states: usize, trs: usize) -> usize {
-    HEADER + STATE * states + TR * trs
-}
-
 /// The machine's words. Each state's transitions stand one after the other.
 pub fn encode(machine: &Machine, marks: Marks) -> Vec<u32> {
     let states = machine.state_count();
-    let mut words = Vec::with_capacity(length(states, machine.tr_count()));
+    let mut words = Vec::with_capacity(HEADER + STATE * states + TR * machine.tr_count());
     words.push(states as u32);
     words.push(machine.tr_count() as u32);
     words.push(machine.start().map_or(0, |start| start + 1));
@@ -83,7 +78,7 @@ pub fn decode(words: &[u32]) -> Result<Machine, Error> {
     let bad = || Error::Machine("these words are not a machine".to_string());
     let header = words.get(..HEADER).ok_or_else(bad)?;
     let (states, trs) = (header[0] as usize, header[1] as usize);
-    if words.len() != length(states, trs) {
+    if words.len() != HEADER + STATE * states + TR * trs {
         return Err(bad());
     }
     let (records, tail) = words[HEADER..].split_at(STATE * states);

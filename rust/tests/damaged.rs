@@ -2,7 +2,7 @@
 
 mod common;
 
-use common::{lies_fallow, Draw, Fixed, Seen, World};
+use common::{Draw, Fixed, Seen, World};
 use rinkolza::sys::{self, Memory, Session};
 use rinkolza::{words, Inputs, Refusal, Room};
 
@@ -11,7 +11,7 @@ fn one_call(draw: &mut Draw, damaged: &mut Fixed, seen: &mut Seen) {
     let n = draw.word();
     let (session, memory) = (damaged.session, damaged.memory.clone());
     let lent = damaged.inputs.lent();
-    let call = draw.below(6);
+    let call = draw.below(5);
     let number = match call {
         0 => sys::open(
             &damaged.inputs.settings,
@@ -26,23 +26,12 @@ fn one_call(draw: &mut Draw, damaged: &mut Fixed, seen: &mut Seen) {
             .err()
             .unwrap_or(0),
         3 => sys::run(&lent, &mut damaged.session, &mut damaged.memory),
-        4 => {
+        _ => {
             let part = sys::records(&lent, &damaged.session, &damaged.memory, n);
             assert!(
                 part.len().is_multiple_of(sys::TR_WORDS) && part.len() <= damaged.memory.trs.len()
             );
             0
-        }
-        _ => {
-            let (mut out, mut work) = (draw.words(60), draw.long_words(30));
-            let before = (out.clone(), work.clone());
-            let trimmed = sys::trim(&lent, &session, &memory, &mut out, &mut work);
-            let kept = match trimmed {
-                Ok(count) => out[count as usize..] == before.0[count as usize..],
-                Err(_) => out == before.0,
-            };
-            assert!(kept && lies_fallow(&session, trimmed, &before.1, &work));
-            trimmed.err().unwrap_or(0)
         }
     };
     seen[number as usize] += 1;

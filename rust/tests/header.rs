@@ -7,20 +7,18 @@ use rinkolza::{sys, Options, Refusal, LARGEST_COUNT};
 use std::fs;
 use std::path::Path;
 
-const CALLS: [&str; 13] = [
+const CALLS: [&str; 11] = [
     "rinkolza_open",
     "rinkolza_expand",
     "rinkolza_final_weight",
     "rinkolza_run",
     "rinkolza_records",
     "rinkolza_fan_out",
-    "rinkolza_trim",
     "rinkolza_trusted_expand",
     "rinkolza_trusted_final_weight",
     "rinkolza_trusted_records",
     "rinkolza_trusted_final_weights",
     "rinkolza_trusted_run",
-    "rinkolza_trusted_trim",
 ];
 
 fn header() -> String {
@@ -53,7 +51,6 @@ fn in_rust(parameter: &str) -> String {
     match words[..] {
         ["const", "uint32_t", name] => format!("{}: *const u32", name.trim_start_matches('*')),
         ["uint32_t", name] if name.starts_with('*') => format!("{}: *mut u32", &name[1..]),
-        ["uint64_t", name] if name.starts_with('*') => format!("{}: *mut u64", &name[1..]),
         ["uint32_t", name] => format!("{name}: u32"),
         ["size_t", name] => format!("{name}: usize"),
         _ => panic!("a parameter of another form: {parameter}"),

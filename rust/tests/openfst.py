@@ -298,5 +298,4 @@ def main():
         repeat(check, cases if check != same_picture else cases // 5, seed, program)
 
 
-if __name__ == "__main__":
-    main()
+main()

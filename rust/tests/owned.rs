@@ -2,12 +2,12 @@
 
 mod common;
 
-use common::{lies_fallow, Draw, Fixed, World};
+use common::{Draw, Fixed, World};
 use rinkolza::sys::{self, Owned, Piece};
 use rinkolza::{Error, Refusal, Room};
 
 /// How often each number was answered, by the call.
-type Seen = [[u32; 15]; 7];
+type Seen = [[u32; 14]; 6];
 
 /// The words that are owned, for calls that check.
 fn copy(owned: &Owned) -> Fixed {
@@ -57,32 +57,12 @@ const RECORDS: usize = 2;
 const FINAL_WEIGHTS: usize = 3;
 const PIECE: usize = 4;
 const RUN: usize = 5;
-const TRIM: usize = 6;
-
-/// A trimming in both ways, into slices that may be short.
-fn trim(draw: &mut Draw, owned: &Owned, checked: &Fixed) -> Option<u32> {
-    let (out, work) = (draw.words(400), draw.long_words(120));
-    let (mut out1, mut work1) = (out.clone(), work.clone());
-    let (mut out2, mut work2) = (out, work.clone());
-    let lent = checked.inputs.lent();
-    let trimmed = sys::trim(
-        &lent,
-        &checked.session,
-        &checked.memory,
-        &mut out1,
-        &mut work1,
-    );
-    assert_eq!(owned.trim(&mut out2, &mut work2), trimmed);
-    assert!(out1 == out2 && work1 == work2);
-    assert!(lies_fallow(&checked.session, trimmed, &work, &work1));
-    trimmed.err()
-}
 
 /// Makes a call in both ways.
 fn one_call(draw: &mut Draw, owned: &mut Owned, seen: &mut Seen) {
     let mut checked = copy(owned);
     let n = draw.below(checked.found() + 2);
-    let call = draw.below(7) as usize;
+    let call = draw.below(6) as usize;
     let number = match call {
         EXPAND => {
             let lent = checked.inputs.lent();
@@ -111,7 +91,6 @@ fn one_call(draw: &mut Draw, owned: &mut Owned, seen: &mut Seen) {
             assert_eq!(owned.run_from(n, k), made);
             made.refused
         }
-        TRIM => trim(draw, owned, &checked),
         _ => {
             let made = owned.run_from(0, u32::MAX);
             assert_eq!(made.refused, checked.run().err());
@@ -144,17 +123,16 @@ fn drawn_calls() {
             one_call(&mut draw, &mut owned, &mut seen);
         }
     }
-    let answered: [(usize, &[usize]); 7] = [
+    let answered: [(usize, &[usize]); 6] = [
         (EXPAND, &[0, 9, 10, 11, 12, 13]),
         (FINAL_WEIGHT, &[0, 9, 12]),
         (RECORDS, &[0]),
         (FINAL_WEIGHTS, &[0, 12]),
         (PIECE, &[0, 10, 11, 12, 13]),
         (RUN, &[0, 10, 11, 12, 13]),
-        (TRIM, &[0, 12, 13, 14]),
     ];
     for (call, numbers) in answered {
-        let met: Vec<usize> = (0..15).filter(|&number| seen[call][number] > 0).collect();
+        let met: Vec<usize> = (0..14).filter(|&number| seen[call][number] > 0).collect();
         assert_eq!(met, numbers, "call {call}: {:?}", seen[call]);
     }
 }

@@ -104,101 +104,6 @@ fn filters_by_their_names() {
     assert_eq!(met.len(), FILTERS.len());
 }
 
-/// Two machines of which three composed states lead to the end and three do not, one with a loop, in turn.
-const FORK: [&str; 2] = [
-    "0 1 1 1\n0 2 2 2 3\n1 3 1 1\n3 1 1 1\n2 4 3 3\n2 5 4 4\n4 4 1 1\n5 6\n",
-    "0 0 1 1\n0 0 2 2\n0 0 3 3\n0 0 4 4\n0\n",
-];
-
-#[test]
-fn takes_out_what_leads_nowhere() {
-    let printed = |options: &[&str], name: &str| {
-        composed_with(options, FORK[0], FORK[1], &format!("fork-{name}"))
-    };
-    let trimmed = printed(&["--connect"], "text");
-    assert_eq!(trimmed, "0\t1\t2\t2\t3\n1\t2\t4\t4\n2\t6\n");
-    let format = Format::default();
-    let [first, second] = FORK.map(|text| text::read(text, "m", &format).unwrap());
-    let options = Options::new().with_connect(true);
-    let machine = compose(&first, &second, &options).unwrap();
-    assert_eq!(text::write(&machine, &format).unwrap(), trimmed);
-    let counts = "states 3\ntransitions 2\nfinal 1\nside both\n";
-    assert_eq!(printed(&["--connect", "--to=counts"], "counts"), counts);
-    let whole = "states 6\ntransitions 7\nfinal 1\nside both\n";
-    assert_eq!(printed(&["--to=counts"], "whole"), whole);
-    assert_eq!(printed(&["--connect", "--filter=null"], "null"), trimmed);
-}
-
-/// In pictures the states that are left are named by what they are made of, in the whole composition.
-#[test]
-fn pictures_of_what_is_left() {
-    let picture = |options: &[&str], name: &str| {
-        let options = [&["--to=dot"], options].concat();
-        composed_with(&options, FORK[0], FORK[1], &format!("left-{name}"))
-    };
-    let plain = picture(&["--connect"], "plain");
-    assert!(plain.contains("2 [label = \"2/6\"") && !plain.contains("3 [label"));
-    let triples = picture(&["--connect", "--triples"], "triples");
-    for (state, there) in [
-        (0, true),
-        (1, false),
-        (2, true),
-        (3, false),
-        (4, false),
-        (5, true),
-    ] {
-        let name = format!("label = \"{state},0,0");
-        assert_eq!(triples.contains(&name), there, "{name} in {triples}");
-    }
-    let whole = picture(&["--triples"], "whole");
-    assert!(
-        (0..6).all(|n| whole.contains(&format!("{n},0,0"))),
-        "{whole}"
-    );
-}
-
-/// Nothing remains: an empty text. A final weight that is too large is refused as without `--connect`.
-#[test]
-fn nothing_is_left() {
-    let loops = "0 0 1 1\n0 0 2 2\n0\n";
-    let dead = composed_with(&["--connect"], "0 1 1 1\n1 0 2 2\n", loops, "dead");
-    assert_eq!(dead, "");
-    let file = std::env::temp_dir().join(format!("rinkolza-heavy-{}", std::process::id()));
-    std::fs::write(&file, "0 0 1 1\n0 4294967294\n").unwrap();
-    let words = ["compose", "--connect", "-", &file.display().to_string()];
-    let (status, error) = complaint(&words, "0 1 1 1\n1 5\n");
-    std::fs::remove_file(&file).unwrap();
-    assert_eq!(status, 1);
-    assert!(
-        error.starts_with("rinkolza: refused 12 at composed state 1"),
-        "{error}"
-    );
-    assert!(error.contains("state 1 of the first machine"), "{error}");
-}
-
-/// Drawn machines: by `--connect` the program gives what the crate gives.
-#[test]
-fn connects_drawn_machines() {
-    let mut draw = Draw(97);
-    let format = Format::default();
-    let (mut left, mut fewer) = (0, 0);
-    for round in 0..40 {
-        let mut machine = |side| words::decode(&draw.machine(Some(side), 6, 4)).unwrap();
-        let (first, second) = (machine(1), machine(0));
-        let texts = [&first, &second].map(|machine| text::write(machine, &format).unwrap());
-        let [first, second] = [0, 1].map(|k| text::read(&texts[k], "m", &format).unwrap());
-        let options = Options::new().with_connect(true);
-        let trimmed = compose(&first, &second, &options).unwrap();
-        let whole = compose(&first, &second, &Options::new()).unwrap();
-        let name = format!("connect-{round}");
-        let printed = composed_with(&["--connect"], &texts[0], &texts[1], &name);
-        assert_eq!(printed, text::write(&trimmed, &format).unwrap());
-        left += u32::from(trimmed.state_count() > 0);
-        fewer += u32::from(trimmed.state_count() < whole.state_count());
-    }
-    assert!(left > 10 && fewer > 10, "{left} {fewer}");
-}
-
 #[test]
 fn names_of_no_filter() {
     for name in ["auto", "nomatch", "Null", ""] {
@@ -804,7 +709,7 @@ fn versions() {
 #[test]
 fn helpful_words() {
     for (option, word) in [
-        ("--connect=true", "--connect takes no value"),
+        ("--connect", "fstconnect"),
         ("--connect=false", "fstcompose --connect=false"),
         ("--compose_filter=match", "--filter"),
         ("--rho2=3", "which OpenFst calls rho, is not offered"),
@@ -816,8 +721,6 @@ fn helpful_words() {
         let (status, error) = complaint(&["compose", option, "-", "a"], "");
         assert!(status == 2 && error.contains(word), "{option}: {error}");
     }
-    let (status, error) = complaint(&["print", "--connect", "-"], "");
-    assert!(status == 2 && error.contains("fstconnect"), "{error}");
     for option in ["--sigma1=3", "--sigma2=3", "--sigma_label=3"] {
         let (status, error) = complaint(&["fan-out", option, "-"], "");
         let word = "it is named by --sigma (";
@@ -868,7 +771,7 @@ fn the_help_fits_and_names_every_option() {
         assert!(help.contains(&format!("--{name}")), "--{name}");
         count += 1;
     }
-    assert_eq!(count, 30);
+    assert_eq!(count, 29);
     for word in [
         "16777215",
         "refused 13",

@@ -1,10 +1,10 @@
-//! Every call does with a small stack: all thirteen are made on a thread with 160 KiB of it, 48 of them taken where nothing is checked, on machines that take the checks through all their
+//! Every call does with a small stack: all eleven are made on a thread with 160 KiB of it, 48 of them taken where nothing is checked, on machines that take the checks through all their
 //! paths, and answer as on the main thread.
 
 mod common;
 
 use common::{grid, Draw, Fixed, Seen, World};
-use rinkolza::sys::{self, Owned, Piece, Session};
+use rinkolza::sys::{self, Owned, Piece};
 use rinkolza::{words, Inputs, Room, Tr};
 use std::hint::black_box;
 use std::thread;
@@ -34,7 +34,6 @@ struct Checked {
     ran: Result<(), u32>,
     weights: Vec<Result<Option<u32>, u32>>,
     fan_outs: Vec<Result<u32, u32>>,
-    trimmed: (Result<u32, u32>, Vec<u32>),
     left: Fixed,
 }
 
@@ -46,7 +45,6 @@ struct Trusted {
     weights: Vec<Result<Option<u32>, u32>>,
     all: Option<Vec<Option<u32>>>,
     records: Vec<Vec<u32>>,
-    trimmed: (Result<u32, u32>, Vec<u32>),
     left: Owned,
 }
 
@@ -59,17 +57,7 @@ fn fan_outs(inputs: &Inputs) -> Vec<Result<u32, u32>> {
     queries.map(look_up).to_vec()
 }
 
-/// Trims into slices that suffice for so many states and transitions.
-fn trim(
-    session: &Session,
-    call: impl FnOnce(&mut [u32], &mut [u64]) -> Result<u32, u32>,
-) -> (Result<u32, u32>, Vec<u32>) {
-    let (states, trs) = (session.used_states() as usize, session.used_trs() as usize);
-    let (mut out, mut work) = (vec![0; 6 + 3 * states + 5 * trs], vec![0; 2 * states]);
-    (call(&mut out, &mut work), out)
-}
-
-/// Opens, expands, runs, weighs, hands back, looks up and trims; each of the calls on expansions checks the records too.
+/// Opens, expands, runs, weighs, hands back and looks up; each of the calls on expansions checks the records too.
 fn checked(inputs: Inputs) -> Result<Checked, u32> {
     let mut left = Fixed::open(inputs, MOST)?;
     let expanded = (0..4).map(|n| left.expand(n)).collect();
@@ -81,9 +69,6 @@ fn checked(inputs: Inputs) -> Result<Checked, u32> {
             .map(|n| left.final_weight(n))
             .collect(),
         fan_outs: fan_outs(&left.inputs),
-        trimmed: trim(&left.session, |out, work| {
-            sys::trim(&left.inputs.lent(), &left.session, &left.memory, out, work)
-        }),
         left,
     })
 }
@@ -109,7 +94,6 @@ fn trusted(inputs: Inputs) -> Option<Trusted> {
         weights: (0..found).map(|n| left.final_weight(n)).collect(),
         all: left.final_weights().ok(),
         records: (0..found).map(|n| left.records(n).to_vec()).collect(),
-        trimmed: trim(left.session(), |out, work| left.trim(out, work)),
         left,
     })
 }

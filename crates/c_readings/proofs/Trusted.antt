@@ -25,8 +25,7 @@ use Rattle.calls.specs.Owned.{final_weights_of}
 use Rattle.calls.proofs.ExpandKept.{entered_is}
 use Rattle.list_facts.specs.Memo.{Remembers}
 use Rattle.list_facts.proofs.Entries.{nothing_remembered}
-use Rattle.final_weights.specs.Weights.{weights_words}
-use Rattle.machine_words.specs.MachineWords.{final_words}
+use Rattle.final_weights.specs.Weights.{weight_words, weights_words}
 use Rattle.readings.specs.Worlds.{world_of, expand_in, Accepted, OpeningsRefused}
 use Rattle.readings.specs.Owned.{InScope, piece_in, next_in, up_to, PieceIs, WeightsAre, Later, at_once, by_calls, by_piece}
 use Rattle.readings.proofs.InScope.{scope_side, scope_kept}
@@ -135,11 +134,11 @@ trusted_same s l w r n k a b =
 
 -- the two words of a weight stand at its place
 words_at_lem : (ws : List (Option ℕ)) (n : ℕ) (x : Option ℕ) → At ws n x
-    → final_words x ≡ get_or (flat_map final_words ws) (2 * n) 0 ∷ get_or (flat_map final_words ws) (2 * n + 1) 0 ∷ []
+    → weight_words x ≡ get_or (flat_map weight_words ws) (2 * n) 0 ∷ get_or (flat_map weight_words ws) (2 * n + 1) 0 ∷ []
 unfolding flat_map
 words_at_lem [] n x h = absurd (none-ne-some _ h)
-words_at_lem (none ∷ ws) zero x h = ap final_words (sym (some-injective _ _ h))
-words_at_lem (some v ∷ ws) zero x h = ap final_words (sym (some-injective _ _ h))
+words_at_lem (none ∷ ws) zero x h = ap weight_words (sym (some-injective _ _ h))
+words_at_lem (some v ∷ ws) zero x h = ap weight_words (sym (some-injective _ _ h))
 words_at_lem (none ∷ ws) (suc n) x h = simp unary_clauses (simp unary_clauses at (words_at_lem ws n x h))
 words_at_lem (some v ∷ ws) (suc n) x h = simp unary_clauses (simp unary_clauses at (words_at_lem ws n x h))
 

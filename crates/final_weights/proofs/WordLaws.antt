@@ -16,16 +16,14 @@ use Rattle.calls.specs.Checks.{Session}
 use Rattle.calls.specs.Calls.{Outcome, final_weight_of}
 use Rattle.calls.specs.Owned.{weights_from}
 use Rattle.final_weights.specs.declared.AllWeights.TheVariants.{All, Refused}
-use Rattle.final_weights.specs.Weights.{verdict, weights_words, words_at, words_from}
-use Rattle.graphs.specs.StoreMachine.{given_weight}
-use Rattle.machine_words.specs.MachineWords.{final_words}
+use Rattle.final_weights.specs.Weights.{verdict, given_weight, weight_words, weights_words, words_at, words_from}
 use Rattle.final_weights.proofs.WeightLaws.{never, interval_on}
 
 -- all words of a slice, written one after the other
 pub sets_all : (w r : List ℕ) → length w ≡ length r → sets w 0 r ≡ r
 sets_all w r e = sets-eq r w 0 (omega (arith, e)) ∙ ap (λ (q : List ℕ). r ++ q) (drop_of_length-le w {i = 0 + length r} (omega (arith, e))) ∙ append-nil r
 
-two_words : (w : Option ℕ) → length (final_words w) ≡ 2
+two_words : (w : Option ℕ) → length (weight_words w) ≡ 2
 two_words (some w) = refl
 two_words none = refl
 
@@ -45,12 +43,12 @@ module _ (l : Lent) (s : Session) (m : Memory) where
 
   -- those of state n are put
   pub words_again : (n k : ℕ) (out out' whole : List ℕ) (o : Outcome (Option ℕ)) → n < k → put out (2 * n) (words_from l s m n (k - n)) ≡ whole
-      → out' ≡ put out (2 * n) (final_words (given_weight o.answer)) → o ≡ final_weight_of l s m n → put out' (2 * (n + 1)) (words_from l s m (n + 1) (k - (n + 1))) ≡ whole
+      → out' ≡ put out (2 * n) (weight_words (given_weight o.answer)) → o ≡ final_weight_of l s m n → put out' (2 * (n + 1)) (words_from l s m (n + 1) (k - (n + 1))) ≡ whole
   unfolding words_from flat_map
   words_again n k out out' whole o h e p q =
       let rest = words_from l s m (n + 1) (k - (n + 1)) in
       let at : 2 * (n + 1) ≡ 2 * n + length (words_at l s m n) = omega (arith, two_words (given_weight (final_weight_of l s m n).answer)) in
-      ap (λ (t : List ℕ). put t (2 * (n + 1)) rest) (p ∙ ap (λ (x : Outcome (Option ℕ)). put out (2 * n) (final_words (given_weight x.answer))) q)
+      ap (λ (t : List ℕ). put t (2 * (n + 1)) rest) (p ∙ ap (λ (x : Outcome (Option ℕ)). put out (2 * n) (weight_words (given_weight x.answer))) q)
       ∙ ap (λ (j : ℕ). put (put out (2 * n) (words_at l s m n)) j rest) at
       ∙ put_put out (2 * n) (words_at l s m n) rest
       ∙ ap (λ (i : List ℕ). put out (2 * n) (flat_map (words_at l s m) i)) (sym (interval_on n k h))
@@ -62,14 +60,14 @@ module _ (l : Lent) (s : Session) (m : Memory) where
   words_done n k out whole h e = let z : k - n ≡ 0 = omega arith in rw z at e
 
 all_words : (f : ℕ → Checked (Option ℕ)) (xs old : List ℕ) → verdict (collect (map f xs)) ≡ All
-    → flat_map (λ n. final_words (given_weight (f n))) xs ≡ weights_words old (collect (map f xs))
+    → flat_map (λ n. weight_words (given_weight (f n))) xs ≡ weights_words old (collect (map f xs))
 unfolding collect flat_map
 all_words f [] old e = refl
 all_words f (x ∷ xs) old e = go (f x) (collect (map f xs)) refl e (λ d. all_words f xs old d)
   where
     go : (y : Checked (Option ℕ)) (z : Checked (List (Option ℕ))) → collect (map f xs) ≡ z → verdict (collect (y ∷ map f xs)) ≡ All
-        → (verdict (collect (map f xs)) ≡ All → flat_map (λ n. final_words (given_weight (f n))) xs ≡ weights_words old (collect (map f xs)))
-        → final_words (given_weight y) ++ flat_map (λ n. final_words (given_weight (f n))) xs ≡ weights_words old (collect (y ∷ map f xs))
+        → (verdict (collect (map f xs)) ≡ All → flat_map (λ n. weight_words (given_weight (f n))) xs ≡ weights_words old (collect (map f xs)))
+        → weight_words (given_weight y) ++ flat_map (λ n. weight_words (given_weight (f n))) xs ≡ weights_words old (collect (y ∷ map f xs))
     go (refused n) z q d rec = absurd (never n d)
     go (good w) (refused n) q d rec = absurd (never n (rw q at d))
     go (good w) (good ws) q d rec = rw (rec (ap verdict q), q)

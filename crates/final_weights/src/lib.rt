@@ -8,9 +8,7 @@ ghost use Rattle.calls.specs.Checks.{Passes};
 ghost use Rattle.calls.specs.Owned.{weights_from, final_weights_of};
 ghost use Rattle.store_records.specs.Meaning.{memory_of};
 ghost use Rattle.lazy_fst.specs.Meaning.{lent_with, session_means, weight_left};
-ghost use Rattle.final_weights.specs.Weights.{verdict, weights_words, words_from};
-ghost use Rattle.graphs.specs.StoreMachine.{given_weight};
-ghost use Rattle.machine_words.specs.MachineWords.{final_words};
+ghost use Rattle.final_weights.specs.Weights.{verdict, given_weight, weight_words, weights_words, words_from};
 
 use fst::StateId;
 use lazy_fst::{AllowedLists, Session, WeightAnswer};
@@ -90,9 +88,9 @@ fn put_two(out: &mut [u32], at: usize, a: u32, b: u32)
 }
 
 // The words of a weight at a place. One that was refused would stand as that of a state that is not final; none such is put.
-pub fn put_weight(out: &mut [u32], at: usize, weight: WeightAnswer)
+fn put_weight(out: &mut [u32], at: usize, weight: WeightAnswer)
     requires { at + 2 ≤ length out.old }
-    ensures { (m : Memory) → out.new ≡ put out.old at (final_words (given_weight (weight_left weight m).answer)) }
+    ensures { (m : Memory) → out.new ≡ put out.old at (weight_words (given_weight (weight_left weight m).answer)) }
 {
     match weight {
         WeightAnswer::Weight(w, _) => put_two(out, at, 1, w),

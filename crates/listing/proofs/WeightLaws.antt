@@ -11,8 +11,7 @@ use Rattle.calls.specs.Calls.{final_weight_of}
 use Rattle.calls.specs.Listing.{Line, side_line, end_line, state_lines, joined, listed, printed, refused_line}
 use Rattle.calls.specs.Owned.{weights_from}
 use Rattle.final_weights.specs.declared.AllWeights.TheVariants.{All, Refused}
-use Rattle.final_weights.specs.Weights.{verdict}
-use Rattle.graphs.specs.StoreMachine.{given_weight}
+use Rattle.final_weights.specs.Weights.{verdict, given_weight}
 use Rattle.final_weights.proofs.WeightLaws.{then_verdict, verdict_cons, never}
 use Rattle.listing.specs.Stages.{lines_at, lines_from}
 

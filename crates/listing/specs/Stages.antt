@@ -8,7 +8,7 @@ use Rattle.calls.specs.Store.{Memory, state_size, tr_size, state_room, tr_room}
 use Rattle.calls.specs.Checks.{Session}
 use Rattle.calls.specs.Calls.{open_of, run_of, final_weight_of}
 use Rattle.calls.specs.Listing.{Line, state_lines, listed}
-use Rattle.graphs.specs.StoreMachine.{given_weight}
+use Rattle.final_weights.specs.Weights.{given_weight}
 
 -- the lines of state n
 abbrev pub lines_at : Lent → Session → Memory → ℕ → List Line

@@ -8,7 +8,7 @@ ghost use Rattle.store_records.specs.Meaning.{memory_of};
 ghost use Rattle.lazy_fst.specs.Meaning.{lent_with, session_means, weight_left};
 ghost use Rattle.listing_text.specs.Printing.{line_bytes, bytes_of};
 ghost use Rattle.listing_write.specs.Written.{Written};
-ghost use Rattle.graphs.specs.StoreMachine.{given_weight};
+ghost use Rattle.final_weights.specs.Weights.{given_weight};
 ghost use Rattle.listing.specs.Stages.{lines_at, lines_from, Room};
 
 use compose_state_tuple::ComposeStateTuple;

@@ -6,4 +6,3 @@ pub mod HandedLaws
 pub mod RefusedStays
 pub mod WordCases
 pub mod FanOutCases
-pub mod TrimLaws

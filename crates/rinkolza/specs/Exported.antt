@@ -8,7 +8,7 @@ use Rattle.calls.specs.Sequences.{Said, refusal, accepted, part, weight, said_of
 use Rattle.calls.specs.Listing.{settings_size, settings_of}
 use Rattle.lazy_fst.specs.Meaning.{lent_with}
 use Rattle.lazy_fst.specs.declared.AllowedLists.{AllowedLists}
-use Rattle.machine_words.specs.MachineWords.{final_words}
+use Rattle.final_weights.specs.Weights.{weight_words}
 
 -- "kind, filter, sigma 1, mode 1, sigma 2, mode 2"; `settings_of` reads them
 abbrev pub settings_words : Settings → List ℕ
@@ -65,7 +65,7 @@ abbrev pub answer_of : List ℕ → Said → List ℕ
 answer_of old (refusal n) = old
 answer_of old accepted = old
 answer_of old (part p) = part_words p
-answer_of old (weight w) = final_words w
+answer_of old (weight w) = weight_words w
 
 -- what a call leaves, in words
 abbrev pub in_words : {A : Type 0} → (A → Said) → List ℕ → Outcome A → Left

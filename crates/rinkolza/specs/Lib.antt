@@ -2,4 +2,3 @@ pub mod Exported
 pub mod Trusted
 pub mod Caller
 pub mod FanOutWords
-pub mod TrimWords

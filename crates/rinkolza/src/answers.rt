@@ -1,18 +1,15 @@
 // What a call answered, written into the lent words; the number is returned.
-ghost use Rattle.std.specs.Prelude.{◌≡◌, List, [], ℕ, length};
+ghost use Rattle.std.specs.Prelude.{◌≡◌, [], length};
 ghost use Rattle.calls.specs.Store.{Memory};
 ghost use Rattle.calls.specs.Sequences.{accepted, part, weight};
 ghost use Rattle.lazy_fst.specs.Meaning.{left, part_left, weight_left};
-ghost use Rattle.trim_call.specs.Meaning.{trim_left};
 ghost use Rattle.rinkolza.specs.Trusted.{piece_left};
-ghost use Rattle.rinkolza.specs.TrimWords.{trim_leaves, trim_in_words};
 ghost use Rattle.rinkolza.specs.Exported.{leaves, in_words, session_words, part_words, handed_part};
 
 use crate::slices::{USED_STATES, write_answer, write_session};
 use fst::{StateId, word};
 use lazy_fst::{Answer, PartAnswer, WeightAnswer};
 use store_records::{first_of, tr_room};
-use trim_call::TrimAnswer;
 
 // Of open and run: the session alone. A refused run hands back the one of the expansions kept.
 pub fn leave(session: &mut [u32], answer: Answer) -> u32
@@ -93,19 +90,5 @@ pub fn leave_handed(words: &mut [u32], states: &[u32], n: StateId, handed: &[u32
         write_answer(words, 0, 0);
     } else {
         write_answer(words, first_of(states, n), count);
-    }
-}
-
-// Of trimming: how many words were written.
-pub fn leave_trim(words: &mut [u32], answer: TrimAnswer) -> u32
-    requires { length words.old ≡ 1 }
-    ensures { (out work : List ℕ) → trim_leaves result words.new out work ≡ trim_in_words words.old (trim_left answer out work) }
-{
-    match answer {
-        TrimAnswer::Trimmed(n, _) => {
-            words[0] = n;
-            0
-        }
-        TrimAnswer::Refused(k, _) => k,
     }
 }

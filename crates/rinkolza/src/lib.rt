@@ -1,11 +1,10 @@
-// The five calls for C and Rust, in `fan_out` the look-up of 02, 2.6, and in `trimming` the call of 02, 2.2: `include/rinkolza.h` says what each word and number means. None of these has a precondition; those of `trusted`, for a caller
+// The five calls for C and Rust, and in `fan_out` the look-up of 02, 2.6: `include/rinkolza.h` says what each word and number means. None of these has a precondition; those of `trusted`, for a caller
 // that owns its memory, ask that the checks 1 to 8 pass.
 #![tactic(auto)]
 
 mod answers;
 mod fan_out;
 mod slices;
-mod trimming;
 mod trusted;
 
 ghost use Rattle.std.specs.Prelude.{◌≡◌, []};

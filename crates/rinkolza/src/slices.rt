@@ -2,7 +2,6 @@
 ghost use Rattle.std.specs.Prelude.{◌≡◌, [], ◌∷◌, ◌&&◌, length};
 ghost use Rattle.lazy_fst.specs.Meaning.{session_means};
 ghost use Rattle.rinkolza.specs.Exported.{session_words, session_at, listed_by, nine, two};
-ghost use Rattle.rinkolza.specs.TrimWords.{one};
 
 use fst::word;
 use lazy_fst::{AllowedLists, Session};
@@ -24,16 +23,6 @@ pub fn sized(session: &[u32], answer: &[u32]) -> bool
         return false;
     }
     answer.len() == ANSWER_WORDS
-}
-
-// The same for trimming, whose answer is one word.
-pub fn trim_sized(session: &[u32], answer: &[u32]) -> bool
-    ensures { result ≡ (nine session.now && one answer.now) }
-{
-    if session.len() != SESSION_WORDS {
-        return false;
-    }
-    answer.len() == 1
 }
 
 // The session of nine words.

@@ -6,17 +6,13 @@ ghost use Rattle.words.specs.Matches.{inputs, outputs};
 ghost use Rattle.calls.specs.Checks.{Passes};
 ghost use Rattle.store_records.specs.Meaning.{memory_of};
 ghost use Rattle.rinkolza.specs.Exported.{session_at, nine, lent_words, leaves, expand_words, final_weight_words, records_words};
-ghost use Rattle.rinkolza.specs.TrimWords.{trim_leaves, trim_words};
 ghost use Rattle.rinkolza.specs.Trusted.{piece_words, final_weights_words, Memos, expand_memo, piece_memo};
 
-use crate::answers::{leave_handed, leave_part, leave_piece, leave_trim, leave_weight};
-use crate::slices::{
-    ANSWER_WORDS, SESSION_WORDS, listed_by, read_session, sized, trim_sized, write_answer,
-};
+use crate::answers::{leave_handed, leave_part, leave_piece, leave_weight};
+use crate::slices::{ANSWER_WORDS, SESSION_WORDS, listed_by, read_session, sized, write_answer};
 use final_weights::{AllWeights, found, write_weights};
 use fst::{REFUSED_SETTINGS, StateId};
 use list_facts::MEMO_WORDS;
-use trim_call::trusted_trim;
 
 // Expands state n.
 #[unsafe(no_mangle)]
@@ -260,39 +256,4 @@ pub extern "C" fn rinkolza_trusted_records(
         StateId(n),
     );
     leave_handed(answer, states, StateId(n), handed);
-}
-
-// The useful part of a finished store as a machine in words.
-#[unsafe(no_mangle)]
-pub extern "C" fn rinkolza_trusted_trim(
-    session: &[u32],
-    m1: &[u32],
-    m2: &[u32],
-    allowed1: &[u32],
-    has1: u32,
-    allowed2: &[u32],
-    has2: u32,
-    ignored: &[u32],
-    heads: &[u32],
-    states: &[u32],
-    trs: &[u32],
-    out: &mut [u32],
-    work: &mut [u64],
-    answer: &mut [u32],
-) -> u32
-    requires { let l = lent_words m1.now m2.now allowed1.now has1 allowed2.now has2 ignored.now in
-        nine session.now ≡ true → Passes l (session_at session.now) (memory_of heads.now states.now trs.now) }
-    ensures { let l = lent_words m1.now m2.now allowed1.now has1 allowed2.now has2 ignored.now in
-        let m = memory_of heads.now states.now trs.now in
-        trim_leaves result answer.new out.new work.new ≡ trim_words l session.now answer.old m out.old work.old }
-{
-    if !trim_sized(session, answer) {
-        return REFUSED_SETTINGS;
-    }
-    let given = read_session(session);
-    let listed = listed_by(has1, has2);
-    let done = trusted_trim(
-        given, m1, m2, allowed1, allowed2, ignored, listed, heads, states, trs, out, work,
-    );
-    leave_trim(answer, done)
 }

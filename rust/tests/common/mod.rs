@@ -88,11 +88,6 @@ impl Draw {
         (0..self.below(most + 1)).map(|_| self.word()).collect()
     }
 
-    /// Words of 64 bits.
-    pub fn long_words(&mut self, most: u32) -> Vec<u64> {
-        (0..self.below(most + 1)).map(|_| self.next()).collect()
-    }
-
     /// A machine in words, its lists sorted by the input label (0), the output label (1), or as they fall.
     pub fn machine(&mut self, sort: Option<usize>, states: u32, trs: u32) -> Vec<u32> {
         let states = 1 + self.below(states);
@@ -181,20 +176,6 @@ impl Draw {
             self.make_heavy(&mut inputs.second);
         }
     }
-}
-
-/// Whether a trimming left its work as it must: 0 for each found state, where it came so far, and the rest as it was.
-pub fn lies_fallow(
-    session: &Session,
-    trimmed: Result<u32, u32>,
-    before: &[u64],
-    after: &[u64],
-) -> bool {
-    let used = 2 * session.used_states() as usize;
-    let came = !matches!(trimmed, Err(1..=8 | 18)) && used <= before.len();
-    let cleared = if came { used } else { 0 };
-    let zeros = after[..cleared].iter().all(|&word| word == 0);
-    zeros && before.len() == after.len() && before[cleared..] == after[cleared..]
 }
 
 /// Two machines in words, without allowed lists.

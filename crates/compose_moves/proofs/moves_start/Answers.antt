@@ -40,7 +40,7 @@ returns-in-Refused c =
     let lent : (a1 a2 : List ℕ) → Lent = λ a1 a2. lent_of o a.m1.now a.m2.now a1 a2 a.ignored.now in
     let found = rw (c.in-Refused.is, c.sigmas_of-sigmas.ensures) at c.direction_at-direction.ensures in
     let ten : (a1 a2 : List ℕ) → direction_for o (lent a1 a2) a.tuple ≡ refused c.in-Refused.n = λ a1 a2. read-direction o (lent a1 a2) a.tuple ∙ sym found in
-    record { by_index = λ a1 a2. no_steps o (lent a1 a2) (tuple_means a.tuple) _ (ten a1 a2); place = λ a1 a2. ten a1 a2; }
+    record { by_index = λ a1 a2. no_steps o (lent a1 a2) (tuple_means a.tuple) _ (ten a1 a2); place = λ a1 a2. ten a1 a2 }
 
 pub returns-in-Match : goal.returns-in-Match
 unfolding steps_left none_at all_at
@@ -56,9 +56,12 @@ returns-in-Match c =
     let rest_place = rw c.sigmas_of-sigmas.ensures at c.rest_matches-matches.ensures.place in
     let way : (a1 a2 : List ℕ) → direction_for o (lent a1 a2) a.tuple ≡ good (on_of on) = λ a1 a2. read-direction o (lent a1 a2) a.tuple ∙ sym found in
     let items : (a1 a2 : List ℕ) → items_left ((walk_in o (lent a1 a2) (here (C o (lent a1 a2) t) t) (on_of on)).held c.rest_matches-matches.result) c.rest_matches-matches.result ≡ sorted_items (on_of on) (looked_words (on_of on) (words1 o (lent a1 a2)) (words2 o (lent a1 a2))) (looked_state (on_of on) t) no_label = λ a1 a2.
-    ap (λ (w : List ℕ). items_left w c.rest_matches-matches.result) (rest_held o (lent a1 a2) (here (C o (lent a1 a2) t) t) (on_of on) _ _ c.rest_matches-matches.result rest_place) ∙ rest_items in record { by_index = λ a1 a2. rw facts (all_steps o (lent a1 a2) t _ c.rest_matches-matches.result (way a1 a2) (items a1 a2)); place = λ a1 a2. record {
+    ap (λ (w : List ℕ). items_left w c.rest_matches-matches.result) (rest_held o (lent a1 a2) (here (C o (lent a1 a2) t) t) (on_of on) _ _ c.rest_matches-matches.result rest_place) ∙ rest_items in record {
+      by_index = λ a1 a2. rw facts (all_steps o (lent a1 a2) t _ c.rest_matches-matches.result (way a1 a2) (items a1 a2));
+      place = λ a1 a2. record {
         state = refl;
         facts = facts;
         direction = way a1 a2;
         place = start_placed o (lent a1 a2) (record { tuple = a.tuple; facts = c.facts_at-facts.result; on = on; walked = 0; matches = c.rest_matches-matches.result }) refl rest_place;
-      }; }
+      };
+    }

@@ -8,7 +8,7 @@ returns-in-MatchInput c =
     let along = rw c.walk_of.ensures at c.ordered_expand.ensures.result_value in
     let place = rw c.walk_of.ensures at c.ordered_expand.ensures.place in
     let answered = answer_input a.options a.m1.now a.m2.now a.a1.now a.a2.now a.ignored.now a.cursor c.ordered_expand.result c.in-MatchInput.is (along, place) in
-    record { result_value = rw c.resume.ensures answered.0; place = rw c.resume.ensures answered.1; }
+    record { result_value = rw c.resume.ensures answered.0; place = rw c.resume.ensures answered.1 }
 
 pub returns-in-MatchOutput : goal.returns-in-MatchOutput
 returns-in-MatchOutput c =
@@ -16,4 +16,4 @@ returns-in-MatchOutput c =
     let along = rw c.walk_of-in-MatchOutput.ensures at c.ordered_expand-in-MatchOutput.ensures.result_value in
     let place = rw c.walk_of-in-MatchOutput.ensures at c.ordered_expand-in-MatchOutput.ensures.place in
     let answered = answer_output a.options a.m1.now a.m2.now a.a1.now a.a2.now a.ignored.now a.cursor c.ordered_expand-in-MatchOutput.result c.in-MatchOutput.is (along, place) in
-    record { result_value = rw c.resume-in-MatchOutput.ensures answered.0; place = rw c.resume-in-MatchOutput.ensures answered.1; }
+    record { result_value = rw c.resume-in-MatchOutput.ensures answered.0; place = rw c.resume-in-MatchOutput.ensures answered.1 }

@@ -23,7 +23,7 @@ const fn known(name: &'static str, value: bool, commands: &'static [&'static str
     }
 }
 
-const OPTIONS: [Known; 30] = [
+const OPTIONS: [Known; 29] = [
     known("kind", true, EACH),
     known("symbols", true, EACH),
     known("isymbols", true, EACH),
@@ -38,7 +38,6 @@ const OPTIONS: [Known; 30] = [
     known("acceptor2", false, COMPOSE),
     known("msymbols", true, COMPOSE),
     known("to", true, COMPOSE),
-    known("connect", false, COMPOSE),
     known("filter", true, COMPOSE),
     known("sigma1", true, COMPOSE),
     known("sigma2", true, COMPOSE),
@@ -60,10 +59,9 @@ const OPTIONS: [Known; 30] = [
 fn hint(command: &str, name: &str) -> String {
     let ours = name.replace('_', "-");
     match ours.as_str() {
-        "connect" if command == "compose" => {
-            ": without it states from which no final state can be reached stay, as with fstcompose --connect=false".to_string()
+        "connect" => {
+            ": states from which no final state can be reached stay, as with fstcompose --connect=false; fstconnect takes them out".to_string()
         }
-        "connect" => ": compose has it; of another machine fstconnect takes out what leads nowhere".to_string(),
         "compose-filter" => ": the filter is named by --filter".to_string(),
         "rho1" | "rho2" | "rho-label" => {
             ": a label for the rest, which OpenFst calls rho, is not offered; sigma (--sigma1, --sigma2) is any letter".to_string()
@@ -174,10 +172,7 @@ impl Args {
                 .ok_or_else(|| Stop::usage(format!("--{name} needs a value")))?,
             (true, Some(value)) => value,
             (false, None) => String::new(),
-            (false, Some(_)) => {
-                let hint = hint(&self.command, name);
-                return Err(Stop::usage(format!("--{name} takes no value{hint}")));
-            }
+            (false, Some(_)) => return Err(Stop::usage(format!("--{name} takes no value"))),
         };
         if self.value(name).is_some() {
             return Err(Stop::usage(format!("--{name} is given twice")));

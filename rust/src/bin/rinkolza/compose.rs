@@ -5,7 +5,7 @@ use crate::files::{self, say, write_out, Tables};
 use crate::{plain_format, shown, unwritable};
 use rinkolza::{
     dot, text, to_sort, Composition, Error, Filter, Format, Machine, Options, Refusal, Rewrite,
-    Room, Side, Sigma, Sort, SymbolTable, Triple, LARGEST_COUNT,
+    Room, Side, Sigma, Sort, SymbolTable, LARGEST_COUNT,
 };
 
 /// States expanded between two lines of progress.
@@ -43,15 +43,12 @@ pub fn compose(args: &Args) -> Result<(), Stop> {
         false => composition.run(),
         true => with_progress(&mut composition),
     };
-    let made = ran.and_then(|()| result(&composition, &options));
+    let made = ran.and_then(|()| composition.machine());
     let machine = made.map_err(|error| refused_at(error, &composition))?;
     let shown = shown(args, &format);
     let text = match to {
         To::Text => text::write(&machine, &shown).map_err(unwritable)?,
-        To::Dot => {
-            let names = names(args, &composition, &machine, &options)?;
-            dot::draw_named(&machine, &shown, |n| names[n as usize].clone()).map_err(unwritable)?
-        }
+        To::Dot => picture(args, &composition, &machine, &shown)?,
         To::Counts => counts(&composition, &machine),
     };
     write_out(args, &text)
@@ -112,8 +109,7 @@ fn options(args: &Args, tables: &Tables) -> Result<Options, Stop> {
         .with_sigma1(sigma(args, "1", tables.inner())?)
         .with_sigma2(sigma(args, "2", tables.inner())?)
         .with_ignored(ignored(args, tables.inner())?)
-        .with_sort(args.choice("sort", &sorts)?)
-        .with_connect(args.has("connect")))
+        .with_sort(args.choice("sort", &sorts)?))
 }
 
 fn sigma(args: &Args, machine: &str, symbols: Option<&SymbolTable>) -> Result<Sigma, Stop> {
@@ -220,51 +216,17 @@ fn with_progress(composition: &mut Composition) -> Result<(), Error> {
     })
 }
 
-/// The composition, or what of it lies on paths to final states.
-fn result(composition: &Composition, options: &Options) -> Result<Machine, Error> {
-    match options.connect {
-        true => composition.trimmed(),
-        false => composition.machine(),
-    }
-}
-
-/// The names of the machine's states in a picture.
-fn names(
+fn picture(
     args: &Args,
     composition: &Composition,
     machine: &Machine,
-    options: &Options,
-) -> Result<Vec<String>, Stop> {
-    if !args.has("triples") {
-        return Ok(machine.states().map(|state| state.to_string()).collect());
-    }
-    let composed = match options.connect {
-        true => kept(&composition.machine().map_err(refused)?),
-        false => composition.states().collect(),
+    format: &Format<'_>,
+) -> Result<String, Stop> {
+    let name = |state: u32| match composition.triple(state).filter(|_| args.has("triples")) {
+        Some(triple) => format!("{},{},{}", triple.first, triple.second, triple.filter),
+        None => state.to_string(),
     };
-    let triples = composed.iter().filter_map(|&n| composition.triple(n));
-    let name = |triple: Triple| format!("{},{},{}", triple.first, triple.second, triple.filter);
-    Ok(triples.map(name).collect())
-}
-
-/// The states that trimming keeps. All are reached, so they are those that lead to a final one.
-fn kept(machine: &Machine) -> Vec<u32> {
-    let mut before = vec![Vec::new(); machine.state_count()];
-    for state in machine.states() {
-        for tr in machine.trs(state) {
-            before[tr.target as usize].push(state);
-        }
-    }
-    let is_final = |state: &u32| machine.final_weight(*state).is_some();
-    let mut found: Vec<u32> = machine.states().filter(is_final).collect();
-    let mut leads = vec![false; before.len()];
-    while let Some(state) = found.pop() {
-        if !std::mem::replace(&mut leads[state as usize], true) {
-            found.extend(&before[state as usize]);
-        }
-    }
-    let leads = |state: &u32| leads[*state as usize];
-    machine.states().filter(leads).collect()
+    dot::draw_named(machine, format, name).map_err(unwritable)
 }
 
 fn counts(composition: &Composition, machine: &Machine) -> String {

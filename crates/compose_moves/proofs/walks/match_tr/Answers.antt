@@ -26,11 +26,11 @@ returns-in-At c =
     let held = ap (λ (x : Cursor). held_words x ignored a.mm.now) begun in
     let stands = stands_for a.walk.sigma.label.0 (allowed_of a.walk.sigma.listed a.am.now) c.inner_label-label.result.0 in
     let asks = ap (sigma_look_up W.operand W.labels) label in
-    let same = read_list (walked_side (on_of a.walk.on)) (ignored_under a.walk.labels ignored) a.mw.now (walked_state (on_of a.walk.on) (tuple_means a.walk.tuple)) in record { result_value = c.match_tr_selected.ensures.by_index a.am.now ∙ ap asked (tr_found W a.t _ (ap (λ (w : List ℕ). good (items_left w c.in-At.matches)) held ∙ found)); place = λ i. c.match_tr_selected.ensures.place a.am.now (found_placed W a.t _ _ _ c.looked_state.result _ _ _ stands (subst (In a.t) (sym same) i) asks c.looked_state.ensures begun); }
+    let same = read_list (walked_side (on_of a.walk.on)) (ignored_under a.walk.labels ignored) a.mw.now (walked_state (on_of a.walk.on) (tuple_means a.walk.tuple)) in record { result_value = c.match_tr_selected.ensures.by_index a.am.now ∙ ap asked (tr_found W a.t _ (ap (λ (w : List ℕ). good (items_left w c.in-At.matches)) held ∙ found)); place = λ i. c.match_tr_selected.ensures.place a.am.now (found_placed W a.t _ _ _ c.looked_state.result _ _ _ stands (subst (In a.t) (sym same) i) asks c.looked_state.ensures begun) }
 
 pub returns-in-Refused : goal.returns-in-Refused
 returns-in-Refused c =
     let a = c.args in
     let label = rw c.walked_side.ensures at c.inner_label-label.ensures in
     let found = rw (c.in-Refused.is, c.looked_state.ensures, label) at c.sigma_iter-found.ensures.result_value in
-    record { result_value = tr_refused (walk_means a.walk a.mw.now a.mm.now a.am.now a.ignored.now) a.t _ _ found; place = λ p. tt; }
+    record { result_value = tr_refused (walk_means a.walk a.mw.now a.mm.now a.am.now a.ignored.now) a.t _ _ found; place = λ p. tt }

@@ -2,7 +2,7 @@ use mathlib.Core.Path.{ap}
 use native.Mathlib.Nat.{zero-add}
 use native.Mathlib.Omega.{arith}
 use lib.ListN.{length}
-use Rattle.words.specs.Machines.{tr_count, next_of, list_from, list_of}
+use Rattle.words.specs.Machines.{tr_count, list_of}
 use Rattle.words.proofs.ListLaws.{link, first_inside, list_end_lem, list_turn, list_length}
 use Rattle.fst.proofs.fst_traits.num_trs.Goals as goal
 
