@@ -6,8 +6,6 @@ use Rattle.lazy_fst.specs.declared.PartAnswer.{PartAnswer}
 use Rattle.lazy_fst.specs.declared.PartAnswer.TheVariants.{Part, Refused as NotExpanded}
 use Rattle.lazy_fst.specs.declared.WeightAnswer.{WeightAnswer}
 use Rattle.lazy_fst.specs.declared.WeightAnswer.TheVariants.{Weight, NotFinal, Refused as NoWeight}
-use Rattle.trim_call.specs.declared.TrimAnswer.{TrimAnswer}
-use Rattle.trim_call.specs.declared.TrimAnswer.TheVariants.{Trimmed, Refused as NotTrimmed}
 
 abbrev pub handed_by : Answer → Session
 handed_by (Accepted s) = s
@@ -21,7 +19,3 @@ abbrev pub handed_by_weight : WeightAnswer → Session
 handed_by_weight (Weight w s) = s
 handed_by_weight (NotFinal s) = s
 handed_by_weight (NoWeight n s) = s
-
-abbrev pub handed_by_trim : TrimAnswer → Session
-handed_by_trim (Trimmed n s) = s
-handed_by_trim (NotTrimmed k s) = s

@@ -1,19 +1,17 @@
 // Lists of calls. A line's code, and its words:
 // 1 the lengths of heads, states and transitions, and the word that fills them: a list begins; 2, 3 the words of machine 1, 2; 4, 5 whether machine 1, 2 has an allowed list, and the list;
 // 6 a session, its nine words; 7 a slice from 0 to 2, an index, a word: written to memory; 8 open, the six settings; 9 expand; 10 final weight; 11 run; 12 records; 13 memory is printed;
-// 14 the fan-out of a look-up, the six settings, a machine, a state and a label; 15 the ignored labels, none where a list has no such line; 16 a slice from 0 to 2, and words: written to
-// memory from its start on; 17 trim, the lengths of the output slice and of the work slice, and the word from which they are filled.
+// 14 the fan-out of a look-up, the six settings, a machine, a state and a label; 15 the ignored labels, none where a list has no such line.
 ghost use Rattle.std.specs.Prelude.{◌≡◌};
 ghost use Rattle.call_lists.specs.Lines.{next_line, list_end};
 
-use crate::lines::{Span, after, arg, args, first, first64, words_of};
+use crate::lines::{Span, after, arg, args, first, words_of};
 use crate::show;
 use fan_out_call::fan_out;
 use fst::{Label, StateId};
 use lazy_fst::{AllowedLists, Session};
 use session_checks::Settings;
 use store_records::{Used, store};
-use trim_call::trim;
 
 // What is lent at every call.
 #[derive(Clone, Copy)]
@@ -224,82 +222,7 @@ fn look_up(words: &[u32], at: u32, l: Lending) {
     ));
 }
 
-// The words of a slice: a number from w on, by its last 32 bits.
-fn count_up(slice: &mut [u32], w: u32) {
-    for i in 0..slice.len() {
-        slice[i] = ((w as u64 + i as u64 % 4294967296) % 4294967296) as u32;
-    }
-}
-
-// The same in the lower halves, and w in the upper ones.
-fn count_up64(slice: &mut [u64], w: u32) {
-    for i in 0..slice.len() {
-        slice[i] = w as u64 * 4294967296 + i as u64 % 4294967296;
-    }
-}
-
-fn trim_into(
-    words: &[u32],
-    l: Lending,
-    session: Session,
-    heads: &[u32],
-    states: &[u32],
-    trs: &[u32],
-    out: &mut [u32],
-    work: &mut [u64],
-) -> Session {
-    io::write_all(1, b"m");
-    let m1 = words_of(words, l.m1);
-    let m2 = words_of(words, l.m2);
-    let a1 = words_of(words, l.allowed1);
-    let a2 = words_of(words, l.allowed2);
-    let ignored = words_of(words, l.ignored);
-    let latest = show::trimmed(trim(
-        session,
-        m1,
-        m2,
-        a1,
-        a2,
-        ignored,
-        listed(l),
-        heads,
-        states,
-        trs,
-        out,
-        work,
-    ));
-    show::slices(out, work);
-    latest
-}
-
-// Code 17.
-fn trimming(
-    words: &[u32],
-    at: u32,
-    l: Lending,
-    session: Session,
-    heads: &[u32],
-    states: &[u32],
-    trs: &[u32],
-) -> Session {
-    let w = arg(words, at, 3);
-    let mut out = [0u32; 512];
-    count_up(&mut out, w);
-    let mut work = [0u64; 64];
-    count_up64(&mut work, w);
-    trim_into(
-        words,
-        l,
-        session,
-        heads,
-        states,
-        trs,
-        first(&mut out, arg(words, at, 1)),
-        first64(&mut work, arg(words, at, 2)),
-    )
-}
-
-// Codes 8 to 12, 14 and 17: a call, and what it answers. The session that it hands back; records and fan-outs hand none back, and the given one stays the latest.
+// Codes 8 to 12 and 14: a call, and what it answers. The session that it hands back; records and fan-outs hand none back, and the given one stays the latest.
 fn call(
     words: &[u32],
     at: u32,
@@ -320,7 +243,6 @@ fn call(
             look_up(words, at, l);
             session
         }
-        17 => trimming(words, at, l, session, heads, states, trs),
         _ => records(words, l, session, heads, states, trs, n),
     }
 }
@@ -337,25 +259,7 @@ fn damage(words: &[u32], at: u32, heads: &mut [u32], states: &mut [u32], trs: &m
     }
 }
 
-// The words written from the start of a slice on.
-fn copy(slice: &mut [u32], from: &[u32]) {
-    for i in 0..from.len() {
-        store(slice, i, from[i]);
-    }
-}
-
-// Code 16.
-fn write_down(words: &[u32], at: u32, heads: &mut [u32], states: &mut [u32], trs: &mut [u32]) {
-    let which = arg(words, at, 1);
-    let from = words_of(words, args(words, at, 2));
-    match which {
-        0 => copy(heads, from),
-        1 => copy(states, from),
-        _ => copy(trs, from),
-    }
-}
-
-// Codes 6 to 14, 16 and 17; the others lend. Answers the latest session.
+// Codes 6 to 14; the others lend. Answers the latest session.
 fn step(
     words: &[u32],
     at: u32,
@@ -366,7 +270,7 @@ fn step(
     trs: &mut [u32],
 ) -> Session {
     let code = arg(words, at, 0);
-    if code < 6 || code == 15 || code > 17 {
+    if code < 6 || code > 14 {
         return session;
     }
     if code == 6 {
@@ -374,10 +278,6 @@ fn step(
     }
     if code == 7 {
         damage(words, at, heads, states, trs);
-        return session;
-    }
-    if code == 16 {
-        write_down(words, at, heads, states, trs);
         return session;
     }
     if code == 13 {

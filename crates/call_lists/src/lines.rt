@@ -80,13 +80,6 @@ pub fn first<'a>(slice: &'a mut [u32], count: u32) -> &'a mut [u32]
     &mut slice[0..n]
 }
 
-pub fn first64<'a>(slice: &'a mut [u64], count: u32) -> &'a mut [u64]
-    ensures { result.now ≡ take count slice.old }
-{
-    let n = least(count as usize, slice.len());
-    &mut slice[0..n]
-}
-
 // Word k of the line at a place: 0 its code.
 pub fn arg(words: &[u32], at: u32, k: u32) -> u32
     ensures { result ≡ arg_of words.now at k }

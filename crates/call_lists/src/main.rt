@@ -9,9 +9,9 @@ use drive::one_list;
 use lines::read_words;
 
 fn main() {
-    let mut text = [0u8; 196608];
+    let mut text = [0u8; 131072];
     let n = io::read_full(0, &mut text);
-    let mut words = [0u32; 65536];
+    let mut words = [0u32; 49152];
     read_words(&text[..n], &mut words);
     let mut at: u32 = 0;
     let mut left: u32 = 1024;

@@ -1,38 +1,19 @@
-// What a call answered, in words; for a trimming the words of its slices; the session that it handed back; and a number mixed from every word of memory.
+// What a call answered, in words; the session that it handed back; and a number mixed from every word of memory.
 ghost use Rattle.std.specs.Prelude.{◌≡◌};
-ghost use Rattle.call_lists.specs.Sessions.{handed_by, handed_by_part, handed_by_weight, handed_by_trim};
+ghost use Rattle.call_lists.specs.Sessions.{handed_by, handed_by_part, handed_by_weight};
 
 use fan_out_call::FanOut;
 use lazy_fst::{Answer, PartAnswer, Session, WeightAnswer};
-use trim_call::TrimAnswer;
 
 fn put(n: u32) {
-    put64(n as u64);
-}
-
-fn put64(n: u64) {
     io::write_all(1, b" ");
-    io::print_decimal(1, n);
+    io::print_decimal(1, n as u64);
 }
 
 pub fn words(slice: &[u32]) {
     for i in 0..slice.len() {
         put(slice[i]);
     }
-}
-
-fn words64(slice: &[u64]) {
-    for i in 0..slice.len() {
-        put64(slice[i]);
-    }
-}
-
-// What a trimming left in its output slice and in its work slice.
-pub fn slices(out: &[u32], work: &[u64]) {
-    io::write_all(1, b" /");
-    words(out);
-    io::write_all(1, b" /");
-    words64(work);
 }
 
 pub fn end() {
@@ -152,23 +133,6 @@ pub fn weight(a: WeightAnswer) -> Session
         }
         WeightAnswer::Refused(n, s) => {
             put(n);
-            s
-        }
-    }
-}
-
-// The number, then how many words were written. Answers the session too.
-pub fn trimmed(a: TrimAnswer) -> Session
-    ensures { result ≡ handed_by_trim a }
-{
-    match a {
-        TrimAnswer::Trimmed(n, s) => {
-            put(0);
-            put(n);
-            s
-        }
-        TrimAnswer::Refused(k, s) => {
-            put(k);
             s
         }
     }

@@ -8,6 +8,7 @@ use native.Mathlib.Omega.{arith}
 use lib.Dec.{eqb, ltb}
 use Rattle.listing_text.specs.Reading.{line_feed, line_at, step}
 use Rattle.listing_text.specs.Chunks.{Input, unread, into_line, next_line, read_byte, read_bytes}
+use Rattle.listing_text.proofs.FirstLines.{SameLines}
 use Rattle.listing_input.specs.Read.{IsReadOf}
 
 -- a byte within a line ends none
@@ -70,7 +71,7 @@ same_line (b ∷ bs) rest i n h = one_before i b bs rest (same_line bs rest) (lt
 
 -- as many lines as were asked for are the input's, if no read failed
 pub lines_read : (lines : ℕ) (input bytes : List ℕ) → IsReadOf lines input bytes
-    → ((n : ℕ) → n < lines → line_at n bytes ≡ line_at n input) ⊎ ((front : List ℕ) × (rest : List ℕ) × (input ≡ front ++ rest) × (bytes ≡ front ++ (33 ∷ [])))
+    → SameLines lines bytes input ⊎ ((front : List ℕ) × (rest : List ℕ) × (input ≡ front ++ rest) × (bytes ≡ front ++ (33 ∷ [])))
 lines_read lines input bytes (inl e) = inl (λ n h. ap (line_at n) e)
 lines_read lines input bytes (inr (inl e)) = inl (λ n h. sym (same_line bytes e.0 unread n (omega (arith, e.2))) ∙ ap (line_at n) (sym e.1))
 lines_read lines input bytes (inr (inr e)) = inr e

@@ -4,3 +4,4 @@ pub mod SameListing
 pub mod TextCases
 pub mod SameFanOut
 pub mod FanOutTextCases
+pub mod FirstLines
