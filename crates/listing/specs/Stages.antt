@@ -40,8 +40,8 @@ opened_memory s l got m = let o = open_of s l got m in where_accepted o.answer (
 
 -- memory of 1024 records of each sort, and a buffer for as many lines and two more
 pub record Sized (states trs out : List ℕ) : Type 0 where
-  pub state_words_lem : length states ≡ state_size * 1024
-  pub tr_words_lem : length trs ≡ tr_size * 1024
+  pub state_words : length states ≡ state_size * 1024
+  pub tr_words : length trs ≡ tr_size * 1024
   pub bytes : 131200 ≤ length out
 
 -- an accepted run leaves no more lines than there is room for records
