@@ -33,4 +33,4 @@ pub shape_of-out : goal.shape_of-out
 shape_of-out c = (c.loop-r.invariant [] [] 0).same
 
 pub returns : goal.returns
-returns c = record { by_index = λ heads states u. (ends _ _ _ _ _ _ _ _ _ _ (c.loop-r.invariant heads states u) c.loop-r-test.false).0; words = λ heads states u. (ends _ _ _ _ _ _ _ _ _ _ (c.loop-r.invariant heads states u) c.loop-r-test.false).1; }
+returns c = record { by_index = λ heads states u. (ends _ _ _ _ _ _ _ _ _ _ (c.loop-r.invariant heads states u) c.loop-r-test.false).0; words = λ heads states u. (ends _ _ _ _ _ _ _ _ _ _ (c.loop-r.invariant heads states u) c.loop-r-test.false).1 }

@@ -30,4 +30,4 @@ pub shape_of-out : goal.shape_of-out
 shape_of-out c = row_length _ _ _ _ _ _ _ _ (c.write_list-after.ensures.words [] [] 0) (c.put_weight.ensures (memory_of [] [] []))
 
 pub returns : goal.returns
-returns c = record { by_index = λ heads states u. ap (λ x. record { rows = c.args.done.rows + 1; trs = x }) (c.write_list-after.ensures.by_index heads states u); words = λ heads states u m. row_put _ _ _ _ _ _ _ _ (new_list (stored heads states c.args.trs.now u c.args.used) c.args.work.now c.args.first) (given_weight (weight_left c.args.weight m).answer) (c.write_list-after.ensures.by_index heads states u ∙ ap (λ x. c.args.done.trs + x) (sym (length-map (kept_from (stored heads states c.args.trs.now u c.args.used) c.args.work.now c.args.first) (new_tr (stored heads states c.args.trs.now u c.args.used) c.args.work.now)))) (c.write_list-after.ensures.words heads states u) c.first_in.ensures (c.put_weight.ensures m); }
+returns c = record { by_index = λ heads states u. ap (λ x. record { rows = c.args.done.rows + 1; trs = x }) (c.write_list-after.ensures.by_index heads states u); words = λ heads states u m. row_put _ _ _ _ _ _ _ _ (new_list (stored heads states c.args.trs.now u c.args.used) c.args.work.now c.args.first) (given_weight (weight_left c.args.weight m).answer) (c.write_list-after.ensures.by_index heads states u ∙ ap (λ x. c.args.done.trs + x) (sym (length-map (kept_from (stored heads states c.args.trs.now u c.args.used) c.args.work.now c.args.first) (new_tr (stored heads states c.args.trs.now u c.args.used) c.args.work.now)))) (c.write_list-after.ensures.words heads states u) c.first_in.ensures (c.put_weight.ensures m) }

@@ -13,7 +13,7 @@ pub loop-n-init : goal.loop-n-init
 loop-n-init c = (search rules, refl, c.requires.room, λ k e. refl)
 
 pub write_row-done-requires : goal.write_row-done-requires
-write_row-done-requires c = record { fact = c.requires.fact; room = (rw c.found-count.ensures at c.loop-n-test.true, λ k e. subst (λ z. Fits c.args.rows z (done_means c.loop-n.done) (rows_from k (store_in c.args.heads.now c.args.states.now c.args.trs.now c.args.session.used) c.args.work.now c.loop-n.n)) (sym c.loop-n.invariant.1) (c.loop-n.invariant.2 k e)); }
+write_row-done-requires c = record { fact = c.requires.fact; room = (rw c.found-count.ensures at c.loop-n-test.true, λ k e. subst (λ z. Fits c.args.rows z (done_means c.loop-n.done) (rows_from k (store_in c.args.heads.now c.args.states.now c.args.trs.now c.args.session.used) c.args.work.now c.loop-n.n)) (sym c.loop-n.invariant.1) (c.loop-n.invariant.2 k e)) }
 
 pub loop-n-preserved : goal.loop-n-preserved
 loop-n-preserved c = (search rules, search rules, λ k e. fits_on _ _ _ _ _ _ (c.loop-n.invariant.2 k e) (c.write_row-done.ensures.n_value k), λ k e. c.write_row-done.ensures.words k e ∙ c.loop-n.invariant.3 k e)

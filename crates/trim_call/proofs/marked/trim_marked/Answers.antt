@@ -23,13 +23,16 @@ count_kept-arcs-requires c =
     (W.states, W.trs)
 
 pub returns-then-arcs : goal.returns-then-arcs
-returns-then-arcs c = record { w_after = λ k w e.
+returns-then-arcs c = record {
+  w_after = λ k w e.
       let W = within (lent_with c.args.m1.now c.args.m2.now c.args.allowed1.now c.args.allowed2.now c.args.ignored.now c.args.listed) (session_means c.args.session) (memory_of c.args.heads.now c.args.states.now c.args.trs.now) k e in
       let N = c.number_useful-rows.ensures c.args.heads.now k _ _ W.form (c.requires.marked.1 k e) in
       let Z : length c.number_useful-rows.new.work ≡ 2 * c.args.session.used.states = search rules in
       let T = trs_are k (store_in c.args.heads.now c.args.states.now c.args.trs.now c.args.session.used) _ _ W.form W.states c.number_useful-rows.new.work Z N.1 in
       let A = c.count_kept-arcs.ensures c.args.heads.now k in
-      refuses _ _ w (lacks_count _ _ (omega (arith, T, A, c.if-arcs.true))); session = refl; }
+      refuses _ _ w (lacks_count _ _ (omega (arith, T, A, c.if-arcs.true)));
+  session = refl;
+}
 
 pub words_of-need-requires : goal.words_of-need-requires
 words_of-need-requires c =
@@ -39,24 +42,30 @@ words_of-need-requires c =
     let U = W.states in let R = N.0 in (omega (arith, S, U, R), omega (arith, c.if-arcs.false))
 
 pub returns-then-out-need : goal.returns-then-out-need
-returns-then-out-need c = record { w_after = λ k w e.
+returns-then-out-need c = record {
+  w_after = λ k w e.
       let W = within (lent_with c.args.m1.now c.args.m2.now c.args.allowed1.now c.args.allowed2.now c.args.ignored.now c.args.listed) (session_means c.args.session) (memory_of c.args.heads.now c.args.states.now c.args.trs.now) k e in
       let N = c.number_useful-rows.ensures c.args.heads.now k _ _ W.form (c.requires.marked.1 k e) in
       let Z : length c.number_useful-rows.new.work ≡ 2 * c.args.session.used.states = search rules in
       let T = trs_are k (store_in c.args.heads.now c.args.states.now c.args.trs.now c.args.session.used) _ _ W.form W.states c.number_useful-rows.new.work Z N.1 in
       let A = c.count_kept-arcs.ensures c.args.heads.now k in
       let R = N.0 in let X = c.words_of-need.ensures in
-      refuses _ _ w (lacks_words _ _ (omega (arith, T, A, R, X, c.if-out-need.true))); session = refl; }
+      refuses _ _ w (lacks_words _ _ (omega (arith, T, A, R, X, c.if-out-need.true)));
+  session = refl;
+}
 
 pub write_machine-requires : goal.write_machine-requires
-write_machine-requires c = record { fact = c.requires.fact; room = λ k e.
+write_machine-requires c = record {
+  fact = c.requires.fact;
+  room = λ k e.
       let W = within (lent_with c.args.m1.now c.args.m2.now c.args.allowed1.now c.args.allowed2.now c.args.ignored.now c.args.listed) (session_means c.args.session) (memory_of c.args.heads.now c.args.states.now c.args.trs.now) k e in
       let N = c.number_useful-rows.ensures c.args.heads.now k _ _ W.form (c.requires.marked.1 k e) in
       let Z : length c.number_useful-rows.new.work ≡ 2 * c.args.session.used.states = search rules in
       let T = trs_are k (store_in c.args.heads.now c.args.states.now c.args.trs.now c.args.session.used) _ _ W.form W.states c.number_useful-rows.new.work Z N.1 in
       let A = c.count_kept-arcs.ensures c.args.heads.now k in
       let R = N.0 in let X = c.words_of-need.ensures in
-      (fits_all k (store_in c.args.heads.now c.args.states.now c.args.trs.now c.args.session.used) _ _ W.form W.states c.number_useful-rows.new.work Z N.1 c.args.out.now c.number_useful-rows.result R (omega (arith, A, c.if-arcs.false)) (omega (arith, A, R, X, c.if-out-need.false)), A); }
+      (fits_all k (store_in c.args.heads.now c.args.states.now c.args.trs.now c.args.session.used) _ _ W.form W.states c.number_useful-rows.new.work Z N.1 c.args.out.now c.number_useful-rows.result R (omega (arith, A, c.if-arcs.false)) (omega (arith, A, R, X, c.if-out-need.false)), A);
+}
 
 pub overflow_cast-result : goal.overflow_cast-result
 overflow_cast-result c =
@@ -66,7 +75,8 @@ overflow_cast-result c =
     let U = W.states in let R = N.0 in let X = c.words_of-need.ensures in omega (arith, S, U, R, X, c.if-arcs.false)
 
 pub returns : goal.returns
-returns c = record { w_after = λ k w e.
+returns c = record {
+  w_after = λ k w e.
       let W = within (lent_with c.args.m1.now c.args.m2.now c.args.allowed1.now c.args.allowed2.now c.args.ignored.now c.args.listed) (session_means c.args.session) (memory_of c.args.heads.now c.args.states.now c.args.trs.now) k e in
       let N = c.number_useful-rows.ensures c.args.heads.now k _ _ W.form (c.requires.marked.1 k e) in
       let Z : length c.number_useful-rows.new.work ≡ 2 * c.args.session.used.states = c.work-1.given ∙ c.requires.marked.0 in
@@ -74,4 +84,6 @@ returns c = record { w_after = λ k w e.
       let A = c.count_kept-arcs.ensures c.args.heads.now k in
       let R = N.0 in let X = c.words_of-need.ensures in
       let Q = machine_is k (store_in c.args.heads.now c.args.states.now c.args.trs.now c.args.session.used) _ _ W.form W.states c.number_useful-rows.new.work Z N.1 in
-      writes _ _ _ w _ (has_room _ _ (omega (arith, T, A, c.if-arcs.false)) (omega (arith, T, A, R, X, c.if-out-need.false))) (omega (arith, T, A, R, X)) (c.write_machine.ensures k e ∙ ap (put _ 0) Q); session = refl; }
+      writes _ _ _ w _ (has_room _ _ (omega (arith, T, A, c.if-arcs.false)) (omega (arith, T, A, R, X, c.if-out-need.false))) (omega (arith, T, A, R, X)) (c.write_machine.ensures k e ∙ ap (put _ 0) Q);
+  session = refl;
+}

@@ -22,4 +22,4 @@ shape_of-work c = ap length c.loop-n.invariant.2 ∙ numbered_length _ _
 pub returns : goal.returns
 returns c =
     let all = numbered_all c.args.work.now _ _ _ _ c.loop-n.invariant.0 c.loop-n-test.false c.loop-n.invariant.1 c.loop-n.invariant.2 in
-    record { value = all.0; words = all.1; }
+    record { value = all.0; words = all.1 }
