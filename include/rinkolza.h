@@ -1,9 +1,9 @@
 /*
  * rinkolza.h: composition of two weighted transducers, state by state.
  *
- * The library is an archive made by `rt staticlib rinkolza` from the crate
- * crates/rinkolza, for x86-64 Linux. Every function below is proved to meet
- * its contract (crates/rinkolza/src), an equation with the definitions in
+ * The library is an archive made by `tests/archive.sh` from the crate
+ * crates/rinkolza_c, for x86-64 Linux. Every function below is proved to meet
+ * its contract (crates/rinkolza_c/src), an equation with the definitions in
  * crates/rinkolza/specs, crates/calls/specs and crates/fan_outs/specs. Six of
  * them check all that they are given; the five rinkolza_trusted_... do not, and
  * may be called by those alone who own their memory, see below.

@@ -1,4 +1,4 @@
-//! Finds the proved library's archive: in `RINKOLZA_LIB_DIR`, else where `rt staticlib` leaves it.
+//! Finds the proved library's archive: in `RINKOLZA_LIB_DIR`, else where `tests/archive.sh` leaves it.
 
 use std::env;
 use std::path::PathBuf;
@@ -14,7 +14,7 @@ fn main() {
     println!("cargo:rerun-if-changed={}", archive.display());
     if !archive.is_file() {
         eprintln!("The proved library is not there: {}", archive.display());
-        eprintln!("Run `rt staticlib rinkolza` at the root of the repository (it writes target/staticlib/librinkolza.a),");
+        eprintln!("Run `sh tests/archive.sh` at the root of the repository (it writes target/staticlib/librinkolza.a),");
         eprintln!("or set RINKOLZA_LIB_DIR to the folder that holds librinkolza.a.");
         exit(1);
     }

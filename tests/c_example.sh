@@ -2,12 +2,12 @@
 # Compiles tests/c_example.c and tests/c_grow.c against the proved library with warnings as errors, runs them, and compares what each prints with document
 # 01's listing of case 1, which `composed` is held to as well; the second must have been refused 13 and grown on the way. tests/c_large.c compares by itself and prints what a million states take.
 # `plain`, `sanitized` (the address and undefined-behaviour sanitizers), or both where none is named.
-# RINKOLZA_LIB_DIR is the folder of the archive; without it the archive is built, which needs `rt`. Needs `gcc` on x86-64 Linux.
+# RINKOLZA_LIB_DIR is the folder of the archive; without it tests/archive.sh builds the archive, which needs `rt`. Needs `gcc` on x86-64 Linux.
 set -eu
 cd "$(dirname "$0")/.."
 room=$(mktemp -d)
 trap 'rm -rf "$room"' EXIT
-[ -n "${RINKOLZA_LIB_DIR:-}" ] || rt staticlib rinkolza
+[ -n "${RINKOLZA_LIB_DIR:-}" ] || sh tests/archive.sh
 [ $# -gt 0 ] || set -- plain sanitized
 for build; do
     case $build in

@@ -4,7 +4,7 @@
     python3 tests/compare.py RUST [--cases N] [--seed S] [--replay PATH] [--composed PATH]
 
 RUST is the folder `rustfst/src` of rustfst at commit 8e1391df1e (oracle/build makes a program around it; needs rustc), or that program. The two programs
-are taken from target/bin, where `rt check replay composed` leaves them; it is run where they are not there. Cases are drawn by oracle/gen.py, a quarter of them
+are taken from their crates' out/, where `rt ci` and `rt run` leave them; the latter is run where they are not there. Cases are drawn by oracle/gen.py, a quarter of them
 with ignored labels; whole listings and orders of expansions go to `replay`, and the whole listings without allowed lists to `composed` as well. Prints how often each feature of
 tests/features.py came up, how many answers were the Rust's and how many ours, and the first difference in full; the exit status is 1 where there is one.
 Defaults: 20000 cases, a seed from the clock.
@@ -26,9 +26,11 @@ BATCH = 500
 
 
 def program(path, name):
-    path = path or os.path.join(rust.ROOT, "target/bin", name)
+    folder = os.path.join(rust.ROOT, "crates", name)
+    path = path or os.path.join(folder, "out", name)
     if not os.path.exists(path):
-        subprocess.run(["rt", "check", name], cwd=rust.ROOT, check=True)
+        with open(os.path.join(folder, "stdin"), "rb") as given:
+            subprocess.run(["rt", "run"], cwd=folder, stdin=given, stdout=subprocess.DEVNULL, check=True)
     return path
 
 

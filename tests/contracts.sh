@@ -1,23 +1,23 @@
 #!/bin/sh
 # Contracts, by their text alone (that they hold is the checker's work): each public function with a reply says what it is (`ensures`); DECISIONS 33 names, as `NAME` in `FILE`, each
 # public function with a `requires`, and none without; and no function that users call has one: those of the crates and files below, and what is exported for C, but for the
-# functions for a caller that owns its memory, which stand in one file.
+# functions for a caller that owns its memory, which stand in files of their own, in the library and where C gets it.
 set -eu
 cd "$(dirname "$0")/.."
 free='crates/(fst|semirings|compose_filters|fst_properties|compose_state_tuple|compose_fst_op|tr_lists|matchers|counted_iter|match_input|compose_moves|compose_weigh|session_checks|listing_read|listing_input|fan_out_call)/'
-free="$free|crates/(lazy_fst|rinkolza|listing)/src/lib.rt|crates/rinkolza/src/fan_out.rt"
-owned='crates/rinkolza/src/trusted.rt'
+free="$free|crates/(lazy_fst|rinkolza|rinkolza_c|listing)/src/lib.rt|crates/(rinkolza|rinkolza_c)/src/fan_out.rt"
+owned='crates/(rinkolza|rinkolza_c)/src/trusted.rt'
 named=$(awk '/^[0-9]+\. / { on = /^33\. / } on' docs/DECISIONS.md | grep -o '`[^` ]*` in `crates/[^` ]*`' | sed 's/`//g; s/ in / /' | sort -u)
 [ -n "$named" ] || { echo "contracts: DECISIONS 33 names no function"; exit 1; }
 # shellcheck disable=SC2046
-awk -v named="$named" -v free="^($free)" -v owned="$owned" '
+awk -v named="$named" -v free="^($free)" -v owned="^$owned\$" '
 function wrong(what) { print "contracts: " FILENAME ": " name " " what; bad = 1 }
 function judge() {
     all++
     if (open && sig ~ /->/ && !says) wrong("has a reply and no ensures")
     if (asks && (open || exported)) {
         if (!((name " " FILENAME) in listed)) wrong("has a requires and is not named in DECISIONS 33")
-        if ((exported && FILENAME != owned) || FILENAME ~ free) wrong("is for users and has a requires")
+        if ((exported && FILENAME !~ owned) || FILENAME ~ free) wrong("is for users and has a requires")
     }
     if (asks) asking[name " " FILENAME] = 1
     name = ""

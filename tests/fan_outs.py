@@ -3,7 +3,7 @@
 
     python3 tests/fan_outs.py [--cases N] [--seed S] [--fan-out PATH]
 
-The program is taken from target/bin, as in tests/compare.py. Settings and machines are drawn by oracle/gen.py, without allowed lists, which it has not.
+The program is taken from its crate's out/, as in tests/compare.py. Settings and machines are drawn by oracle/gen.py, without allowed lists, which it has not.
 Prints how often each sort of answer came, which sorts came never, and the first difference in full; the exit status is 1 where there is one. Defaults: 10000
 cases, a seed from the clock.
 """

@@ -3,7 +3,7 @@
 
     tests/mutate.py COPY --crate NAME [--definitions | --wrong] [--kinds K,K] [--only PATTERN] [--limit N] [--sample K --seed S] [--together N] [--log FILE]
 
-COPY is a private copy of the repository, in which NAME is proved; each change is made there, judged by `rt dev NAME` and taken back. The gate does not run this:
+COPY is a private copy of the repository, in which NAME is proved; each change is made there, judged by `rt check` and taken back. The gate does not run this:
 it takes hours. Verdicts: refused (the prover says not-proved), no program (the compiler, or for definitions the type checker of specs/, refuses the text before any proof is
 looked at; not scored), timeout, survived. Survivors that tests/mutants.txt explains are counted apart; the others are printed. A refusal says that the proof that stands does
 not fit the changed text: nearly always because the contract is false of it, but a change that keeps the meaning may be refused too. With --wrong the changes are those of
@@ -102,8 +102,8 @@ def distinct(mutants):
 
 
 def check(root, crate, seconds=SECONDS):
-    """What `rt dev` prints; None after too long a time."""
-    child = subprocess.Popen(["nice", "-n", "4", "rt", "dev", crate], cwd=root, stdout=subprocess.PIPE, stderr=subprocess.STDOUT, text=True, start_new_session=True)
+    """What `rt check` prints; None after too long a time."""
+    child = subprocess.Popen(["nice", "-n", "4", "rt", "check"], cwd=root / "crates" / crate, stdout=subprocess.PIPE, stderr=subprocess.STDOUT, text=True, start_new_session=True)
     try:
         return child.communicate(timeout=seconds)[0]
     except subprocess.TimeoutExpired:
@@ -157,7 +157,7 @@ def judge(root, crate, m, definitions):
 def refused_itself(said, m):
     """Whether the function's own proof file is refused first hand: a function's proof looks at its own body and at the contracts of those that it calls."""
     places = [re.sub(r".* \((.*)\)$", r"\1", by).split("/") for by in refusers(said)]
-    return any(parts[-2:] == [m.name, "Proof"] and (m.file.stem in parts or m.file.stem in ("lib", "main")) for parts in places)
+    return any(parts[-2:-1] == [m.name] and parts[-1] in ("Proof", "Answers", "Invariants") and (m.file.stem in parts or m.file.stem in ("lib", "main")) for parts in places)
 
 
 def judge_together(root, crate, mutants):

@@ -88,7 +88,7 @@ fn put_two(out: &mut [u32], at: usize, a: u32, b: u32)
 }
 
 // The words of a weight at a place. One that was refused would stand as that of a state that is not final; none such is put.
-fn put_weight(out: &mut [u32], at: usize, weight: WeightAnswer)
+pub fn put_weight(out: &mut [u32], at: usize, weight: WeightAnswer)
     requires { at + 2 ≤ length out.old }
     ensures { (m : Memory) → out.new ≡ put out.old at (weight_words (given_weight (weight_left weight m).answer)) }
 {

@@ -3,9 +3,9 @@
 #![tactic(auto)]
 
 mod answers;
-mod fan_out;
+pub mod fan_out;
 mod slices;
-mod trusted;
+pub mod trusted;
 
 ghost use Rattle.std.specs.Prelude.{◌≡◌, []};
 ghost use Rattle.store_records.specs.Meaning.{memory_of};

@@ -16,7 +16,7 @@ pub returns-then-not-plain_labels : goal.returns-then-not-plain_labels
 returns-then-not-plain_labels c =
     let p = c.requires in
     let e = fails c.plain_labels.ensures c.if-not-plain_labels.true in
-    record { result_after = c.expand_weighed.ensures; asked = (asked_sigma _ _ _ _ _ _ e, asked_sigma _ _ _ _ _ _ e); remembered = (p.2, p.3); }
+    record { result_after = c.expand_weighed.ensures; asked = (asked_sigma _ _ _ _ _ _ e, asked_sigma _ _ _ _ _ _ e); remembered = (p.2, p.3) }
 
 pub remembered-facts1-requires : goal.remembered-facts1-requires
 remembered-facts1-requires c =
@@ -55,4 +55,4 @@ returns c =
     let t = c.get_tuple-tuple.ensures in
     let f = c.remembered-facts1 in
     let g = c.remembered-facts2 in
-    let e = holds c.plain_labels.ensures c.if-not-plain_labels.false in record { result_after = c.expand_known.ensures; asked = (asked_plain _ _ _ _ _ _ _ _ _ e t f.ensures.true_of f.ensures.memo_after, asked_plain _ _ _ _ _ _ _ _ _ e t g.ensures.true_of g.ensures.memo_after); remembered = (f.ensures.remembers, g.ensures.remembers); }
+    let e = holds c.plain_labels.ensures c.if-not-plain_labels.false in record { result_after = c.expand_known.ensures; asked = (asked_plain _ _ _ _ _ _ _ _ _ e t f.ensures.true_of f.ensures.memo_after, asked_plain _ _ _ _ _ _ _ _ _ e t g.ensures.true_of g.ensures.memo_after); remembered = (f.ensures.remembers, g.ensures.remembers) }

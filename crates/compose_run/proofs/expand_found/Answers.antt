@@ -13,7 +13,7 @@ pub returns-then-is_expanded : goal.returns-then-is_expanded
 returns-then-is_expanded c =
     let x = c.args in
     let p = c.requires in
-    let h = sym c.is_expanded.ensures ∙ c.if-is_expanded.true in record { result_after = expand_listed (lent_of x.options x.m1.now x.m2.now x.a1.now x.a2.now x.ignored.now) (session_under x.options x.used) (memory_of x.heads.now x.states.now x.trs.now) x.n.0 _ (part_means c.part_of.result) p.0 p.1 h (c.part_of.ensures x.heads.now x.used.states); asked = (memo_listed _ _ _ _ _ _ p.1 h, memo_listed _ _ _ _ _ _ p.1 h); remembered = (p.2, p.3); }
+    let h = sym c.is_expanded.ensures ∙ c.if-is_expanded.true in record { result_after = expand_listed (lent_of x.options x.m1.now x.m2.now x.a1.now x.a2.now x.ignored.now) (session_under x.options x.used) (memory_of x.heads.now x.states.now x.trs.now) x.n.0 _ (part_means c.part_of.result) p.0 p.1 h (c.part_of.ensures x.heads.now x.used.states); asked = (memo_listed _ _ _ _ _ _ p.1 h, memo_listed _ _ _ _ _ _ p.1 h); remembered = (p.2, p.3) }
 
 pub new_part-requires : goal.new_part-requires
 new_part-requires c =
@@ -27,10 +27,10 @@ returns-in-Done c =
     let p = c.requires in
     let h = sym c.is_expanded.ensures ∙ c.if-is_expanded.false in
     let w = c.compute_from-stopped.ensures in
-    let q = (one_new _ c.args.options _ _ _ _ _ _ p.0 p.1 h w.ran_after _ c.in-Done.is).1 in record { result_after = rw (c.new_part.ensures x.used.states c.in-Done.after.states) q; asked = (w.asked.0 ∙ memo_one _ _ _ _ _ _, w.asked.1 ∙ memo_one _ _ _ _ _ _); remembered = w.remembered; }
+    let q = (one_new _ c.args.options _ _ _ _ _ _ p.0 p.1 h w.ran_after _ c.in-Done.is).1 in record { result_after = rw (c.new_part.ensures x.used.states c.in-Done.after.states) q; asked = (w.asked.0 ∙ memo_one _ _ _ _ _ _, w.asked.1 ∙ memo_one _ _ _ _ _ _); remembered = w.remembered }
 
 pub returns-in-Refused : goal.returns-in-Refused
 returns-in-Refused c =
     let p = c.requires in
     let h = sym c.is_expanded.ensures ∙ c.if-is_expanded.false in
-    let w = c.compute_from-stopped.ensures in record { result_after = one_refused _ c.args.options _ _ _ _ _ _ p.0 p.1 h w.ran_after _ _ c.in-Refused.is; asked = (w.asked.0 ∙ memo_one _ _ _ _ _ _, w.asked.1 ∙ memo_one _ _ _ _ _ _); remembered = w.remembered; }
+    let w = c.compute_from-stopped.ensures in record { result_after = one_refused _ c.args.options _ _ _ _ _ _ p.0 p.1 h w.ran_after _ _ c.in-Refused.is; asked = (w.asked.0 ∙ memo_one _ _ _ _ _ _, w.asked.1 ∙ memo_one _ _ _ _ _ _); remembered = w.remembered }

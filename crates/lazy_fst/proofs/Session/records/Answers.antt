@@ -18,4 +18,4 @@ returns-in-Refused c =
     let x = c.args in
     let l = lent_with x.m1.now x.m2.now x.allowed1.now x.allowed2.now x.ignored.now x.listed in
     let m = memory_of x.heads.now x.states.now x.trs.now in
-    let e = sym (c.enter-entered.ensures l.allowed1 l.allowed2) ∙ ap (entered_means x.self.settings l) c.in-Refused.is in record { result_value = stopped_records l (session_means x.self) m _ e x.n.0; place = (λ i. (x.trs.ref_ptr.0, begins x.trs.ref_ptr.1 0 _ (stopped_place l (session_means x.self) m _ e x.n.0) i)); }
+    let e = sym (c.enter-entered.ensures l.allowed1 l.allowed2) ∙ ap (entered_means x.self.settings l) c.in-Refused.is in record { result_value = stopped_records l (session_means x.self) m _ e x.n.0; place = (λ i. (x.trs.ref_ptr.0, begins x.trs.ref_ptr.1 0 _ (stopped_place l (session_means x.self) m _ e x.n.0) i)) }

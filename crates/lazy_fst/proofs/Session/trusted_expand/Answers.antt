@@ -27,7 +27,7 @@ returns-then-used-n c =
     let m = memory_of x.heads.now x.states.now x.trs.now in
     let p = c.requires in
     let late = c.if-used-n.true in
-    record { m_after = late_expand l (session_means x.self) m x.n.0 p.0 late; asked = (memo_late _ _ _ _ _ _ late, memo_late _ _ _ _ _ _ late); remembered = (p.1, p.2); }
+    record { m_after = late_expand l (session_means x.self) m x.n.0 p.0 late; asked = (memo_late _ _ _ _ _ _ late, memo_late _ _ _ _ _ _ late); remembered = (p.1, p.2) }
 
 pub returns : goal.returns
 returns c =
@@ -39,4 +39,4 @@ returns c =
     let done = rw e at c.expand_found-expanded.ensures.result_after in
     let asked = rw e at c.expand_found-expanded.ensures.asked in
     let kept = rw e at c.expand_found-expanded.ensures.remembered in
-    record { m_after = c.part_answer.ensures (options_of x.self.settings x.listed c.side_of.result x.m1.now x.m2.now x.ignored.now) _ g.same ∙ (done ∙ ap (λ (s : Session). expand_of l s m x.n.0) (sym g.same)); asked = (asked.0 ∙ ap (λ (s : Session). memo_at outputs l s m x.n.0 x.memo1.now) (sym g.same), asked.1 ∙ ap (λ (s : Session). memo_at inputs l s m x.n.0 x.memo2.now) (sym g.same)); remembered = kept; }
+    record { m_after = c.part_answer.ensures (options_of x.self.settings x.listed c.side_of.result x.m1.now x.m2.now x.ignored.now) _ g.same ∙ (done ∙ ap (λ (s : Session). expand_of l s m x.n.0) (sym g.same)); asked = (asked.0 ∙ ap (λ (s : Session). memo_at outputs l s m x.n.0 x.memo1.now) (sym g.same), asked.1 ∙ ap (λ (s : Session). memo_at inputs l s m x.n.0 x.memo2.now) (sym g.same)); remembered = kept }

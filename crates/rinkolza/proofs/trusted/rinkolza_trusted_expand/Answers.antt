@@ -19,7 +19,7 @@ pub returns-then-not-sized : goal.returns-then-not-sized
 unfolding expand_words expand_memo
 returns-then-not-sized c =
     let e = fails c.sized.ensures c.if-not-sized.true in
-    record { m_after = rw e; asked = (rw e, rw e); remembered = c.requires.1; }
+    record { m_after = rw e; asked = (rw e, rw e); remembered = c.requires.1 }
 
 pub trusted_expand-done-requires : goal.trusted_expand-done-requires
 trusted_expand-done-requires c =
@@ -41,4 +41,4 @@ returns c =
     let done = c.trusted_expand-done.ensures in
     let listed = c.listed_by-listed.ensures in
     let given = c.read_session-given.ensures in
-    let e = holds c.sized.ensures c.if-not-sized.false in record { m_after = rw e (c.leave_part.ensures _ ∙ ap (in_words part x.answer.now) (done.m_after ∙ (λ i. expand_of (lent_with x.m1.now x.m2.now x.allowed1.now x.allowed2.now x.ignored.now (listed i)) (given i) m x.n))); asked = (rw e (done.asked.0 ∙ (λ i. memo_at outputs (lent_with x.m1.now x.m2.now x.allowed1.now x.allowed2.now x.ignored.now (listed i)) (given i) m x.n x.memo1.now)), rw e (done.asked.1 ∙ (λ i. memo_at inputs (lent_with x.m1.now x.m2.now x.allowed1.now x.allowed2.now x.ignored.now (listed i)) (given i) m x.n x.memo2.now))); remembered = memos_kept (lent_words x.m1.now x.m2.now x.allowed1.now x.has1 x.allowed2.now x.has2 x.ignored.now) x.session.now _ _ _ given done.remembered; }
+    let e = holds c.sized.ensures c.if-not-sized.false in record { m_after = rw e (c.leave_part.ensures _ ∙ ap (in_words part x.answer.now) (done.m_after ∙ (λ i. expand_of (lent_with x.m1.now x.m2.now x.allowed1.now x.allowed2.now x.ignored.now (listed i)) (given i) m x.n))); asked = (rw e (done.asked.0 ∙ (λ i. memo_at outputs (lent_with x.m1.now x.m2.now x.allowed1.now x.allowed2.now x.ignored.now (listed i)) (given i) m x.n x.memo1.now)), rw e (done.asked.1 ∙ (λ i. memo_at inputs (lent_with x.m1.now x.m2.now x.allowed1.now x.allowed2.now x.ignored.now (listed i)) (given i) m x.n x.memo2.now))); remembered = memos_kept (lent_words x.m1.now x.m2.now x.allowed1.now x.has1 x.allowed2.now x.has2 x.ignored.now) x.session.now _ _ _ given done.remembered }

@@ -23,7 +23,7 @@ returns-then-answer-count c =
     rw (eq-eqb _ _ c.if-session-ne-SESSION_WORDS.false, ← used, ne_eqb _ _ c.if-answer-count.true)
 
 pub write_weights-weights-requires : goal.write_weights-weights-requires
-write_weights-weights-requires c = record { fact = rw (c.listed_by-listed.ensures, c.read_session-given.ensures) (c.requires (eq-eqb _ _ c.if-session-ne-SESSION_WORDS.false)); sized = c.if-answer-count.false ∙ ap (λ (k : ℕ). 2 * k) c.found-count.ensures; }
+write_weights-weights-requires c = record { fact = rw (c.listed_by-listed.ensures, c.read_session-given.ensures) (c.requires (eq-eqb _ _ c.if-session-ne-SESSION_WORDS.false)); sized = c.if-answer-count.false ∙ ap (λ (k : ℕ). 2 * k) c.found-count.ensures }
 
 pub returns-in-All : goal.returns-in-All
 unfolding final_weights_words

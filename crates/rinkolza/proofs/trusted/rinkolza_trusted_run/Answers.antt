@@ -19,7 +19,7 @@ pub returns-then-not-sized : goal.returns-then-not-sized
 unfolding piece_words piece_memo
 returns-then-not-sized c =
     let e = fails c.sized.ensures c.if-not-sized.true in
-    record { m_after = rw e; asked = (rw e, rw e); remembered = c.requires.1; }
+    record { m_after = rw e; asked = (rw e, rw e); remembered = c.requires.1 }
 
 pub trusted_run-piece-requires : goal.trusted_run-piece-requires
 trusted_run-piece-requires c =
@@ -41,6 +41,10 @@ returns c =
     let done = c.trusted_run-piece.ensures in
     let listed = c.listed_by-listed.ensures in
     let given = c.read_session-given.ensures in
-    let e = holds c.sized.ensures c.if-not-sized.false in record { m_after = rw e
+    let e = holds c.sized.ensures c.if-not-sized.false in record {
+      m_after = rw e
           (c.leave_piece.ensures _
-          ∙ ap₂ piece_left (done.next ∙ (λ i. stop_from (lent_with x.m1.now x.m2.now x.allowed1.now x.allowed2.now x.ignored.now (listed i)) x.k x.n (given i) m)) (done.m_after ∙ (λ i. run_from (lent_with x.m1.now x.m2.now x.allowed1.now x.allowed2.now x.ignored.now (listed i)) x.k x.n (given i) m))); asked = (rw e (done.asked.0 ∙ (λ i. memo_from outputs (lent_with x.m1.now x.m2.now x.allowed1.now x.allowed2.now x.ignored.now (listed i)) x.k x.n (given i) m x.memo1.now)), rw e (done.asked.1 ∙ (λ i. memo_from inputs (lent_with x.m1.now x.m2.now x.allowed1.now x.allowed2.now x.ignored.now (listed i)) x.k x.n (given i) m x.memo2.now))); remembered = memos_kept (lent_words x.m1.now x.m2.now x.allowed1.now x.has1 x.allowed2.now x.has2 x.ignored.now) x.session.now _ _ _ given done.remembered; }
+          ∙ ap₂ piece_left (done.next ∙ (λ i. stop_from (lent_with x.m1.now x.m2.now x.allowed1.now x.allowed2.now x.ignored.now (listed i)) x.k x.n (given i) m)) (done.m_after ∙ (λ i. run_from (lent_with x.m1.now x.m2.now x.allowed1.now x.allowed2.now x.ignored.now (listed i)) x.k x.n (given i) m)));
+      asked = (rw e (done.asked.0 ∙ (λ i. memo_from outputs (lent_with x.m1.now x.m2.now x.allowed1.now x.allowed2.now x.ignored.now (listed i)) x.k x.n (given i) m x.memo1.now)), rw e (done.asked.1 ∙ (λ i. memo_from inputs (lent_with x.m1.now x.m2.now x.allowed1.now x.allowed2.now x.ignored.now (listed i)) x.k x.n (given i) m x.memo2.now)));
+      remembered = memos_kept (lent_words x.m1.now x.m2.now x.allowed1.now x.has1 x.allowed2.now x.has2 x.ignored.now) x.session.now _ _ _ given done.remembered;
+    }
