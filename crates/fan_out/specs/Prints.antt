@@ -8,7 +8,7 @@ use Rattle.listing_write.specs.Written.{Written}
 abbrev pub Prints : List ℕ → List ℕ → ℕ → Type 0
 Prints out out' n = (input : List ℕ) × Written out 0 (fan_out_printed input) out' n
 
--- the same of an input with these bytes: what is printed of them, or, where a read failed, of those that came before and a byte of no word
+-- the same of an input with these bytes: what is printed of them, or, as where a read failed, of those that came before and a byte of no word (that one failed is not said)
 abbrev pub PrintsOf : List ℕ → List ℕ → List ℕ → ℕ → Type 0
 PrintsOf input out out' n =
     Written out 0 (fan_out_printed input) out' n ⊎ ((front : List ℕ) × (rest : List ℕ) × (input ≡ front ++ rest) × Written out 0 (fan_out_printed (front ++ (33 ∷ []))) out' n)

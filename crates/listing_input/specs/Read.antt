@@ -28,7 +28,7 @@ Took old new (negsuc k) chunk = Keeps old new
 abbrev pub ended_lines : List ℕ → ℕ
 ended_lines bytes = (read_bytes unread bytes).at
 
--- what is read of an input for so many lines: all its bytes; or its first bytes, in which so many lines have ended; or, where a read failed, its first bytes and a byte of no word
+-- what is read of an input for so many lines: all its bytes; or its first bytes, in which so many lines have ended; or, as where a read failed, its first bytes and a byte of no word (that one failed is not said)
 abbrev pub IsReadOf : ℕ → List ℕ → List ℕ → Type 0
 IsReadOf lines input bytes =
     (bytes ≡ input) ⊎ (((rest : List ℕ) × (input ≡ bytes ++ rest) × (lines ≤ ended_lines bytes)) ⊎ ((front : List ℕ) × (rest : List ℕ) × (input ≡ front ++ rest) × (bytes ≡ front ++ (33 ∷ []))))

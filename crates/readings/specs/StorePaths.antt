@@ -117,9 +117,9 @@ records_of_pair c pick w p = records_of_moves c w 0 (merge pick (machine1 c) (ma
 
 -- the weight that final weight answers, where it does; else the kind's zero
 abbrev pub answered_weight : ℕ → Checked (Option ℕ) → ℕ
-answered_weight zero' (good (some x)) = x
-answered_weight zero' (good none) = zero'
-answered_weight zero' (refused n) = zero'
+answered_weight z (good (some x)) = x
+answered_weight z (good none) = z
+answered_weight z (refused n) = z
 
 -- the exact weight of a list of records from state n on: the product of the stored weights, and of the final weight at its end
 abbrev pub records_weight : (k : Kind) → Lent → World → ℕ → List ℕ → (semiring k).Element
