@@ -37,11 +37,11 @@ def triple(s):
 def line(text):
     kind, *rest = text.split()
     if kind == "side":
-        return f"sideLine {SIDES.index(rest[0])}"
+        return f"side_line {SIDES.index(rest[0])}"
     if kind == "s":
         final = "none" if rest[4] == "-" else f"(some {rest[4]})"
-        return f"stateLine {rest[0]} {triple(rest[1:4])} {final}"
-    return {"t": "trLine", "end": "endLine", "refused": "refusedLine"}[kind] + " " + " ".join(rest)
+        return f"state_line {rest[0]} {triple(rest[1:4])} {final}"
+    return {"t": "tr_line", "end": "end_line", "refused": "refused_line"}[kind] + " " + " ".join(rest)
 
 
 def printing(oracle, seed, count):
@@ -100,7 +100,7 @@ def calls(draw, room, orders, given, side, said, states):
     settings, lists, ignored, machines = antt(given[0]), [option(ws) for ws in given[1:3]], antt(given[3]), [antt(m) for m in given[4:]]
     lent = f"(record {{ m1 = {machines[0]}; m2 = {machines[1]}; allowed1 = {lists[0]}; allowed2 = {lists[1]}; ignored = {ignored} }})"
     mem = Slices(draw, *room)
-    asked, replies = [f"opening (settingsOf {settings}) {lent}"], []
+    asked, replies = [f"opening (settings_of {settings}) {lent}"], []
 
     def session():
         return f"(session {settings} {SIDES.index(side)} {mem.found} {mem.used})"
@@ -117,9 +117,9 @@ def calls(draw, room, orders, given, side, said, states):
             continue
         if n not in mem.parts:
             mem.expand(n, answer, triples)
-        replies.append("answered (listPart %d %d) %s" % (*mem.parts[n], session()))
+        replies.append("answered (list_part %d %d) %s" % (*mem.parts[n], session()))
     for n, (_, final) in enumerate(states):
-        asked += [f"finalWeight {n}", f"records {n}"]
+        asked += [f"final_weight {n}", f"records {n}"]
         said_of = f"(refusal {final[1]})" if final[0] == "refused" else "(weight none)" if final[0] == "-" else f"(weight (some {final[0]}))"
         replies += [f"answered {said_of} {session()}", f"handed {antt(mem.records(n))}"]
     return case(lent, mem, asked, replies, (mem.heads, mem.states, mem.trs), session())
@@ -136,12 +136,12 @@ def main():
     found = list(printing(oracle, seed, count)) + list(calling(oracle, seed, count))
     print("-- Written by tests/call_cases.py. The answers are the Rust's, but for those that are marked.")
     print("use mathlib.Core.Path.{refl}")
-    print("use mathlib.Core.List.{List, [], _∷_}")
+    print("use mathlib.Core.List.{List, [], ◌∷◌}")
     print("use mathlib.Core.Option.{none, some}")
-    print("use Rattle·calls·specs.specs.Sequences.{opening, expand, finalWeight, records, refusal, accepted, weight, answered, handed}")
-    print("use Rattle·calls·specs.specs.Listing.{sideLine, stateLine, trLine, endLine, refusedLine, settingsOf}")
-    print("use Rattle·calls·proofs.proofs.Cases.{Case, printing, calling, Holds}")
-    print("use Rattle·calls·proofs.proofs.StarCases.{triple, session, world, listPart}")
+    print("use Rattle.calls.specs.Sequences.{opening, expand, final_weight, records, refusal, accepted, weight, answered, handed}")
+    print("use Rattle.calls.specs.Listing.{side_line, state_line, tr_line, end_line, refused_line, settings_of}")
+    print("use Rattle.calls.proofs.Cases.{Case, printing, calling, Holds}")
+    print("use Rattle.calls.proofs.StarCases.{triple, session, world, list_part}")
     for k, (text, ours) in enumerate(found):
         proof = "refl" if text.startswith("printing") else "(refl, refl)"
         print("\n-- the definition's" if ours else "")

@@ -1,35 +1,41 @@
 """One-place changes of the clauses of definitions: tests, numbers, cells, conjuncts, the order of arguments, of clauses and of checks."""
 import re
 
-TOKEN = re.compile(r'--[^\n]*|"[^"]*"|[(){};,]|[^\s(){};,"]+')
+# A name, each field behind it with its dot, and a bound variable with its dot are tokens: of `λ s. s.used` four.
+TOKEN = re.compile(r'--[^\n]*|"[^"]*"|[(){};,]|[^\s(){};,".]+\.(?=\s)|\.?[^\s(){};,".]+|\.')
 EXCHANGED = {"eqb": ["leb", "ltb"], "leb": ["ltb", "eqb"], "ltb": ["leb", "eqb"], "&&": ["||"], "||": ["&&"], "true": ["false"], "false": ["true"],
              "+": ["*", "-"], "*": ["+"], "-": ["+"], "/": ["%"], "%": ["/"], "≡": ["≢"], "≢": ["≡"], "<": ["≤"], "≤": ["<"], "×": ["⊎"]}
 INFIX = {":", "&&", "||", "+", "*", "-", "/", "%", "≡", "≢", "<", "≤", "×", "⊎", "∷", "++", "→", "=", "in", "↔", "then", "|"}
-IMPORTS = {"lib.Dec": ["eqb", "ltb", "leb"], "mathlib.Core.Bool": ["Bool", "true", "false", "not", "_&&_", "_||_", "cond"],
-           "mathlib.Core.Option": ["Option", "none", "some"], "Prim.Native.Nat": ["_+_", "_-_", "_*_"], "specs.Labels": ["good", "refuseIf", "andThen", "collect"]}
-ASKED = {"cond": ["test", "A", "A"], "eqb": ["one", "other"], "getD": ["list", "n", "n"], "List·Memᴰ": ["A", "list"], "map": ["f", "list"], "every": ["f", "list"],
-         "flatMap": ["f", "list"], "keepIf": ["f", "list"], "refuseIf": ["test", "n", "rest"], "andThen": ["one", "other"], "set": ["list", "n", "n"], "put": ["list", "n", "list"]}
+IMPORTS = {"std.specs.Prelude": ["eqb", "ltb", "leb", "Bool", "true", "false", "not", "◌&&◌", "◌||◌", "cond", "◌+◌", "◌-◌", "◌*◌"],
+           "std.proofs.Math.Option": ["Option", "none", "some"], "words.specs.Labels": ["good", "refuse_if", "and_then", "collect"]}
+ASKED = {"cond": ["test", "A", "A"], "eqb": ["one", "other"], "get_or": ["list", "n", "n"], "Memᴰ": ["A", "list"], "map": ["f", "list"], "every": ["f", "list"],
+         "flat_map": ["f", "list"], "keep_if": ["f", "list"], "refuse_if": ["test", "n", "rest"], "and_then": ["one", "other"], "set": ["list", "n", "n"],
+         "put": ["list", "n", "list"]}
 DECLARED = re.compile(r"^( *)(?:(?:abbrev|unfoldable) )(?:pub )?(\S+) :(.*)$")
 
 # Changes that no rule below makes, as the text of a clause before and after: checks that change places though they do not stand in one nest, a bound left out.
 BY_HAND = [
-    ("roomOf", "min limit (length l / size)", "length l / size"),
-    ("sideFor", "(refuseIf (not (wellFormed (l .m2))) 3\n    (sideOf (operand1 s l) (operand2 s l)))",
-     "(andThen (sideOf (operand1 s l) (operand2 s l)) (λ side. refuseIf (not (wellFormed (l .m2))) 3 (good side)))"),
-    ("sideOf", "(refuseIf (isSet (B .sigma) && not (inOrder B)) 6\n    (sideBy (eqb (A .mark) 1) (eqb (B .mark) 1) (inOrder A) (inOrder B)))",
-     "(andThen (sideBy (eqb (A .mark) 1) (eqb (B .mark) 1) (inOrder A) (inOrder B)) (λ side. refuseIf (isSet (B .sigma) && not (inOrder B)) 6 (good side)))"),
-    ("entered", "andThen (sideFor (s .settings) l) (λ side. refuseIf (not (sessionOk l s m side)) 8 (good (compositionOf (s .settings) l side)))",
-     "refuseIf (not (fits (storeOf s m))) 8 (andThen (sideFor (s .settings) l) (λ side. refuseIf (not (sessionOk l s m side)) 8 (good (compositionOf (s .settings) l side))))"),
-    ("enteredAt", "andThen (entered l s m) (λ c. refuseIf (leb (s .used .states) n) 9 (good c))", "refuseIf (leb (s .used .states) n) 9 (entered l s m)"),
-    ("begun", "begun m none = good (cleared m)", "begun m none = refuseIf (eqb (stateRoom m) 0) 13 (good (cleared m))"),
-    ("expandOf", "andThen (enteredAt l s m n) (λ c. expandBy c s m n (eqb (expandedAt (m .states) n) 1))",
-     "andThen (entered l s m) (λ c. andThen (expandBy c s m n (eqb (expandedAt (m .states) n) 1)) (λ d. refuseIf (leb (s .used .states) n) 9 (good d)))"),
-    ("finalWeightOf", "andThen (enteredAt l s m n) (λ c. andThen (finalAt c (tripleAt (m .states) n)) (λ w. good (unchanged s m w)))",
-     "andThen (entered l s m) (λ c. andThen (finalAt c (tripleAt (m .states) n)) (λ w. refuseIf (leb (s .used .states) n) 9 (good (unchanged s m w))))"),
-    ("storeSteps", "andThen st (λ s. andThen (storeStep d (nextFor d (nonEmpty others)) s) (λ e. storeSteps e others))",
-     "refuseIf (leb (trRoom (d .memory)) (d .used .trs)) 13 (andThen st (λ s. andThen (storeStep d (nextFor d (nonEmpty others)) s) (λ e. storeSteps e others)))"),
-    ("storeSteps", "andThen st (λ s. andThen (storeStep d (nextFor d (nonEmpty others)) s) (λ e. storeSteps e others))",
-     "andThen (collect (st ∷ others)) (λ l. andThen st (λ s. andThen (storeStep d (nextFor d (nonEmpty others)) s) (λ e. storeSteps e others)))"),
+    ("room_with", "min L.limit (length l / size)", "length l / size"),
+    ("side_for_with", "(refuse_if (not (well_formed_up_to L.limit l.m2)) 3\n      (refuse_if (not (ignored_ok l.ignored)) 18\n      (side_of (operand1 s l) (operand2 s l))))",
+     "(and_then (refuse_if (not (ignored_ok l.ignored)) 18 (side_of (operand1 s l) (operand2 s l))) "
+     "(λ side. refuse_if (not (well_formed_up_to L.limit l.m2)) 3 (good side)))"),
+    ("side_of", "(refuse_if (is_set B.sigma && not (in_order B)) 6\n    (side_by (eqb A.mark 1) (eqb B.mark 1) (in_order A) (in_order B)))",
+     "(and_then (side_by (eqb A.mark 1) (eqb B.mark 1) (in_order A) (in_order B)) (λ side. refuse_if (is_set B.sigma && not (in_order B)) 6 (good side)))"),
+    ("entered_with",
+     "and_then (side_for_with s.settings l) (λ side. refuse_if (not (session_ok_with l s m side)) 8 (good (composition_of s.settings l side)))",
+     "refuse_if (not (fits_with L (store_of s m))) 8 "
+     "(and_then (side_for_with s.settings l) (λ side. refuse_if (not (session_ok_with l s m side)) 8 (good (composition_of s.settings l side))))"),
+    ("entered_at_with", "and_then (entered_with l s m) (λ c. refuse_if (leb s.used.states n) 9 (good c))", "refuse_if (leb s.used.states n) 9 (entered_with l s m)"),
+    ("begun_with", "begun_with m none = good (cleared m)", "begun_with m none = refuse_if (eqb (state_room_with L m) 0) 13 (good (cleared m))"),
+    ("expand_with", "and_then (entered_at_with L l s m n) (λ c. expand_by_with c s m n (eqb (expanded_with L m.states n) 1))",
+     "and_then (entered_with L l s m) (λ c. and_then (expand_by_with c s m n (eqb (expanded_with L m.states n) 1)) (λ d. refuse_if (leb s.used.states n) 9 (good d)))"),
+    ("final_weight_with", "and_then (entered_at_with L l s m n) (λ c. and_then (final_at c (L.triple_at m.states n)) (λ w. good (unchanged s m w)))",
+     "and_then (entered_with L l s m) (λ c. and_then (final_at c (L.triple_at m.states n)) (λ w. refuse_if (leb s.used.states n) 9 (good (unchanged s m w))))"),
+    ("store_steps_with", "and_then st (λ s. and_then (store_step_with d (next_for d (non_empty others)) s) (λ e. store_steps_with e others))",
+     "refuse_if (leb (tr_room_with L d.memory) d.used.trs) 13 "
+     "(and_then st (λ s. and_then (store_step_with d (next_for d (non_empty others)) s) (λ e. store_steps_with e others)))"),
+    ("store_steps_with", "and_then st (λ s. and_then (store_step_with d (next_for d (non_empty others)) s) (λ e. store_steps_with e others))",
+     "and_then (collect (st ∷ others)) (λ l. and_then st (λ s. and_then (store_step_with d (next_for d (non_empty others)) s) (λ e. store_steps_with e others)))"),
 ]
 
 
@@ -194,9 +200,9 @@ class Clause:
 
     def order(self, i):
         """Two checks, one right after the other, change places."""
-        if self.at(i) == "refuseIf":
+        if self.at(i) == "refuse_if":
             own = self.atoms(i)[1:]
-            if len(own) > 2 and self.at(own[2][0]) == "(" and self.at(own[2][0] + 1) == "refuseIf":
+            if len(own) > 2 and self.at(own[2][0]) == "(" and self.at(own[2][0] + 1) == "refuse_if":
                 inner = self.atoms(own[2][0] + 1)[1:]
                 yield self.exchange("order of checks", (own[0][0], own[1][1]), (inner[0][0], inner[1][1]))
 

@@ -160,7 +160,7 @@ def option(ws):
 
 
 def entry(settings, a1, a2, m1, m2, triple, want):
-    return (f"caseOf ({antt(settings)}) {named(m1)} {named(m2)} {option(a1)} {option(a2)} {triple[0]} {triple[1]} {triple[2]} ({antt(want)})")
+    return (f"case_of ({antt(settings)}) {named(m1)} {named(m2)} {option(a1)} {option(a2)} {triple[0]} {triple[1]} {triple[2]} ({antt(want)})")
 
 
 def chosen(oracle):
@@ -189,7 +189,7 @@ def drawn(oracle, seed, count):
 
 
 def table(name, entries):
-    print(f"unfoldable pub {name} : List Case\nunfolding caseOf\n{name} =")
+    print(f"unfoldable pub {name} : List Case\nunfolding case_of\n{name} =")
     for what, e in entries:
         print(f"    -- {what}\n    {e} ∷")
     print("    []")
@@ -199,17 +199,17 @@ def main():
     oracle = rust.oracle_at(sys.argv[1])
     found = list(drawn(oracle, *sys.argv[3:5]) if sys.argv[2:3] == ["--random"] else chosen(oracle))
     print("-- Written by tests/state_cases.py. The inputs are ours.")
-    print("use mathlib.Core.List.{List, [], _∷_}")
+    print("use mathlib.Core.List.{List, [], ◌∷◌}")
     print("use mathlib.Core.Option.{none, some}")
     print("use Prim.Native.Nat.{ℕ}")
-    print("use Rattle·words·proofs.proofs.Cases.{Case, caseOf}")
+    print("use Rattle.words.proofs.Cases.{Case, case_of}")
     print()
     for name, ws in NAMED.items():
         print(f"abbrev {name} : List ℕ\n{name} = {antt(ws)}\n")
     print("-- the answers are the Rust's (rustfst 8e1391df1e, final weights equal to zero read as 01 reads them)")
-    table("rustCases", [(what, e) for what, e, ours in found if not ours])
+    table("rust_cases", [(what, e) for what, e, ours in found if not ours])
     print("\n-- a label that is looked up has own and sigma matches: the answers are the definition's, worked out by tests/model.py")
-    table("ourCases", [(what, e) for what, e, ours in found if ours])
+    table("our_cases", [(what, e) for what, e, ours in found if ours])
 
 
 if __name__ == "__main__":
