@@ -4,7 +4,7 @@
 usage: python3 tools/respell.py [--pages]     in the repository, once, after the port's scripts
 It turns whole words of specs/, proofs/, the clauses and ghost items of src/ and the texts of must-fail/. In proofs/F/ a word that the file declares itself, and one
 right behind a dot that has a dash, stay: those name goals and steps, which Rattle makes. A word of the table that is in snake case already is a lemma's: it turns in specs/ and proofs/ alone.
-A name that a file takes from another library stays. With --pages it turns the code spans of README.md, docs/ and the lists of tests/ alone.
+A name that a file takes from another library stays. With --pages it turns the code spans of README.md, docs/ and bench/ alone.
 """
 import os
 import re

@@ -12,7 +12,7 @@ use native.Mathlib.Decide.{ℕ_discrete}
 use lib.Dec.{eqb}
 use lib.ListN.{length}
 use borrow.Author.Tests.{eq-eqb, ne_eqb}
-use Rattle.searches.proofs.Search.{Graph, Reach, stay, Ends, flat, states, Base}
+use Rattle.searches.proofs.Search.{Graph, Reach, stay, Ends, flat, Base}
 use Rattle.searches.specs.UsefulSearch.{cursor_in, open_in, status_in, place_in, bound_in, Links, Place, Found, on_white, on_final, on_open, on_alive, on_dead, on_end, killed, by_status, step_of, settled_of, opened_of, start_of, resume, run_of}
 use Rattle.searches.proofs.Ties.{Cols, update, Held, graph_of, Linked, Rank, whites, Says, white, ending, unsettled, living, gone, Ties, Drawn, Tied, Ended, After}
 use Rattle.searches.proofs.Steps.{alive_useful, dead_useless, unseen_unreached}

@@ -15,15 +15,12 @@ use Rattle.lists.proofs.Put.{put_whole, put_part}
 use Rattle.lists.proofs.Same.{keep_same}
 use Rattle.papers.specs.Machine.{Machine}
 use Rattle.words.specs.Labels.{good, refused, refuse_if}
-use Rattle.words.specs.Machines.{state_count, limit}
+use Rattle.words.specs.Machines.{limit}
 use Rattle.words.specs.Steps.{Composition}
 use Rattle.words.specs.Settings.{Lent}
-use Rattle.calls.specs.Store.{Memory, Store, state_size, tr_size, state_room_with, tr_room_with}
+use Rattle.calls.specs.Store.{Memory, Store}
 use Rattle.calls.specs.Forms.{form_ok}
 use Rattle.calls.specs.Checks.{Session, store_of, entered}
-use Rattle.calls.proofs.StoreForms.{of_form}
-use Rattle.calls.proofs.ExpandKept.{entered_is}
-use Rattle.calls.proofs.RecordLaws.{room_words}
 use Rattle.graphs.specs.Walks.{useful}
 use Rattle.graphs.specs.StoreMachine.{store_machine}
 use Rattle.searches.specs.WorkWords.{low, high}

@@ -3,7 +3,7 @@ use mathlib.Core.Path.{◌≡◌, refl, ◌∙◌, ap}
 use mathlib.Core.Bool.{Bool, true, false, cond}
 use mathlib.Core.List.{List}
 use mathlib.Core.Logic.{◌≢◌}
-use Prim.Native.Nat.{ℕ, zero, suc, ◌+◌, ◌*◌, ◌%◌, ◌≤◌, ◌<◌}
+use Prim.Native.Nat.{ℕ, zero, suc, ◌+◌, ◌*◌, ◌≤◌, ◌<◌}
 use native.Mathlib.Omega.{arith}
 use native.Mathlib.Decide.{ℕ_discrete}
 use lib.Dec.{eqb}
@@ -16,7 +16,6 @@ use Rattle.lists.proofs.Totals.{length_interval}
 use Rattle.lists.proofs.Same.{keep_more}
 use Rattle.words.specs.Machines.{limit}
 use Rattle.searches.specs.WorkWords.{low, high}
-use Rattle.searches.specs.UsefulSearch.{status_in}
 use Rattle.trim_passes.specs.Passes.{is_alive, new_number, numbered_up_to, number_in}
 
 uncut : (v : ℕ) → v < 16777216 → low v ≡ v

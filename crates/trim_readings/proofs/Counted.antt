@@ -1,8 +1,6 @@
 -- After calls as in demand 3 the trimmed machine has labels and counts that a machine in words may have.
 use mathlib.Core.Path.{◌≡◌, refl, sym, subst}
 use mathlib.Core.List.Memᴰ
-use mathlib.Core.List.Memᴰ.{head as here}
-use mathlib.Core.List.Memᴰ.{tail as there}
 use mathlib.Core.List.{List, [], ◌∷◌, map, flat_map, Memᴰ as In}
 use mathlib.Core.Logic.{⊎_elim}
 use mathlib.Core.Bool.{true}
@@ -19,11 +17,9 @@ use Rattle.words.specs.Machines.{limit, state_count, well_formed}
 use Rattle.words.specs.Sides.{Side}
 use Rattle.words.specs.Steps.{Composition}
 use Rattle.words.specs.Settings.{Settings, Lent, composition_of}
-use Rattle.calls.specs.Store.{state_size, tr_size, state_room_with, tr_room_with}
 use Rattle.calls.specs.Checks.{side_for}
 use Rattle.calls.specs.Sequences.{World}
-use Rattle.calls.proofs.RecordLaws.{room_words}
-use Rattle.calls.proofs.ExpandKept.{sided, entered_is}
+use Rattle.calls.proofs.ExpandKept.{sided}
 use Rattle.graphs.specs.Walks.{useful}
 use Rattle.graphs.proofs.Few.{few}
 use Rattle.graphs.proofs.Entered.{within}

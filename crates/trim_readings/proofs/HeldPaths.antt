@@ -17,8 +17,6 @@ use Rattle.words.specs.AsPapers.{exact}
 use Rattle.calls.specs.Forms.{form_ok}
 use Rattle.calls.specs.Checks.{entered}
 use Rattle.calls.specs.Sequences.{World}
-use Rattle.calls.proofs.StoreForms.{of_form}
-use Rattle.calls.proofs.ExpandKept.{entered_is}
 use Rattle.graphs.specs.Walks.{Bounded}
 use Rattle.graphs.specs.StoreMachine.{first_state, answered, weight_in}
 use Rattle.graphs.proofs.Entered.{within}
