@@ -6,8 +6,8 @@ TOKEN = re.compile(r'--[^\n]*|"[^"]*"|[(){};,]|[^\s(){};,".]+\.(?=\s)|\.?[^\s(){
 EXCHANGED = {"eqb": ["leb", "ltb"], "leb": ["ltb", "eqb"], "ltb": ["leb", "eqb"], "&&": ["||"], "||": ["&&"], "true": ["false"], "false": ["true"],
              "+": ["*", "-"], "*": ["+"], "-": ["+"], "/": ["%"], "%": ["/"], "≡": ["≢"], "≢": ["≡"], "<": ["≤"], "≤": ["<"], "×": ["⊎"]}
 INFIX = {":", "&&", "||", "+", "*", "-", "/", "%", "≡", "≢", "<", "≤", "×", "⊎", "∷", "++", "→", "=", "in", "↔", "then", "|"}
-IMPORTS = {"std.specs.Prelude": ["eqb", "ltb", "leb", "Bool", "true", "false", "not", "◌&&◌", "◌||◌", "cond", "◌+◌", "◌-◌", "◌*◌"],
-           "std.proofs.Math.Option": ["Option", "none", "some"], "words.specs.Labels": ["good", "refuse_if", "and_then", "collect"]}
+IMPORTS = {"std.specs.Prelude": ["Option", "None", "Some", "eqb", "ltb", "leb", "Bool", "true", "false", "not", "◌&&◌", "◌||◌", "cond", "◌+◌", "◌-◌", "◌*◌"],
+           "words.specs.Labels": ["good", "refuse_if", "and_then", "collect"]}
 ASKED = {"cond": ["test", "A", "A"], "eqb": ["one", "other"], "get_or": ["list", "n", "n"], "Memᴰ": ["A", "list"], "map": ["f", "list"], "every": ["f", "list"],
          "flat_map": ["f", "list"], "keep_if": ["f", "list"], "refuse_if": ["test", "n", "rest"], "and_then": ["one", "other"], "set": ["list", "n", "n"],
          "put": ["list", "n", "list"]}
@@ -26,7 +26,7 @@ BY_HAND = [
      "refuse_if (not (fits_with L (store_of s m))) 8 "
      "(and_then (side_for_with s.settings l) (λ side. refuse_if (not (session_ok_with l s m side)) 8 (good (composition_of s.settings l side))))"),
     ("entered_at_with", "and_then (entered_with l s m) (λ c. refuse_if (leb s.used.states n) 9 (good c))", "refuse_if (leb s.used.states n) 9 (entered_with l s m)"),
-    ("begun_with", "begun_with m none = good (cleared m)", "begun_with m none = refuse_if (eqb (state_room_with L m) 0) 13 (good (cleared m))"),
+    ("begun_with", "begun_with m None = good (cleared m)", "begun_with m None = refuse_if (eqb (state_room_with L m) 0) 13 (good (cleared m))"),
     ("expand_with", "and_then (entered_at_with L l s m n) (λ c. expand_by_with c s m n (eqb (expanded_with L m.states n) 1))",
      "and_then (entered_with L l s m) (λ c. and_then (expand_by_with c s m n (eqb (expanded_with L m.states n) 1)) (λ d. refuse_if (leb s.used.states n) 9 (good d)))"),
     ("final_weight_with", "and_then (entered_at_with L l s m n) (λ c. and_then (final_at c (L.triple_at m.states n)) (λ w. good (unchanged s m w)))",
@@ -208,10 +208,10 @@ class Clause:
 
     def cells(self):
         """A cell of a table is kept where it drops, or drops where it keeps."""
-        if [t.text for t in self.tokens] == ["none"]:
-            yield from (self.put("cell", 0, 0, other) for other in ("some 0", "some 1"))
-        elif self.at(0) == "some":
-            yield self.put("cell", 0, len(self.tokens) - 1, "none")
+        if [t.text for t in self.tokens] == ["None"]:
+            yield from (self.put("cell", 0, 0, other) for other in ("Some 0", "Some 1"))
+        elif self.at(0) == "Some":
+            yield self.put("cell", 0, len(self.tokens) - 1, "None")
 
 
 def parts(signature):

@@ -4,7 +4,8 @@ use mathlib.Core.Path.{◌≡◌, refl, sym, ◌∙◌, ap, subst}
 use mathlib.Core.Bool.{Bool, true, false, ◌&&◌}
 use mathlib.Core.List.{List, [], ◌∷◌, flat_map, map}
 use mathlib.Core.Logic.{◌≢◌}
-use mathlib.Core.Option.{Option, none, some, none-ne-some, some-injective}
+use Rattle.std.specs.Prelude.{Option, None, Some}
+use Rattle.std.proofs.lemmas.Option.{none-some, same_Some}
 use Prim.Native.Nat.{ℕ, zero, suc, ◌+◌, ◌-◌, ◌*◌, ◌<◌}
 use native.Mathlib.Numerals.{unary_clauses}
 use native.Mathlib.Omega.{arith}
@@ -136,11 +137,11 @@ trusted_same s l w r n k a b =
 words_at_lem : (ws : List (Option ℕ)) (n : ℕ) (x : Option ℕ) → At ws n x
     → weight_words x ≡ get_or (flat_map weight_words ws) (2 * n) 0 ∷ get_or (flat_map weight_words ws) (2 * n + 1) 0 ∷ []
 unfolding flat_map
-words_at_lem [] n x h = absurd (none-ne-some _ h)
-words_at_lem (none ∷ ws) zero x h = ap weight_words (sym (some-injective _ _ h))
-words_at_lem (some v ∷ ws) zero x h = ap weight_words (sym (some-injective _ _ h))
-words_at_lem (none ∷ ws) (suc n) x h = simp unary_clauses (simp unary_clauses at (words_at_lem ws n x h))
-words_at_lem (some v ∷ ws) (suc n) x h = simp unary_clauses (simp unary_clauses at (words_at_lem ws n x h))
+words_at_lem [] n x h = absurd (none-some _ h)
+words_at_lem (None ∷ ws) zero x h = ap weight_words (sym (same_Some _ _ h))
+words_at_lem (Some v ∷ ws) zero x h = ap weight_words (sym (same_Some _ _ h))
+words_at_lem (None ∷ ws) (suc n) x h = simp unary_clauses (simp unary_clauses at (words_at_lem ws n x h))
+words_at_lem (Some v ∷ ws) (suc n) x h = simp unary_clauses (simp unary_clauses at (words_at_lem ws n x h))
 
 -- All final weights in one go leave the words that the exported final weights leave, since in calls they are those.
 pub weights_same : (s : Settings) (l : Lent) (w : World) → InScope s l w

@@ -1,7 +1,7 @@
 -- Lists of calls that refuse the wrong programs of 01, "A reviewer will try", and the slips near them, in one table under one theorem.
 use mathlib.Core.Path.{refl}
 use mathlib.Core.List.{List, [], ◌∷◌, Memᴰ as In}
-use mathlib.Core.Option.{none, some}
+use Rattle.std.specs.Prelude.{None, Some}
 use Prim.Native.Nat.{ℕ}
 use lib.ListN.{replicate, set}
 use Rattle.words.specs.Labels.{MAX}
@@ -49,8 +49,8 @@ call_cases =
     ∷ handed (0 ∷ 7 ∷ 4 ∷ 2 ∷ 0 ∷ [])
     ∷ handed (2 ∷ 8 ∷ 3 ∷ 3 ∷ 0 ∷ [])
     ∷ handed []
-    ∷ answered (weight none) (with 4 3)
-    ∷ answered (weight (some 3)) (with 4 3)
+    ∷ answered (weight None) (with 4 3)
+    ∷ answered (weight (Some 3)) (with 4 3)
     ∷ answered (refusal 9) (with 4 3)
     ∷ [])
     (world (with 4 3) (4 ∷ 2 ∷ [])
@@ -123,11 +123,11 @@ call_cases =
     let l = lend marked1 marked2 in
     calling l (before (0 ∷ []) (replicate 6 0) [])
     (opening (settings_of w) l ∷ expand 0 ∷ run ∷ final_weight 0 ∷ [])
-    (answered accepted (session w 2 1 0) ∷ answered (refusal 10) (session w 2 1 0) ∷ answered (refusal 10) (session w 2 1 0) ∷ answered (weight none) (session w 2 1 0) ∷ [])
+    (answered accepted (session w 2 1 0) ∷ answered (refusal 10) (session w 2 1 0) ∷ answered (refusal 10) (session w 2 1 0) ∷ answered (weight None) (session w 2 1 0) ∷ [])
     (world (session w 2 1 0) (1 ∷ []) (replicate 6 0) []))
     -- side input, by the mark of machine 2 alone: machine 1, whose labels fall, is walked
     ∷ printing (plain 0 0) (1 ∷ 2 ∷ 1 ∷ 0 ∷ 0 ∷ 0 ∷ 1 ∷ 0 ∷ 0 ∷ 3 ∷ 3 ∷ 0 ∷ 0 ∷ 2 ∷ 2 ∷ 2 ∷ 0 ∷ 0 ∷ 0 ∷ []) (1 ∷ 2 ∷ 1 ∷ 1 ∷ 0 ∷ 0 ∷ 1 ∷ 1 ∷ 6 ∷ 2 ∷ 7 ∷ 1 ∷ 0 ∷ 2 ∷ 3 ∷ 8 ∷ 2 ∷ 0 ∷ 0 ∷ [])
-    (side_line 0 ∷ state_line 0 (triple 0 0 0) none ∷ tr_line 3 8 2 0 ∷ tr_line 2 7 1 0 ∷ end_line 1 2 ∷ [])
+    (side_line 0 ∷ state_line 0 (triple 0 0 0) None ∷ tr_line 3 8 2 0 ∷ tr_line 2 7 1 0 ∷ end_line 1 2 ∷ [])
     -- an opening refused changes nothing and hands back the session that it got, also in the middle of a list
     ∷ calling both (before (0 ∷ []) (replicate 12 0) (replicate 5 0))
     (opens ∷ expand 0 ∷ opening (settings_of (plain 2 0)) both ∷ opening (settings_of (plain 0 0)) (lend [] []) ∷ expand 0 ∷ [])

@@ -4,7 +4,7 @@ use mathlib.Core.Path.{◌≡◌, refl, sym, ◌∙◌, ap}
 use mathlib.Core.Bool.{true, false}
 use mathlib.Core.List.{List, ◌∷◌, Memᴰ as In}
 use mathlib.Core.Logic.{◌≢◌}
-use mathlib.Core.Option.{some}
+use Rattle.std.specs.Prelude.{Some}
 use Prim.Native.Nat.{ℕ, suc, ◌+◌, ◌*◌, ◌≤◌, ◌<◌}
 use native.Mathlib.Nat.{mod-lt}
 use native.Mathlib.Numerals.{add-one}
@@ -62,7 +62,7 @@ module _ {S1 S2 : ℕ} (d : Store) {last : ℕ} (form : Form S1 S2 d last) where
   chain_below t i = let r = linked_below (next_at d.memory.states) U U (head_of d.memory.heads t) falls (head_low t) i in omega (arith, r, head_low t)
 
   -- a state found is a used one, with that triple
-  pub find_sound : (t : Triple) (n : ℕ) → find d t ≡ some n → (n < U) × (triple_at d.memory.states n ≡ t)
+  pub find_sound : (t : Triple) (n : ℕ) → find d t ≡ Some n → (n < U) × (triple_at d.memory.states n ≡ t)
   unfolding find_with
   find_sound t n e =
       let r = first_sound (λ k. same_triple (triple_at d.memory.states k) t) (chain_of d t) n e in
@@ -141,7 +141,7 @@ module _ {S1 S2 : ℕ} (d : Store) {last : ℕ} (form : Form S1 S2 d last) where
         ap (linked (next_at ss) (U + 1)) hd ∙ linked_same (next_at d.memory.states) (next_at ss) U (U + 1) U (head_of hs u) falls next_old low (omega (arith, low)) low
 
     -- what was added is found
-    pub find_added : find (add d t) t ≡ some U
+    pub find_added : find (add d t) t ≡ Some U
     unfolding find_with first
     find_added = rw (add_chain_same t refl, add_holds, same_self)
 

@@ -6,7 +6,7 @@ use mathlib.Core.List.Memᴰ.{head as here}
 use mathlib.Core.List.Memᴰ.{tail as there}
 use mathlib.Core.List.{List, [], ◌∷◌, Memᴰ as In}
 use mathlib.Core.Logic.{◌⊎◌, inl, inr, ⊎_elim, ◌≢◌}
-use mathlib.Core.Option.{Option, none, some}
+use Rattle.std.specs.Prelude.{Option, None, Some}
 use Prim.Native.Nat.{ℕ, ◌≤◌, ◌<◌}
 use native.Mathlib.Omega.{arith}
 use lib.Dec.{eqb, leb}
@@ -84,8 +84,8 @@ module _ (l : Lent) (s : Session) (m : Memory) (c : Composition) (enters : enter
         (λ a. absurd (omega (arith, a, found))) (λ a x. absurd (bare x)) (λ a x j g. absurd (good≢refused (sym e ∙ g))) (λ a x f g. ap (stored s n) (good_is (sym g ∙ e)))
 
 reach_refused : (d : Store) (t : Triple) (o : Option ℕ) (k : ℕ) → reached_by d t o ≡ refused k → k ≡ 13
-reach_refused d t (some n) k e = absurd (good≢refused e)
-reach_refused d t none k e = ⊎_elim (λ z. z) (λ z. absurd (good≢refused z)) (stop_if (leb (state_room d.memory) d.used.states) 13 _ k e)
+reach_refused d t (Some n) k e = absurd (good≢refused e)
+reach_refused d t None k e = ⊎_elim (λ z. z) (λ z. absurd (good≢refused z)) (stop_if (leb (state_room d.memory) d.used.states) 13 _ k e)
 
 step_refused : (d : Store) (next : ℕ) (st : Step) (k : ℕ) → store_step d next st ≡ refused k → k ≡ 13
 unfolding store_step_with reach_with
@@ -139,7 +139,7 @@ final_refusals c t k = go (A.is_final t.s1 && B.is_final t.s2) (times c.kind (A.
     B : Machine
     B = c.operand2.machine
 
-    go : (b : Bool) (o : Option ℕ) → cond b (unless_zero c.kind o) (good none) ≡ refused k → k ≡ 12
-    go true none e = refused_is (sym e)
-    go true (some w) e = absurd (good≢refused e)
+    go : (b : Bool) (o : Option ℕ) → cond b (unless_zero c.kind o) (good None) ≡ refused k → k ≡ 12
+    go true None e = refused_is (sym e)
+    go true (Some w) e = absurd (good≢refused e)
     go false o e = absurd (good≢refused e)

@@ -2,7 +2,8 @@
 -- the chains. A new state keeps this, and so do a new transition and a mark.
 use mathlib.Core.Path.{◌≡◌, refl, sym, ◌∙◌, ap, subst}
 use mathlib.Core.Bool.{Bool, true, false}
-use mathlib.Core.Option.{Option, none, some, none-ne-some, some-injective}
+use Rattle.std.specs.Prelude.{Option, None, Some}
+use Rattle.std.proofs.lemmas.Option.{none-some, same_Some}
 use Prim.Native.Nat.{ℕ, ◌≤◌, ◌<◌}
 use native.Mathlib.Omega.{arith}
 use native.Mathlib.Decide.{ℕ_discrete, dec_lt}
@@ -16,29 +17,29 @@ use Rattle.calls.proofs.FormKept.{mark_other, mark_triple, mark_next}
 
 -- every used state is found by its triple
 abbrev pub Whole : Store → Type 0
-Whole d = (n : ℕ) → n < d.used.states → find d (triple_at d.memory.states n) ≡ some n
+Whole d = (n : ℕ) → n < d.used.states → find d (triple_at d.memory.states n) ≡ Some n
 
 -- then no two used states have one triple
 pub whole_distinct : (d : Store) → Whole d → (i j : ℕ) → i < d.used.states → j < d.used.states → triple_at d.memory.states i ≡ triple_at d.memory.states j → i ≡ j
-whole_distinct d h i j p q e = some-injective i j (sym (h i p) ∙ (ap (find d) e ∙ h j q))
+whole_distinct d h i j p q e = same_Some i j (sym (h i p) ∙ (ap (find d) e ∙ h j q))
 
 module _ {S1 S2 : ℕ} (d : Store) {last : ℕ} (form : Form S1 S2 d last) (whole : Whole d) where
   -- a new state, of a triple that was not found
-  pub whole_add : (t : Triple) → d.used.states < state_room d.memory → 0 < length d.memory.heads → find d t ≡ none → Whole (add d t)
+  pub whole_add : (t : Triple) → d.used.states < state_room d.memory → 0 < length d.memory.heads → find d t ≡ None → Whole (add d t)
   unfolding add_with
   whole_add t room headed e n h = go (dec_lt n d.used.states)
     where
-      other : (u : Triple) (b : Bool) → same_triple t u ≡ b → find d u ≡ some n → same_triple t u ≡ false
-      other u true s f = absurd (none-ne-some n (sym e ∙ (ap (find d) (same_triple_lem t u s) ∙ f)))
+      other : (u : Triple) (b : Bool) → same_triple t u ≡ b → find d u ≡ Some n → same_triple t u ≡ false
+      other u true s f = absurd (none-some n (sym e ∙ (ap (find d) (same_triple_lem t u s) ∙ f)))
       other u false s f = s
 
-      go : Dec (n < d.used.states) → find (add d t) (triple_at (add d t).memory.states n) ≡ some n
+      go : Dec (n < d.used.states) → find (add d t) (triple_at (add d t).memory.states n) ≡ Some n
       go (yes l) =
           let u = triple_at d.memory.states n in
           ap (find (add d t)) (add_triple d form t room headed n l) ∙ (find_other d form t room headed u (other u (same_triple t u) refl (whole n l)) ∙ whole n l)
       go (no l) =
           let z : n ≡ d.used.states = omega arith in
-          ap (λ k. find (add d t) (triple_at (add d t).memory.states k)) z ∙ (ap (find (add d t)) (add_holds d form t room headed) ∙ (find_added d form t room headed ∙ ap some (sym z)))
+          ap (λ k. find (add d t) (triple_at (add d t).memory.states k)) z ∙ (ap (find (add d t)) (add_holds d form t room headed) ∙ (find_added d form t room headed ∙ ap Some (sym z)))
 
   -- a new transition: the table does not look at transitions
   pub whole_append : (st : Step) (target next : ℕ) → Whole (append d st target next)
@@ -76,18 +77,18 @@ pub find_alike : {S1 S2 : ℕ} (d e : Store) {last more : ℕ} → Form S1 S2 d 
 find_alike {S1} {S2} d e fd fe wd we u same t = go (find d t) (find e t) refl refl
   where
     -- a state that one finds, the other finds
-    over : (n : ℕ) → find d t ≡ some n → find e t ≡ some n
+    over : (n : ℕ) → find d t ≡ Some n → find e t ≡ Some n
     over n p =
         let r = find_sound d fd t n p in
         ap (find e) (sym (same n r.0 ∙ r.1)) ∙ we n (omega (arith, u, r.0))
 
-    back : (n : ℕ) → find e t ≡ some n → find d t ≡ some n
+    back : (n : ℕ) → find e t ≡ Some n → find d t ≡ Some n
     back n p =
         let r = find_sound e fe t n p in
         let l : n < d.used.states = omega (arith, u, r.0) in
         ap (find d) (sym (sym (same n l) ∙ r.1)) ∙ wd n l
 
     go : (a b : Option ℕ) → find d t ≡ a → find e t ≡ b → find e t ≡ find d t
-    go (some n) b p q = over n p ∙ sym p
-    go none none p q = q ∙ sym p
-    go none (some n) p q = q ∙ sym (back n q)
+    go (Some n) b p q = over n p ∙ sym p
+    go None None p q = q ∙ sym p
+    go None (Some n) p q = q ∙ sym (back n q)

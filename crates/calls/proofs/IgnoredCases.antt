@@ -1,7 +1,7 @@
 -- 02, 2.7 and 2.8: lists of calls that are lent ignored labels.
 use mathlib.Core.Path.{◌≡◌, refl}
 use mathlib.Core.List.{List, [], ◌∷◌, Memᴰ as In}
-use mathlib.Core.Option.{none, some}
+use Rattle.std.specs.Prelude.{None, Some}
 use Prim.Native.Nat.{ℕ}
 use lib.ListN.{replicate}
 use Rattle.words.specs.Labels.{MAX, refused}
@@ -67,8 +67,8 @@ ignored_cases =
     ∷ answered accepted (with 3 2)
     ∷ handed (1 ∷ 0 ∷ 1 ∷ 1 ∷ 0 ∷ [])
     ∷ handed (2 ∷ 5 ∷ 6 ∷ 2 ∷ 0 ∷ [])
-    ∷ answered (weight none) (with 3 2)
-    ∷ answered (weight (some 3)) (with 3 2)
+    ∷ answered (weight None) (with 3 2)
+    ∷ answered (weight (Some 3)) (with 3 2)
     ∷ [])
     left
     -- Every later call with such a list: 18, before 9, an empty part, and nothing changes.

@@ -5,7 +5,7 @@ use mathlib.Core.List.Memᴰ.{head as here}
 use mathlib.Core.List.Memᴰ.{tail as there}
 use mathlib.Core.List.{List, [], ◌∷◌, ◌++◌, Memᴰ as In}
 use mathlib.Core.Logic.{◌≢◌}
-use mathlib.Core.Option.{Option, none, some}
+use Rattle.std.specs.Prelude.{Option, None, Some}
 use Prim.Native.Nat.{ℕ, suc, ◌+◌, ◌*◌, ◌≤◌, ◌<◌}
 use native.Mathlib.Omega.{arith}
 use lib.Dec.{leb}
@@ -115,8 +115,8 @@ module _ (xs ys : List ℕ) where
     copy_reach d t r ok e = rw (copy_find d ok t) (go (find d t) e)
       where
         go : (o : Option ℕ) → reached_by d t o ≡ good r → reached_by (copy_of d) t o ≡ good (record { store = copy_of r.store; state = r.state })
-        go (some n) g = ap (λ (q : Reached). good (record { store = copy_of q.store; state = q.state })) (good_is g)
-        go none g =
+        go (Some n) g = ap (λ (q : Reached). good (record { store = copy_of q.store; state = q.state })) (good_is g)
+        go None g =
             let c = past_check (leb (state_room d.memory) d.used.states) 13 _ r g in
             let room = leb-false (state_room d.memory) d.used.states c.0 in
             rw (lt-leb (state_room (copy_of d).memory) d.used.states (omega (arith, room, (copy_roomier d).states)))

@@ -4,7 +4,7 @@ use mathlib.Core.Path.{◌≡◌, refl, sym, ◌∙◌, ap, subst}
 use mathlib.Core.Bool.{Bool, true, false, not, ◌&&◌, ◌||◌}
 use mathlib.Core.List.{[], ◌∷◌, ◌++◌}
 use mathlib.Core.Logic.{◌≢◌, ◌⊎◌, inl, inr, ⊎_elim}
-use mathlib.Core.Option.{Option, none, some}
+use Rattle.std.specs.Prelude.{Option, None, Some}
 use Prim.Native.Nat.{ℕ, ◌≤◌, ◌<◌}
 use native.Mathlib.Omega.{arith}
 use lib.Dec.{eqb}
@@ -43,14 +43,14 @@ module _ (s : Settings) (l : Lent) (got : Session) (m : Memory) where
   -- P holds of an opening where it holds in each case, with what is known there
   pub by_open : (P : Outcome (Unit {0}) → Type 0)
       → ((k : ℕ) → side_for s l ≡ refused k → P (stayed got m (refused k)))
-      → ((side : Side) → side_for s l ≡ good side → start_at (composition_of s l side) ≡ none → P (opened_as s side (cleared m)))
-      → ((side : Side) (t : Triple) → side_for s l ≡ good side → start_at (composition_of s l side) ≡ some t → P (stayed got m (refused 13)))
-      → ((side : Side) (t : Triple) → side_for s l ≡ good side → start_at (composition_of s l side) ≡ some t → Begins m → P (opened_as s side (add (cleared m) t)))
+      → ((side : Side) → side_for s l ≡ good side → start_at (composition_of s l side) ≡ None → P (opened_as s side (cleared m)))
+      → ((side : Side) (t : Triple) → side_for s l ≡ good side → start_at (composition_of s l side) ≡ Some t → P (stayed got m (refused 13)))
+      → ((side : Side) (t : Triple) → side_for s l ≡ good side → start_at (composition_of s l side) ≡ Some t → Begins m → P (opened_as s side (add (cleared m) t)))
       → P (open_of s l got m)
   unfolding open_with begun_with
   by_open P stop empty full new = go (side_for s l) refl
     where
-      by_room : (side : Side) (t : Triple) (a b : Bool) → side_for s l ≡ good side → start_at (composition_of s l side) ≡ some t → eqb (state_room m) 0 ≡ a → non_empty m.heads ≡ b → P (open_of s l got m)
+      by_room : (side : Side) (t : Triple) (a b : Bool) → side_for s l ≡ good side → start_at (composition_of s l side) ≡ Some t → eqb (state_room m) 0 ≡ a → non_empty m.heads ≡ b → P (open_of s l got m)
       by_room side t true b e h x y = rw (e, h, x) (full side t e h)
       by_room side t false false e h x y = rw (e, h, x, y) (full side t e h)
       by_room side t false true e h x y =
@@ -58,19 +58,19 @@ module _ (s : Settings) (l : Lent) (got : Session) (m : Memory) where
           rw (e, h, x, y) (new side t e h (record { room = omega (arith, some'); headed = some_head m.heads y }))
 
       by_start : (side : Side) (o : Option Triple) → side_for s l ≡ good side → start_at (composition_of s l side) ≡ o → P (open_of s l got m)
-      by_start side none e h = rw (e, h) (empty side e h)
-      by_start side (some t) e h = by_room side t (eqb (state_room m) 0) (non_empty m.heads) e h refl refl
+      by_start side None e h = rw (e, h) (empty side e h)
+      by_start side (Some t) e h = by_room side t (eqb (state_room m) 0) (non_empty m.heads) e h refl refl
 
       go : (o : Checked Side) → side_for s l ≡ o → P (open_of s l got m)
       go (refused k) e = rw e (stop k e)
       go (good side) e = by_start side (start_at (composition_of s l side)) e refl
 
   -- and the accepted cases by themselves
-  pub open_empty : (side : Side) → side_for s l ≡ good side → start_at (composition_of s l side) ≡ none → open_of s l got m ≡ opened_as s side (cleared m)
+  pub open_empty : (side : Side) → side_for s l ≡ good side → start_at (composition_of s l side) ≡ None → open_of s l got m ≡ opened_as s side (cleared m)
   unfolding open_with begun_with
   open_empty side e h = rw (e, h)
 
-  pub open_begun : (side : Side) (t : Triple) → side_for s l ≡ good side → start_at (composition_of s l side) ≡ some t → Begins m → open_of s l got m ≡ opened_as s side (add (cleared m) t)
+  pub open_begun : (side : Side) (t : Triple) → side_for s l ≡ good side → start_at (composition_of s l side) ≡ Some t → Begins m → open_of s l got m ≡ opened_as s side (add (cleared m) t)
   unfolding open_with begun_with
   open_begun side t e h b = rw (e, h, ne_eqb (state_room m) 0 (λ z. omega (arith, z, b.room)), of_some_head m.heads b.headed)
 

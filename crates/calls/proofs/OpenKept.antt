@@ -3,7 +3,8 @@ use mathlib.Core.Path.{◌≡◌, refl, sym, subst}
 use mathlib.Core.Bool.{not, ◌||◌}
 use mathlib.Core.List.{map}
 use mathlib.Core.Logic.{◌≢◌}
-use mathlib.Core.Option.{Option, none, some, none-ne-some, some-injective}
+use Rattle.std.specs.Prelude.{Option, None, Some}
+use Rattle.std.proofs.lemmas.Option.{none-some, same_Some}
 use Prim.Native.Nat.{ℕ, zero, suc, ◌≤◌, ◌<◌}
 use native.Mathlib.Omega.{arith}
 use lib.Dec.{eqb}
@@ -37,22 +38,22 @@ cleared_form S1 S2 m = record {
   tr = λ i h. absurd (omega arith);
 }
 
-start_below : (w S s : ℕ) → w ≤ S → less_one w ≡ some s → s < S
-start_below zero S s h e = absurd (none-ne-some _ e)
-start_below (suc w) S s h e = let z = some-injective w s e in omega arith
+start_below : (w S s : ℕ) → w ≤ S → less_one w ≡ Some s → s < S
+start_below zero S s h e = absurd (none-some _ e)
+start_below (suc w) S s h e = let z = same_Some w s e in omega arith
 
 -- the start pair is in range
-start_range : (S1 S2 w1 w2 : ℕ) (t : Triple) (a b : Option ℕ) → w1 ≤ S1 → w2 ≤ S2 → less_one w1 ≡ a → less_one w2 ≡ b → start_of a b ≡ some t → InRange S1 S2 t
-start_range S1 S2 w1 w2 t none b h k p q e = absurd (none-ne-some _ e)
-start_range S1 S2 w1 w2 t (some u) none h k p q e = absurd (none-ne-some _ e)
-start_range S1 S2 w1 w2 t (some u) (some v) h k p q e =
-    subst (InRange S1 S2) (some-injective (record { s1 = u; s2 = v; f = 0 }) t e)
+start_range : (S1 S2 w1 w2 : ℕ) (t : Triple) (a b : Option ℕ) → w1 ≤ S1 → w2 ≤ S2 → less_one w1 ≡ a → less_one w2 ≡ b → start_of a b ≡ Some t → InRange S1 S2 t
+start_range S1 S2 w1 w2 t None b h k p q e = absurd (none-some _ e)
+start_range S1 S2 w1 w2 t (Some u) None h k p q e = absurd (none-some _ e)
+start_range S1 S2 w1 w2 t (Some u) (Some v) h k p q e =
+    subst (InRange S1 S2) (same_Some (record { s1 = u; s2 = v; f = 0 }) t e)
     (record { s1 = start_below w1 S1 u h p; s2 = start_below w2 S2 v k q; f = omega arith })
 
-begun_kept : (S1 S2 : ℕ) (m : Memory) (o : Option Triple) (d : Store) → ((t : Triple) → o ≡ some t → InRange S1 S2 t) → begun m o ≡ good d → Form S1 S2 d d.used.trs
+begun_kept : (S1 S2 : ℕ) (m : Memory) (o : Option Triple) (d : Store) → ((t : Triple) → o ≡ Some t → InRange S1 S2 t) → begun m o ≡ good d → Form S1 S2 d d.used.trs
 unfolding begun_with cleared add_with state_room_with
-begun_kept S1 S2 m none d h e = subst (λ (q : Store). Form S1 S2 q q.used.trs) (good_is e) (cleared_form S1 S2 m)
-begun_kept S1 S2 m (some t) d h e =
+begun_kept S1 S2 m None d h e = subst (λ (q : Store). Form S1 S2 q q.used.trs) (good_is e) (cleared_form S1 S2 m)
+begun_kept S1 S2 m (Some t) d h e =
     let c = past_check (eqb (state_room m) 0 || not (non_empty m.heads)) 13 _ d e in
     let lacking = or_false (eqb (state_room m) 0) (not (non_empty m.heads)) c.0 in
     let none' : state_room m ≢ 0 = eqb-false _ _ lacking.0 in

@@ -1,7 +1,7 @@
 -- Closed cases of what a caller that owns its memory does beside the five calls: where a piece of a run stands, all final weights, and a copy. The machines are those of case 1.
 use mathlib.Core.Path.{◌≡◌, refl}
 use mathlib.Core.List.{List, [], ◌∷◌}
-use mathlib.Core.Option.{none, some}
+use Rattle.std.specs.Prelude.{None, Some}
 use Prim.Native.Nat.{ℕ}
 use lib.ListN.{replicate}
 use Rattle.words.specs.Labels.{good, refused}
@@ -30,8 +30,8 @@ stands = (refl, refl, refl, refl, refl)
 
 -- state 3 alone is final; those of the two states from 2 on; 2147483648 twice is too large
 pub weighed :
-    (let w = after_calls both 24 15 (run ∷ []) in final_weights_of both w.session w.memory ≡ good (none ∷ none ∷ none ∷ some 3 ∷ []))
-    × (let w = after_calls both 24 15 (run ∷ []) in weights_from both w.session w.memory 2 2 ≡ good (none ∷ some 3 ∷ []))
+    (let w = after_calls both 24 15 (run ∷ []) in final_weights_of both w.session w.memory ≡ good (None ∷ None ∷ None ∷ Some 3 ∷ []))
+    × (let w = after_calls both 24 15 (run ∷ []) in weights_from both w.session w.memory 2 2 ≡ good (None ∷ Some 3 ∷ []))
     × (let l = lend (weighing 2147483648) (weighing 2147483648) in let w = after_calls l 6 5 [] in final_weights_of l w.session w.memory ≡ refused 12)
 unfolding Holds weights_from
 weighed = (refl, refl, refl)

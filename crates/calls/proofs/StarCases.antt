@@ -1,7 +1,7 @@
 -- 01, "The listing", proved cases (★) 1 to 10, in one table under one theorem.
 use mathlib.Core.Path.{refl}
 use mathlib.Core.List.{List, [], ◌∷◌, Memᴰ as In}
-use mathlib.Core.Option.{none, some}
+use Rattle.std.specs.Prelude.{None, Some}
 use Prim.Native.Nat.{ℕ}
 use lib.ListN.{replicate, set}
 use Rattle.words.specs.Labels.{MAX}
@@ -17,7 +17,7 @@ abbrev pub plain : ℕ → ℕ → List ℕ
 plain kind filter = kind ∷ filter ∷ MAX ∷ 0 ∷ MAX ∷ 0 ∷ []
 
 abbrev pub lend_with : List ℕ → List ℕ → List ℕ → Lent
-lend_with xs m1 m2 = record { m1 = m1; m2 = m2; allowed1 = none; allowed2 = none; ignored = xs }
+lend_with xs m1 m2 = record { m1 = m1; m2 = m2; allowed1 = None; allowed2 = None; ignored = xs }
 
 abbrev pub lend : List ℕ → List ℕ → Lent
 lend = lend_with []
@@ -63,7 +63,7 @@ weighs kind w1 w2 p =
     let next = session (plain kind 0) 1 1 1 in
     calling (lend (weighing w1) (weighing w2)) little
     (opening (settings_of (plain kind 0)) (lend (weighing w1) (weighing w2)) ∷ final_weight 0 ∷ expand 0 ∷ records 0 ∷ [])
-    (answered accepted new ∷ answered (weight (some p)) new ∷ answered (list_part 1 1) next ∷ handed (1 ∷ 1 ∷ p ∷ 0 ∷ 0 ∷ []) ∷ [])
+    (answered accepted new ∷ answered (weight (Some p)) new ∷ answered (list_part 1 1) next ∷ handed (1 ∷ 1 ∷ p ∷ 0 ∷ 0 ∷ []) ∷ [])
     (world next (1 ∷ []) (0 ∷ 0 ∷ 0 ∷ 1 ∷ 1 ∷ 0 ∷ []) (1 ∷ 1 ∷ p ∷ 0 ∷ 0 ∷ []))
 
 -- 12 for its final weight, its expansion and a run, which keep session and memory
@@ -80,35 +80,35 @@ star_cases =
     -- 1 "this"
     printing (plain 0 0) example1 example2
     (side_line 1
-    ∷ state_line 0 (triple 0 0 0) none
+    ∷ state_line 0 (triple 0 0 0) None
     ∷ tr_line 1 0 1 1
-    ∷ state_line 1 (triple 1 0 0) none
+    ∷ state_line 1 (triple 1 0 0) None
     ∷ tr_line 0 7 4 2
-    ∷ state_line 2 (triple 1 1 0) none
+    ∷ state_line 2 (triple 1 1 0) None
     ∷ tr_line 2 8 3 3
-    ∷ state_line 3 (triple 2 2 0) (some 3)
+    ∷ state_line 3 (triple 2 2 0) (Some 3)
     ∷ end_line 4 3
     ∷ [])
     -- 2 "alternate, 4 states, 3 transitions"
     ∷ printing (plain 0 1) example1 example2
     (side_line 1
-    ∷ state_line 0 (triple 0 0 0) none
+    ∷ state_line 0 (triple 0 0 0) None
     ∷ tr_line 0 7 4 1
-    ∷ state_line 1 (triple 0 1 0) none
+    ∷ state_line 1 (triple 0 1 0) None
     ∷ tr_line 1 0 1 2
-    ∷ state_line 2 (triple 1 1 0) none
+    ∷ state_line 2 (triple 1 1 0) None
     ∷ tr_line 2 8 3 3
-    ∷ state_line 3 (triple 2 2 0) (some 3)
+    ∷ state_line 3 (triple 2 2 0) (Some 3)
     ∷ end_line 4 3
     ∷ [])
     -- 3 "match, 3 states, 2 transitions, first 1:7 weight 5"
     ∷ printing (plain 0 2) example1 example2
     (side_line 1
-    ∷ state_line 0 (triple 0 0 0) none
+    ∷ state_line 0 (triple 0 0 0) None
     ∷ tr_line 1 7 5 1
-    ∷ state_line 1 (triple 1 1 0) none
+    ∷ state_line 1 (triple 1 1 0) None
     ∷ tr_line 2 8 3 2
-    ∷ state_line 2 (triple 2 2 0) (some 3)
+    ∷ state_line 2 (triple 2 2 0) (Some 3)
     ∷ end_line 3 2
     ∷ [])
     -- 4 "no start, none found"
@@ -127,7 +127,7 @@ star_cases =
     (world (new 3 2) (3 ∷ []) (0 ∷ 0 ∷ 0 ∷ 1 ∷ 1 ∷ 0 ∷ 1 ∷ 0 ∷ 0 ∷ 1 ∷ 2 ∷ 1 ∷ 1 ∷ 1 ∷ 0 ∷ 0 ∷ 0 ∷ 2 ∷ []) (1 ∷ 0 ∷ 1 ∷ 1 ∷ 0 ∷ 0 ∷ 7 ∷ 4 ∷ 2 ∷ 0 ∷ replicate 5 0)))
     -- 10 "marks 1 and equal lists, input": the list of machine 1 is walked
     ∷ printing (plain 0 0) marked1 marked2
-    (side_line 2 ∷ state_line 0 (triple 0 0 0) none ∷ tr_line 1 7 0 0 ∷ tr_line 1 8 0 0 ∷ tr_line 2 7 0 0 ∷ tr_line 2 8 0 0 ∷ end_line 1 4 ∷ [])
+    (side_line 2 ∷ state_line 0 (triple 0 0 0) None ∷ tr_line 1 7 0 0 ∷ tr_line 1 8 0 0 ∷ tr_line 2 7 0 0 ∷ tr_line 2 8 0 0 ∷ end_line 1 4 ∷ [])
     ∷ []
 
 star_cases_lem : AllHold star_cases

@@ -4,7 +4,7 @@ use mathlib.Core.List.Memᴰ.{head as here}
 use mathlib.Core.List.Memᴰ.{tail as there}
 use mathlib.Core.List.{List, [], ◌∷◌, Memᴰ as In}
 use mathlib.Core.Logic.{◌⊎◌, inl, inr, ⊎_elim}
-use mathlib.Core.Option.{Option, none, some}
+use Rattle.std.specs.Prelude.{Option, None, Some}
 use Prim.Native.Nat.{ℕ, suc, ◌+◌, ◌≤◌, ◌<◌}
 use native.Mathlib.Omega.{arith}
 use lib.Dec.{leb}
@@ -58,9 +58,9 @@ module _ {S1 S2 : ℕ} where
 
   reached_by_lem : (d : Store) (last : ℕ) (t : Triple) (r : Reached) (o : Option ℕ) → Form S1 S2 d last → InRange S1 S2 t → 0 < d.used.states → find d t ≡ o → reached_by d t o ≡ good r
       → ReachKept S1 S2 d last r
-  reached_by_lem d last t r (some n) form ok any e g =
+  reached_by_lem d last t r (Some n) form ok any e g =
       subst (ReachKept S1 S2 d last) (good_is g) (record { form = form; inside = (find_sound d form t n e).0; states = omega arith; trs = refl; room = refl })
-  reached_by_lem d last t r none form ok any e g =
+  reached_by_lem d last t r None form ok any e g =
       let c = past_check (leb (state_room d.memory) d.used.states) 13 _ r g in
       subst (ReachKept S1 S2 d last) (good_is c.1) (new_reached d last t form ok any (leb-false _ _ c.0))
 

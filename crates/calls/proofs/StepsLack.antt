@@ -6,7 +6,7 @@ use mathlib.Core.List.Memᴰ.{head as here}
 use mathlib.Core.List.Memᴰ.{tail as there}
 use mathlib.Core.List.{List, [], ◌∷◌, ◌++◌, map, Memᴰ as In}
 use mathlib.Core.Logic.{◌⊎◌, inl, inr, ⊎_elim}
-use mathlib.Core.Option.{Option, none, some}
+use Rattle.std.specs.Prelude.{Option, None, Some}
 use Prim.Native.Nat.{ℕ, ◌+◌, ◌<◌, ◌≤◌}
 use native.Mathlib.Omega.{arith}
 use lib.Dec.{leb}
@@ -31,8 +31,8 @@ stood true n k rest e = inl (refl, refused_is (sym e))
 stood false n k rest e = inr e
 
 reach_lacks : (d : Store) (t : Triple) (o : Option ℕ) (k : ℕ) → reached_by d t o ≡ refused k → (k ≡ 13) × (state_room d.memory ≤ d.used.states)
-reach_lacks d t (some n) k e = absurd (good≢refused e)
-reach_lacks d t none k e =
+reach_lacks d t (Some n) k e = absurd (good≢refused e)
+reach_lacks d t None k e =
     ⊎_elim (λ h. (h.1, leb-true _ _ h.0)) (λ h. absurd (good≢refused h)) (stood (leb (state_room d.memory) d.used.states) 13 k _ e)
 
 step_lacks : (d : Store) (next : ℕ) (st : Step) (k : ℕ) → store_step d next st ≡ refused k → (k ≡ 13) × Short d 1
@@ -47,8 +47,8 @@ step_lacks d next st k e =
 -- a stored step takes one transition record and at most one state record
 reach_takes : (d : Store) (t : Triple) (o : Option ℕ) (r : Reached) → reached_by d t o ≡ good r → (r.store.used.trs ≡ d.used.trs) × (r.store.used.states ≤ d.used.states + 1)
 unfolding add_with
-reach_takes d t (some n) r e = subst (λ (q : Reached). (q.store.used.trs ≡ d.used.trs) × (q.store.used.states ≤ d.used.states + 1)) (good_is e) (refl, omega arith)
-reach_takes d t none r e =
+reach_takes d t (Some n) r e = subst (λ (q : Reached). (q.store.used.trs ≡ d.used.trs) × (q.store.used.states ≤ d.used.states + 1)) (good_is e) (refl, omega arith)
+reach_takes d t None r e =
     let c = past_check (leb (state_room d.memory) d.used.states) 13 _ r e in
     subst (λ (q : Reached). (q.store.used.trs ≡ d.used.trs) × (q.store.used.states ≤ d.used.states + 1)) (good_is c.1) (refl, omega arith)
 

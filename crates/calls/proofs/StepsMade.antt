@@ -6,7 +6,8 @@ use mathlib.Core.List.Memᴰ.{head as here}
 use mathlib.Core.List.Memᴰ.{tail as there}
 use mathlib.Core.List.{List, [], ◌∷◌, map, Memᴰ as In}
 use mathlib.Core.Logic.{inl}
-use mathlib.Core.Option.{Option, none, some, none-ne-some, some-injective}
+use Rattle.std.specs.Prelude.{Option, None, Some}
+use Rattle.std.proofs.lemmas.Option.{none-some, same_Some}
 use Prim.Native.Nat.{ℕ, zero, suc, ◌+◌, ◌*◌, ◌≤◌, ◌<◌}
 use native.Mathlib.Omega.{arith}
 use native.Mathlib.Decide.{ℕ_discrete, dec_lt}
@@ -91,9 +92,9 @@ written_length d i st (u ∷ others) (suc k) h w =
 
 -- each written record by its place
 pub written_at : (d : Store) (i : ℕ) (steps : List Step) (k : ℕ) (st : Step) → Written d i steps → At steps k st → (next : ℕ) × IsTr d (i + k) st next
-written_at d i [] k st w e = absurd (none-ne-some _ e)
+written_at d i [] k st w e = absurd (none-some _ e)
 written_at d i (x ∷ xs) zero st w e =
-    let z = some-injective x st e in
+    let z = same_Some x st e in
     (link_at i (non_empty xs), subst (λ j. IsTr d j st (link_at i (non_empty xs))) (omega arith) (subst (λ y. IsTr d i y (link_at i (non_empty xs))) z w.0))
 written_at d i (x ∷ xs) (suc k) st w e = let r = written_at d (suc i) xs k st w.1 e in (r.0, subst (λ j. IsTr d j st r.0) (omega arith) r.1)
 
@@ -150,7 +151,7 @@ any_good (x ∷ xs) = refl
 
 module _ {S1 S2 : ℕ} where
   -- a new state
-  pub led_new : (d : Store) (last : ℕ) (t : Triple) → Form S1 S2 d last → Whole d → InRange S1 S2 t → 0 < d.used.states → d.used.states < state_room d.memory → find d t ≡ none
+  pub led_new : (d : Store) (last : ℕ) (t : Triple) → Form S1 S2 d last → Whole d → InRange S1 S2 t → 0 < d.used.states → d.used.states < state_room d.memory → find d t ≡ None
       → Led S1 S2 d last t (add d t) d.used.states
   unfolding add_with tr_room_with expanded_with
   led_new d last t form whole ok any room e =
@@ -167,7 +168,7 @@ module _ {S1 S2 : ℕ} where
       }
 
   -- a state found
-  pub led_old : (d : Store) (last : ℕ) (t : Triple) (n : ℕ) → Form S1 S2 d last → Whole d → find d t ≡ some n → Led S1 S2 d last t d n
+  pub led_old : (d : Store) (last : ℕ) (t : Triple) (n : ℕ) → Form S1 S2 d last → Whole d → find d t ≡ Some n → Led S1 S2 d last t d n
   led_old d last t n form whole e =
       let r = find_sound d form t n e in
       record { form = form; whole = whole; inside = r.0; holds = r.1; states = omega arith; trs = refl; room = refl; fresh = λ m h l. absurd (omega arith) }
@@ -207,8 +208,8 @@ module _ {S1 S2 : ℕ} where
       subst (StepMade S1 S2 d last next st) (good_is r.2) (step_made d last next st r.0.store r.0.state link (leb-false _ _ c.0) (go (find d st.to) r.0 refl r.1))
     where
       go : (o : Option ℕ) (r : Reached) → find d st.to ≡ o → reached_by d st.to o ≡ good r → Led S1 S2 d last st.to r.store r.state
-      go (some n) r f h = subst (λ (q : Reached). Led S1 S2 d last st.to q.store q.state) (good_is h) (led_old d last st.to n form whole f)
-      go none r f h =
+      go (Some n) r f h = subst (λ (q : Reached). Led S1 S2 d last st.to q.store q.state) (good_is h) (led_old d last st.to n form whole f)
+      go None r f h =
           let c = past_check (leb (state_room d.memory) d.used.states) 13 _ r h in
           subst (λ (q : Reached). Led S1 S2 d last st.to q.store q.state) (good_is c.1) (led_new d last st.to form whole ok any (leb-false _ _ c.0) f)
 

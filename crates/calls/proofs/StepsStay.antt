@@ -2,7 +2,7 @@
 use mathlib.Core.Path.{◌≡◌, refl, sym, ◌∙◌, subst}
 use mathlib.Core.List.{List, [], ◌∷◌}
 use mathlib.Core.Logic.{◌⊎◌, inl, inr, ⊎_elim}
-use mathlib.Core.Option.{Option, none, some}
+use Rattle.std.specs.Prelude.{Option, None, Some}
 use Prim.Native.Nat.{ℕ, ◌+◌, ◌*◌, ◌≤◌, ◌<◌}
 use native.Mathlib.Nat.{mul-le-mul_left}
 use native.Mathlib.Omega.{arith}
@@ -82,8 +82,8 @@ append_stays d st target next = record {
 }
 
 reached_stays : (d : Store) (t : Triple) (o : Option ℕ) (r : Reached) → reached_by d t o ≡ good r → Stays d r.store
-reached_stays d t (some n) r e = subst (λ (q : Reached). Stays d q.store) (good_is e) (stays d)
-reached_stays d t none r e =
+reached_stays d t (Some n) r e = subst (λ (q : Reached). Stays d q.store) (good_is e) (stays d)
+reached_stays d t None r e =
     let c = past_check (leb (state_room d.memory) d.used.states) 13 _ r e in
     subst (λ (q : Reached). Stays d q.store) (good_is c.1) (add_stays d t)
 

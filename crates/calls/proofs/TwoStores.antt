@@ -6,7 +6,7 @@ use mathlib.Core.List.Memᴰ.{head as here}
 use mathlib.Core.List.Memᴰ.{tail as there}
 use mathlib.Core.List.{List, [], ◌∷◌, ◌++◌, Memᴰ as In}
 use mathlib.Core.Logic.{◌⊎◌, inl, inr}
-use mathlib.Core.Option.{Option, none, some}
+use Rattle.std.specs.Prelude.{Option, None, Some}
 use Prim.Native.Nat.{ℕ, suc, ◌+◌, ◌-◌, ◌*◌, ◌≤◌, ◌<◌}
 use native.Mathlib.Omega.{arith}
 use native.Mathlib.Decide.{ℕ_discrete, dec_lt}
@@ -99,7 +99,7 @@ module _ {S1 S2 : ℕ} (last : ℕ) where
     twin_find t = find_alike d e w.form1 w.form2 w.whole1 w.whole2 (sym w.alike.states) (alike_triple d e w.alike) t
 
     -- a new state
-    module _ (t : Triple) (ok : InRange S1 S2 t) (room : d.used.states < state_room d.memory) (f : find d t ≡ none) where
+    module _ (t : Triple) (ok : InRange S1 S2 t) (room : d.used.states < state_room d.memory) (f : find d t ≡ None) where
       room2 : e.used.states < state_room e.memory
       room2 = omega (arith, w.alike.states, w.room.states, room)
 
@@ -156,7 +156,7 @@ module _ {S1 S2 : ℕ} (last : ℕ) where
         }
 
   -- a transition to a new state
-  twin_new : (d e : Store) → Twin S1 S2 last d e → (next : ℕ) (st : Step) → InRange S1 S2 st.to → LinkOk d last next → d.used.trs < tr_room d.memory → d.used.states < state_room d.memory → find d st.to ≡ none
+  twin_new : (d e : Store) → Twin S1 S2 last d e → (next : ℕ) (st : Step) → InRange S1 S2 st.to → LinkOk d last next → d.used.trs < tr_room d.memory → d.used.states < state_room d.memory → find d st.to ≡ None
       → Twin S1 S2 last (append (add d st.to) st d.used.states next) (append (add e st.to) st d.used.states next)
   unfolding add_with tr_room_with
   twin_new d e w next st ok link more room f = twin_append (add d st.to) (add e st.to) (twin_add d e w st.to ok room f) st d.used.states next (omega arith) more link
@@ -168,7 +168,7 @@ module _ {S1 S2 : ℕ} (last : ℕ) where
       more : leb (tr_room d.memory) d.used.trs ≡ false → leb (tr_room e.memory) e.used.trs ≡ false
       more p = let q = leb-false (tr_room d.memory) d.used.trs p in lt-leb (tr_room e.memory) e.used.trs (omega (arith, q, w.alike.trs, w.room.trs))
 
-      new : (b : Bool) → leb (tr_room d.memory) d.used.trs ≡ false → find d st.to ≡ none → leb (state_room d.memory) d.used.states ≡ b → Step2 S1 S2 last d.used.trs (store_step d next st) (store_step e next st)
+      new : (b : Bool) → leb (tr_room d.memory) d.used.trs ≡ false → find d st.to ≡ None → leb (state_room d.memory) d.used.states ≡ b → Step2 S1 S2 last d.used.trs (store_step d next st) (store_step e next st)
       new true p f q = inl (rw (p, f, q))
       new false p f q =
           let room : d.used.states < state_room d.memory = leb-false _ _ q in
@@ -184,8 +184,8 @@ module _ {S1 S2 : ℕ} (last : ℕ) where
           )
 
       found : (o : Option ℕ) → leb (tr_room d.memory) d.used.trs ≡ false → find d st.to ≡ o → Step2 S1 S2 last d.used.trs (store_step d next st) (store_step e next st)
-      found none p f = new (leb (state_room d.memory) d.used.states) p f refl
-      found (some n) p f =
+      found None p f = new (leb (state_room d.memory) d.used.states) p f refl
+      found (Some n) p f =
           inr (append d st n next, append e st n next, rw (p, f), rw (more p, twin_find d e w st.to, f), twin_append d e w st n next (find_sound d w.form1 st.to n f).0 (leb-false _ _ p) link, refl)
 
       go : (b : Bool) → leb (tr_room d.memory) d.used.trs ≡ b → Step2 S1 S2 last d.used.trs (store_step d next st) (store_step e next st)

@@ -1,6 +1,5 @@
 -- 01, "Session and memory" and "Answers": open, expand, final weight, run, and handing back.
-use Rattle.std.specs.Prelude.{Bool, true, false, not, ◌||◌, cond, List, [], ◌∷◌, map, ℕ, zero, suc, ◌+◌, ◌-◌, ◌*◌, min, eqb, leb, take, drop, length}
-use Rattle.std.proofs.Math.Option.{Option, none, some}
+use Rattle.std.specs.Prelude.{Bool, true, false, not, ◌||◌, cond, List, [], ◌∷◌, map, ℕ, zero, suc, ◌+◌, ◌-◌, ◌*◌, min, eqb, leb, take, drop, length, Option, None, Some}
 use Rattle.words.specs.Labels.{Checked, good, refused, refuse_if, and_then}
 use Rattle.words.specs.Sides.{Side, non_empty}
 use Rattle.words.specs.Steps.{Composition, Triple, Step, steps_at, start_at, final_at}
@@ -80,8 +79,8 @@ place_of trs p = min (tr_size * (p.first - 1)) (length trs)
 module _ (L : Layout) where
   -- 13: "a record or, at opening, a head is lacking"; "not if a machine lacks a start: then no state is found"
   unfoldable pub begun_with : Memory → Option Triple → Checked Store
-  begun_with m none = good (cleared m)
-  begun_with m (some t) = refuse_if (eqb (state_room_with L m) 0 || not (non_empty m.heads)) 13 (good (add_with L (cleared m) t))
+  begun_with m None = good (cleared m)
+  begun_with m (Some t) = refuse_if (eqb (state_room_with L m) 0 || not (non_empty m.heads)) 13 (good (add_with L (cleared m) t))
 
   -- "Opening checks 1 to 7, then 13", with 18 among them (02, 2.7); the session it got is "unread", and handed back if refused
   unfoldable pub open_with : Settings → Lent → Session → Memory → Outcome (Unit {0})
@@ -89,8 +88,8 @@ module _ (L : Layout) where
 
   -- "numbers from 0 in order of first finding": the number of a triple is that of the state found, else the first unused one; 13 where its record is lacking
   abbrev pub reached_by_with : Store → Triple → Option ℕ → Checked Reached
-  reached_by_with d t (some n) = good (record { store = d; state = n })
-  reached_by_with d t none = refuse_if (leb (state_room_with L d.memory) d.used.states) 13 (good (record { store = add_with L d t; state = d.used.states }))
+  reached_by_with d t (Some n) = good (record { store = d; state = n })
+  reached_by_with d t None = refuse_if (leb (state_room_with L d.memory) d.used.states) 13 (good (record { store = add_with L d t; state = d.used.states }))
 
   unfoldable pub reach_with : Store → Triple → Checked Reached
   reach_with d t = reached_by_with d t (find_with L d t)

@@ -1,6 +1,5 @@
 -- 02, 2.8, over whole calls: "Every answer is that of 2.7 for the list without them, save that side marks still read as 0 and 18 judges the list as lent."
-use Rattle.std.specs.Prelude.{◌≡◌, true, false, not, ◌||◌, cond, List, [], ℕ, eqb}
-use Rattle.std.proofs.Math.Option.{Option}
+use Rattle.std.specs.Prelude.{◌≡◌, true, false, not, ◌||◌, cond, List, [], ℕ, eqb, Option}
 use Rattle.lists.specs.Lists.{keep_if}
 use Rattle.words.specs.Labels.{eps_label, Checked, refuse_if}
 use Rattle.words.specs.Weights.{kind_of}

@@ -1,7 +1,6 @@
 -- 01, "The listing": what `composed` prints, from the words of its three lines.
-use Rattle.std.specs.Prelude.{cond, ℕ, ◌*◌, ◌/◌, eqb, leb, length, get_or, replicate}
+use Rattle.std.specs.Prelude.{cond, ℕ, ◌*◌, ◌/◌, eqb, leb, length, get_or, replicate, Option, None}
 use mathlib.Core.List.{List, [], ◌∷◌, ◌++◌, map, flat_map}
-use Rattle.std.proofs.Math.Option.{Option, none}
 use Rattle.lists.specs.Lists.{interval}
 use Rattle.words.specs.Labels.{Checked, good, refused, and_then, collect}
 use Rattle.words.specs.Matches.{Tr}
@@ -35,7 +34,7 @@ machine_line m = cond (leb (length m) machine_most) m []
 
 -- "both machines as decimal words, one line each, without allowed lists"; 02, 2.7: "`composed` and the program of 2.6 take an empty one"
 abbrev pub lent_lines : List ℕ → List ℕ → Lent
-lent_lines m1 m2 = record { m1 = machine_line m1; m2 = machine_line m2; allowed1 = none; allowed2 = none; ignored = [] }
+lent_lines m1 m2 = record { m1 = machine_line m1; m2 = machine_line m2; allowed1 = None; allowed2 = None; ignored = [] }
 
 -- "room is 1024 records of each sort and 64 heads"
 abbrev pub empty_memory : Memory

@@ -1,7 +1,6 @@
 -- What a caller that owns its memory does beside the five calls: a run in pieces, all final weights in one go, and slices that are lengthened by a copy. These are ours: document
 -- 01 has the five calls alone.
-use Rattle.std.specs.Prelude.{List, map, ◌++◌, ℕ, zero, suc}
-use Rattle.std.proofs.Math.Option.{Option}
+use Rattle.std.specs.Prelude.{List, map, ◌++◌, ℕ, zero, suc, Option}
 use Rattle.lists.specs.Lists.{interval}
 use Rattle.words.specs.Labels.{Checked, good, refused, collect}
 use Rattle.words.specs.Settings.{Lent}

@@ -1,6 +1,5 @@
 -- 01, "Session and memory": lists of calls. "Each call gets the session last returned, at first the opening's, and memory as last left, refused or not".
-use Rattle.std.specs.Prelude.{List, [], ◌∷◌, ℕ}
-use Rattle.std.proofs.Math.Option.{Option}
+use Rattle.std.specs.Prelude.{List, [], ◌∷◌, ℕ, Option}
 use Rattle.words.specs.Labels.{Checked, good, refused}
 use Rattle.words.specs.Settings.{Settings, Lent}
 use Rattle.calls.specs.Store.{Memory, Part, Layout, six}

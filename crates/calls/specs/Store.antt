@@ -1,6 +1,5 @@
 -- 01, "Session and memory": memory, its records, the chains of states.
-use Rattle.std.specs.Prelude.{List, [], ◌∷◌, ◌++◌, ℕ, ◌+◌, ◌*◌, ◌/◌, ◌%◌, min, length, get_or, set}
-use Rattle.std.proofs.Math.Option.{Option}
+use Rattle.std.specs.Prelude.{List, [], ◌∷◌, ◌++◌, ℕ, ◌+◌, ◌*◌, ◌/◌, ◌%◌, min, length, get_or, set, Option}
 use Rattle.lists.specs.Lists.{put, first, linked}
 use Rattle.words.specs.Machines.{limit}
 use Rattle.words.specs.Matches.{Tr}

@@ -4,7 +4,7 @@ use mathlib.Core.Bool.{Bool, true, false}
 use mathlib.Core.List.Memᴰ
 use mathlib.Core.List.{List, [], ◌∷◌, ◌++◌, map, flat_map, Memᴰ as In}
 use mathlib.Core.Logic.{inl, inr, ⊎_elim}
-use mathlib.Core.Option.{Option, none, some}
+use Rattle.std.specs.Prelude.{Option, None, Some}
 use Prim.Native.Nat.{ℕ, suc, ◌+◌, ◌-◌, ◌*◌, ◌≤◌}
 use native.Mathlib.Omega.{arith}
 use lib.ListN.{length, length-map, length-append}
@@ -70,8 +70,8 @@ module _ (filter : Filter) (A : Operand) (φ : Facts) (f : ℕ) where
   keep_all P (good v ∷ l) a = go (filter (move_kind A v.first v.second) φ f) (keep_all P l a.1)
     where
       go : (o : Option ℕ) → All (λ k. P k.move) (flat_map (keep filter A φ f) l) → All (λ k. P k.move) (kept_by v o ++ flat_map (keep filter A φ f) l)
-      go none r = r
-      go (some g) r = (a.0, r)
+      go None r = r
+      go (Some g) r = (a.0, r)
 
   keep_few : (l : List (Checked Move)) → length (flat_map (keep filter A φ f) l) ≤ length l
   unfolding flat_map
@@ -80,8 +80,8 @@ module _ (filter : Filter) (A : Operand) (φ : Facts) (f : ℕ) where
   keep_few (good v ∷ l) = go (filter (move_kind A v.first v.second) φ f) (keep_few l)
     where
       go : (o : Option ℕ) → length (flat_map (keep filter A φ f) l) ≤ length l → length (kept_by v o ++ flat_map (keep filter A φ f) l) ≤ suc (length l)
-      go none r = omega (arith, r)
-      go (some g) r = omega (arith, r)
+      go None r = omega (arith, r)
+      go (Some g) r = omega (arith, r)
 
 -- the weight of a match is one, or that of a record of the list: rewriting touches labels alone
 sigma_weight : (k : Kind) (o : Operand) (s x t : ℕ) → (given k o s x (viaSigma t)).weight ≡ o.machine.weight t

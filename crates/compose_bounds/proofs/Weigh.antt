@@ -2,7 +2,7 @@
 use mathlib.Core.Path.{◌≡◌, refl}
 use mathlib.Core.Bool.{Bool, true, false, ◌||◌, cond}
 use mathlib.Core.Logic.{◌⊎◌, inl, inr}
-use mathlib.Core.Option.{none, some}
+use Rattle.std.specs.Prelude.{None, Some}
 use Prim.Native.Nat.{ℕ, ◌+◌, ◌*◌, ◌≤◌, ◌<◌}
 use native.Mathlib.Nat.{mul-le-mul, one-mul, mul-one, le_trans}
 use native.Mathlib.Omega.{arith}
@@ -16,20 +16,20 @@ use Rattle.compose_bounds.specs.Serving.{weights_fit}
 abbrev pub Small : Kind → ℕ → ℕ → Type 0
 Small k most w = (w ≡ zero_of k) ⊎ ((w ≡ one k) ⊎ (w ≤ most))
 
-cost_zero : (a b : ℕ) → (a ≡ MAX) ⊎ (b ≡ MAX) → times cost a b ≡ some MAX
+cost_zero : (a b : ℕ) → (a ≡ MAX) ⊎ (b ≡ MAX) → times cost a b ≡ Some MAX
 unfolding times
 cost_zero a b (inl e) = rw (eq-eqb a MAX e)
 cost_zero a b (inr e) = rw (eq-eqb b MAX e) (go (eqb a MAX))
   where
-    go : (x : Bool) → cond (x || true) (some MAX) (cond (ltb (a + b) MAX) (some (a + b)) none) ≡ some MAX
+    go : (x : Bool) → cond (x || true) (Some MAX) (cond (ltb (a + b) MAX) (Some (a + b)) None) ≡ Some MAX
     go true = refl
     go false = refl
 
-cost_sum : (a b p q : ℕ) → p + q < MAX → a ≤ p → b ≤ q → times cost a b ≡ some (a + b)
+cost_sum : (a b p q : ℕ) → p + q < MAX → a ≤ p → b ≤ q → times cost a b ≡ Some (a + b)
 unfolding times
 cost_sum a b p q h x y = rw (ne_eqb a MAX (λ e. omega (arith, e, h, x)), ne_eqb b MAX (λ e. omega (arith, e, h, y)), lt-ltb (a + b) MAX (omega (arith, h, x, y)))
 
-count_product : (a b : ℕ) → a * b ≤ MAX → times count a b ≡ some (a * b)
+count_product : (a b : ℕ) → a * b ≤ MAX → times count a b ≡ Some (a * b)
 unfolding times
 count_product a b h = rw (le-leb (a * b) MAX h)
 
@@ -44,10 +44,10 @@ count_part w p (inl e) = inr (omega (arith, e))
 count_part w p (inr (inl e)) = inl e
 count_part w p (inr (inr h)) = inr h
 
-pub times_fit : (k : Kind) (a b p q : ℕ) → weights_fit k p q ≡ true → a ≤ MAX → b ≤ MAX → Small k p a → Small k q b → (w : ℕ) × (times k a b ≡ some w)
+pub times_fit : (k : Kind) (a b p q : ℕ) → weights_fit k p q ≡ true → a ≤ MAX → b ≤ MAX → Small k p a → Small k q b → (w : ℕ) × (times k a b ≡ Some w)
 times_fit cost a b p q h ma mb x y = go (cost_part a p x) (cost_part b q y)
   where
-    go : (a ≡ MAX) ⊎ (a ≤ p) → (b ≡ MAX) ⊎ (b ≤ q) → (w : ℕ) × (times cost a b ≡ some w)
+    go : (a ≡ MAX) ⊎ (a ≤ p) → (b ≡ MAX) ⊎ (b ≤ q) → (w : ℕ) × (times cost a b ≡ Some w)
     go (inl e) y = (MAX, cost_zero a b (inl e))
     go (inr e) (inl f) = (MAX, cost_zero a b (inr f))
     go (inr e) (inr f) = (a + b, cost_sum a b p q (ltb-true _ _ h) e f)

@@ -2,7 +2,7 @@
 use mathlib.Core.Path.{◌≡◌, refl, sym, ◌∙◌, ap, subst}
 use mathlib.Core.Bool.{Bool, true, ◌||◌}
 use mathlib.Core.List.{List, [], ◌∷◌, ◌++◌, map}
-use mathlib.Core.Option.{Option, none, some}
+use Rattle.std.specs.Prelude.{Option, None, Some}
 use Prim.Native.Nat.{ℕ, ◌+◌, ◌≤◌, min}
 use native.Mathlib.Omega.{arith}
 use Rattle.words.specs.Labels.{MAX, Checked, good, refused}
@@ -68,18 +68,18 @@ note_then P n o q a b e f = f ∙ (ap (λ (z : Notes). note_all P z b) e ∙ sym
 note_weighed : (P : Triple → Bool) (n : Notes) (a b : Transition) (f : ℕ) (o : Option ℕ) (others : List (Checked Step)) → AllGood (weighed a b f o ∷ others)
     → AllGood others × (note_all P (note_to P n (record { s1 = a.target; s2 = b.target; f = f })) others ≡ note_all P n (weighed a b f o ∷ others))
 unfolding note_all
-note_weighed P n a b f (some v) others h = (h.1, refl)
-note_weighed P n a b f none others h = absurd h
+note_weighed P n a b f (Some v) others h = (h.1, refl)
+note_weighed P n a b f None others h = absurd h
 
 -- in either direction
-note_joined : (P : Triple → Bool) (n : Notes) (on : MatchType) (k : Kind) (w l : Transition) (f : ℕ) (others : List (Checked Step)) → AllGood (joined_by on k w l (some f) ++ others)
-    → AllGood others × (note_all P (note_to P n (target_by on f w.target l.target)) others ≡ note_all P n (joined_by on k w l (some f) ++ others))
+note_joined : (P : Triple → Bool) (n : Notes) (on : MatchType) (k : Kind) (w l : Transition) (f : ℕ) (others : List (Checked Step)) → AllGood (joined_by on k w l (Some f) ++ others)
+    → AllGood others × (note_all P (note_to P n (target_by on f w.target l.target)) others ≡ note_all P n (joined_by on k w l (Some f) ++ others))
 note_joined P n inputs k w l f others h = note_weighed P n w l f (times k w.weight l.weight) others h
 note_joined P n outputs k w l f others h = note_weighed P n l w f (times k l.weight w.weight) others h
 
 -- the same of one step by itself
-pub note_one : (P : Triple → Bool) (n : Notes) (on : MatchType) (k : Kind) (w l : Transition) (f : ℕ) → AllGood (joined_by on k w l (some f))
-    → note_to P n (target_by on f w.target l.target) ≡ note_all P n (joined_by on k w l (some f))
+pub note_one : (P : Triple → Bool) (n : Notes) (on : MatchType) (k : Kind) (w l : Transition) (f : ℕ) → AllGood (joined_by on k w l (Some f))
+    → note_to P n (target_by on f w.target l.target) ≡ note_all P n (joined_by on k w l (Some f))
 unfolding note_all
 note_one P n inputs k w l f h = (note_weighed P n w l f (times k w.weight l.weight) [] h).1
 note_one P n outputs k w l f h = (note_weighed P n l w f (times k l.weight w.weight) [] h).1
@@ -102,11 +102,11 @@ stand_first on m s f x first P n h r = record { inside = h; rises = r; left = λ
 module _ {on : MatchType} {m : List ℕ} {s f x first : ℕ} {P : List ℕ → Triple → Bool} {n₀ n : Notes} {u : ℕ} (a : Stand on m s f x first P n₀ n u) where
   -- no record is left
   pub stand_end : with_label on m x u ≡ [] → (trs : List ℕ) (k : Kind) (w : Transition) → w.target ≡ s → AllGood (steps_on on k m w f x first) → n ≡ note_all (P trs) n₀ (steps_on on k m w f x first)
-  stand_end e trs k w t g = note_none (P trs) n (steps_on on k m w f x u) (ap (with_records on k m w (some f)) e ∙ no_records on k m w f) ∙ (a.left trs k w t g).1
+  stand_end e trs k w t g = note_none (P trs) n (steps_on on k m w f x u) (ap (with_records on k m w (Some f)) e ∙ no_records on k m w f) ∙ (a.left trs k w t g).1
 
   -- a record with the label is in hand, and its target is noted
   module _ (z : u ≡ 0 → ⊥) (y : label_on on (machine_of m) u ≡ x) {l : Transition} (t : l ≡ tr_of (machine_of m) u) where
-    here : (k : Kind) (w : Transition) → steps_on on k m w f x u ≡ joined_by on k w l (some f) ++ steps_on on k m w f x (next_of m u)
+    here : (k : Kind) (w : Transition) → steps_on on k m w f x u ≡ joined_by on k w l (Some f) ++ steps_on on k m w f x (next_of m u)
     here k w = steps_here on k m w f x u l (with_on on m x u z a.inside a.rises y).0 t
 
     pub stand_turn : (o : Notes) (c : Triple) → c ≡ target_by on f s l.target → ((trs : List ℕ) → o ≡ note_to (P trs) n c) → Stand on m s f x first P n₀ o (next_of m u)

@@ -1,6 +1,5 @@
 // The steps of a plan gone through as plain loops, each target noted where it is looked for; nothing is stored.
-ghost use Rattle.std.specs.Prelude.{◌≡◌, true, List, ℕ, ◌+◌, ◌<◌, ◌≤◌, min};
-ghost use Rattle.std.proofs.Math.Option.{some};
+ghost use Rattle.std.specs.Prelude.{◌≡◌, true, List, ℕ, ◌+◌, ◌<◌, ◌≤◌, min, Some};
 ghost use Rattle.words.specs.Labels.{MAX};
 ghost use Rattle.words.specs.Weights.{Kind};
 ghost use Rattle.words.specs.Matches.{Tr as Transition};
@@ -145,7 +144,7 @@ fn note_records(
     ensures { (trs : List ℕ) (k : Kind) (w : Transition) → w.target ≡ s.0
         → let on = side_by c.plan in
         let d = store_in heads.now states.now trs c.used in
-        let steps = with_records on k mm.now w (some fs) (with_label on mm.now x.0 from) in
+        let steps = with_records on k mm.now w (Some fs) (with_label on mm.now x.0 from) in
         AllGood steps
         → notes_means chains.new records.new result ≡ note_all (wanted_by d c.classes c.class) (notes_means chains.old records.old seen) steps }
 {

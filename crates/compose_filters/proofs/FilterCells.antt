@@ -1,6 +1,6 @@
 -- "else 0" of the alternate filter; and what a filter sees does not depend on sigma.
 use mathlib.Core.Path.{◌≡◌, refl, sym}
-use mathlib.Core.Option.{some}
+use Rattle.std.specs.Prelude.{Some}
 use Prim.Native.Nat.{ℕ, zero, suc}
 use Rattle.papers.specs.Filter.{lone2, Facts}
 use Rattle.words.specs.Labels.{no_label}
@@ -11,7 +11,7 @@ use Rattle.words.specs.Filters.{none_at, all_at, facts_at, alternate}
 use Rattle.words.proofs.ReplacedLaws.{operand_read}
 use Rattle.fst.specs.Meaning.{as_operand}
 
-pub alternate_else : (φ : Facts) (f : ℕ) → (f ≡ 1 → ⊥) → alternate lone2 φ f ≡ some 0
+pub alternate_else : (φ : Facts) (f : ℕ) → (f ≡ 1 → ⊥) → alternate lone2 φ f ≡ Some 0
 alternate_else φ zero e = refl
 alternate_else φ (suc zero) e = absurd (e refl)
 alternate_else φ (suc (suc f)) e = refl

@@ -1,6 +1,5 @@
 -- What the code's types stand for in 01's table, and a state's epsilons.
-use Rattle.std.specs.Prelude.{Bool, true, false, not, List, ℕ, eqb}
-use Rattle.std.proofs.Math.Option.{Option, none, some}
+use Rattle.std.specs.Prelude.{Bool, true, false, not, List, ℕ, eqb, Option, None, Some}
 use Rattle.lists.specs.Lists.{every}
 use Rattle.papers.specs.Filter.{MoveKind as Row, lone1, lone2, bothEpsilon, aLabel, Facts as Seen}
 use Rattle.words.specs.Labels.{eps_label}
@@ -25,8 +24,8 @@ facts_mean φ = record { none1 = φ.none1; all1 = φ.all1; none2 = φ.none2; all
 
 -- a cell: the next f; none: "drop"
 abbrev pub filtered_means : Filtered → Option ℕ
-filtered_means (Kept f) = some f
-filtered_means Dropped = none
+filtered_means (Kept f) = Some f
+filtered_means Dropped = None
 
 -- whether a label is epsilon where it is wanted, and is not where it is not
 abbrev pub as_wanted : Bool → Bool → Bool

@@ -1,6 +1,5 @@
 -- What the code's settings and the lent slices stand for in `Settings`, `Lent` and `Composition` of `words`; what a start and a final weight stand for.
-use Rattle.std.specs.Prelude.{List, ℕ}
-use Rattle.std.proofs.Math.Option.{Option, none, some}
+use Rattle.std.specs.Prelude.{List, ℕ, Option, None, Some}
 use Rattle.words.specs.Labels.{Checked, good, refused}
 use Rattle.words.specs.Weights.{kind_of}
 use Rattle.words.specs.Matches.{inputs, outputs}
@@ -63,11 +62,11 @@ composing o m1 m2 a1 a2 ignored = composing_words o (words_read outputs (replaci
 
 -- "state 0, if both machines have a start"
 abbrev pub compose_start_means : ComposeStart → Option Triple
-compose_start_means (At t) = some (tuple_means t)
-compose_start_means Missing = none
+compose_start_means (At t) = Some (tuple_means t)
+compose_start_means Missing = None
 
 -- the final weight; none: not final; refusal 12: "weight too large"
 abbrev pub final_means : FinalWeight → Checked (Option ℕ)
-final_means (Weight w) = good (some w)
-final_means NotFinal = good none
+final_means (Weight w) = good (Some w)
+final_means NotFinal = good None
 final_means TooLarge = refused 12

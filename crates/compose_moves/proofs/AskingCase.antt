@@ -5,7 +5,7 @@ use mathlib.Core.Bool.{true, false}
 use mathlib.Core.List.Memᴰ.{head as here}
 use mathlib.Core.List.{List, [], ◌∷◌, flat_map}
 use mathlib.Core.Logic.{inl, inr}
-use mathlib.Core.Option.{none, some}
+use Rattle.std.specs.Prelude.{None, Some}
 use Prim.Native.Nat.{ℕ, suc}
 use contract.Lifetimes.{Lfts}
 use denote.Ref.{Bor}
@@ -118,11 +118,11 @@ module _ (κs : Lfts 3) (κt : Lfts 5) (ptr1 ptr2 : ℕ × ℕ) (unread1 unread2
   asked = (one_step, (lone, one_step, no_step), (lone, one_step, (Done, no_step, no_step)))
 
   -- whatever replies are allowed
-  pub gives : (r : NextStep) → Gets 0 r → given_by r ≡ some (good (record { input = 0; output = 7; weight = 4; to = record { s1 = 1; s2 = 1; f = 0 } }))
+  pub gives : (r : NextStep) → Gets 0 r → given_by r ≡ Some (good (record { input = 0; output = 7; weight = 4; to = record { s1 = 1; s2 = 1; f = 0 } }))
   unfolding steps_at kept_at kept_along walk step_of given direction_at none_at all_at no_epsilon only_epsilons every steps_left walk_left trs_steps tr_steps edge_steps steps_of times flat_map lookup_items lookup sorted_matches sigma_matches sigma_trs labelled items_left matches_left own_left sigma_left with_label records_from keep_if state_count tr_count state_word tr_word first_ok next_ok first_of next_of list_by list_from list_of acceptor_mark words_read heard has
   gives r h = (from_cursor outputs refl (moves_asked_on κs κt (in1 machines.m1) (in2 machines.m2) unread1 unread2 none_ignored options (state 1) (At first) begins)).in_order 0 r h
 
-  pub then_ends : (k : ℕ) (r : NextStep) → Gets (suc k) r → given_by r ≡ none
+  pub then_ends : (k : ℕ) (r : NextStep) → Gets (suc k) r → given_by r ≡ None
   unfolding steps_at kept_at kept_along walk step_of given direction_at none_at all_at no_epsilon only_epsilons every steps_left walk_left trs_steps tr_steps edge_steps steps_of times flat_map lookup_items lookup sorted_matches sigma_matches sigma_trs labelled items_left matches_left own_left sigma_left with_label records_from keep_if state_count tr_count state_word tr_word first_ok next_ok first_of next_of list_by list_from list_of acceptor_mark words_read heard has
   then_ends k r h = (from_cursor outputs refl (moves_asked_on κs κt (in1 machines.m1) (in2 machines.m2) unread1 unread2 none_ignored options (state 1) (At first) begins)).in_order (suc k) r h
 
@@ -138,7 +138,7 @@ module _ (κs : Lfts 3) (κt : Lfts 5) (ptr1 ptr2 : ℕ × ℕ) (unread1 unread2
   unfolding steps_at kept_at kept_along walk step_of given direction_at none_at all_at no_epsilon only_epsilons every steps_left walk_left trs_steps tr_steps edge_steps steps_of times flat_map lookup_items lookup sorted_matches sigma_matches sigma_trs labelled items_left matches_left own_left sigma_left with_label records_from keep_if state_count tr_count state_word tr_word first_ok next_ok first_of next_of list_by list_from list_of acceptor_mark words_read heard has
   too_heavy = (refl, tt)
 
-  pub ever_too_heavy : (k : ℕ) (r : NextStep) → AskedOn HeavyAnswer onward heavy k r → given_by r ≡ some (refused 12)
+  pub ever_too_heavy : (k : ℕ) (r : NextStep) → AskedOn HeavyAnswer onward heavy k r → given_by r ≡ Some (refused 12)
   unfolding steps_at kept_at kept_along walk step_of given direction_at none_at all_at no_epsilon only_epsilons every steps_left walk_left trs_steps tr_steps edge_steps steps_of times flat_map lookup_items lookup sorted_matches sigma_matches sigma_trs labelled items_left matches_left own_left sigma_left with_label records_from keep_if state_count tr_count state_word tr_word first_ok next_ok first_of next_of list_by list_from list_of acceptor_mark words_read heard has
   ever_too_heavy k r h = (from_cursor outputs refl (moves_asked_on κs κt (in1 heavy1) (in2 heavy2) unread1 unread2 none_ignored options (state 0) (At heavy) heavy_begins)).in_order k r h
 

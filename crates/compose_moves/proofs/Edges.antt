@@ -2,7 +2,7 @@
 use mathlib.Core.Path.{◌≡◌, refl, sym, ap, ap₂}
 use mathlib.Core.Bool.{Bool, true, false, true≢false}
 use mathlib.Core.List.{List, [], ◌∷◌, ◌++◌, flat_map}
-use mathlib.Core.Option.{Option, none, some}
+use Rattle.std.specs.Prelude.{Option, None, Some}
 use Prim.Native.Nat.{ℕ, zero, suc, ◌≤◌}
 use Rattle.words.specs.Labels.{Checked, good, refused}
 use Rattle.words.specs.Matches.{MatchType, tr_of}
@@ -47,10 +47,10 @@ unfoldable pub edge_made : List ℕ → Fixed → ℕ → List Item → List (Ch
 edge_made mw w t ms = flat_map (pair_steps (on_of w.on) (present_of w) (edge_item mw t)) ms
 
 abbrev is_some : Option Item → Bool
-is_some none = false
-is_some (some i) = true
+is_some None = false
+is_some (Some i) = true
 
-some_is : {i j : Item} → some i ≡ some j → i ≡ j
+some_is : {i j : Item} → Some i ≡ Some j → i ≡ j
 some_is e = cc
 
 -- the look-up gives a match: it is the head of what was left

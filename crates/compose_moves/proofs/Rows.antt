@@ -4,7 +4,7 @@ use mathlib.Core.Path.{◌≡◌, refl, sym, ap, ◌∙◌}
 use mathlib.Core.Bool.{Bool, true, false, true≢false}
 use mathlib.Core.List.{List, map, Memᴰ as In}
 use mathlib.Core.Logic.{◌≢◌, ⊎_elim}
-use mathlib.Core.Option.{Option, none, some}
+use Rattle.std.specs.Prelude.{Option, None, Some}
 use Prim.Native.Nat.{ℕ, zero, suc}
 use lib.Dec.{eqb}
 use borrow.Author.Tests.{eq-eqb, ne_eqb}
@@ -84,8 +84,8 @@ module _ (c : Composition) (t : Triple) where
       → step_if c.kind (given c.kind c.operand1 t.s1 (asks c.operand2 v.second) v.first) (given c.kind c.operand2 t.s2 (asks c.operand1 v.first) v.second) o
       ≡ map (λ k. and_then k (step_of c t)) (kept_by v o)
   unfolding step_of
-  kept_one v none = refl
-  kept_one v (some g) = refl
+  kept_one v None = refl
+  kept_one v (Some g) = refl
 
   -- two items make what the two matches make, where they give the same transitions and stand in the same row
   same_steps : (v : Move) (a b : Item)

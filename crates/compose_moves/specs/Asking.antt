@@ -1,6 +1,5 @@
 -- 02, 2.5, for the moves of a composed state: asked on, they are the steps of the definition, and then the end ever after.
-use Rattle.std.specs.Prelude.{◌≡◌, List, [], ◌∷◌, ℕ, zero, suc}
-use Rattle.std.proofs.Math.Option.{Option, none, some}
+use Rattle.std.specs.Prelude.{◌≡◌, List, [], ◌∷◌, ℕ, zero, suc, Option, None, Some}
 use Rattle.lists.specs.Asking.{AskedOn}
 use Rattle.words.specs.Labels.{Checked, good, refused}
 use Rattle.words.specs.Matches.{MatchType}
@@ -19,9 +18,9 @@ use Rattle.compose_moves.specs.declared.NextStep.TheVariants.{Step as AStep, Don
 
 -- what an answer of the code gives; none: the end
 abbrev pub given_by : NextStep → Option (Checked Step)
-given_by (AStep r c) = some (good (compose_tr_means r))
-given_by Done = none
-given_by (Refused n) = some (refused n)
+given_by (AStep r c) = Some (good (compose_tr_means r))
+given_by Done = None
+given_by (Refused n) = Some (refused n)
 
 -- The cursor to ask on with: the one that was handed back; the end and a refusal hand back none, and are asked again with the same.
 abbrev pub onward : MoveCursor → NextStep → MoveCursor
@@ -31,10 +30,10 @@ onward c (Refused n) = c
 
 -- What asking number k is to give of a list of steps: the step at place k, and past the end none. Nothing after a refusal counts: where one stands, it is given, and ever after.
 abbrev pub answer_at : List (Checked Step) → ℕ → Option (Checked Step)
-answer_at [] k = none
-answer_at (good st ∷ l) zero = some (good st)
+answer_at [] k = None
+answer_at (good st ∷ l) zero = Some (good st)
 answer_at (good st ∷ l) (suc k) = answer_at l k
-answer_at (refused n ∷ l) k = some (refused n)
+answer_at (refused n ∷ l) k = Some (refused n)
 
 -- From the cursor c on, the steps of a composed state are given. `Answers c r` is what the function that is asked for the next step promises of its reply r.
 pub record GivesSteps (Answers : MoveCursor → NextStep → Type 0) (o : ComposeFstOpOptions) (l : Lent) (tuple : ComposeStateTuple) (steps : List (Checked Step)) (c : MoveCursor) : Type 0 where

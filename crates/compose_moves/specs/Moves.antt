@@ -1,6 +1,5 @@
 -- One move of the code: machine 1's match and machine 2's, each the loop or a whole transition.
-use Rattle.std.specs.Prelude.{cond, List, [], ◌∷◌, ℕ, eqb}
-use Rattle.std.proofs.Math.Option.{Option, none, some}
+use Rattle.std.specs.Prelude.{cond, List, [], ◌∷◌, ℕ, eqb, Option, None, Some}
 use Rattle.papers.specs.Filter.{MoveKind, lone1, lone2, bothEpsilon, aLabel, Facts, Filter}
 use Rattle.words.specs.Labels.{eps_label, Checked, good, refused}
 use Rattle.words.specs.Weights.{Kind, one, times, kind_of}
@@ -38,8 +37,8 @@ row_of (whole t) (whole u) = cond (eqb t.output eps_label) bothEpsilon aLabel
 
 -- a move that the filter drops makes nothing; one that it keeps makes a step, or is refused by 12
 abbrev pub step_if : Kind → Transition → Transition → Option ℕ → List (Checked Step)
-step_if k a b none = []
-step_if k a b (some g) = weighed a b g (times k a.weight b.weight) ∷ []
+step_if k a b None = []
+step_if k a b (Some g) = weighed a b g (times k a.weight b.weight) ∷ []
 
 -- what the two matches make
 unfoldable pub steps_of : Present → Item → Item → List (Checked Step)

@@ -1,6 +1,5 @@
 // One move: what the filter says of it, and the composed transition that it makes.
-ghost use Rattle.std.specs.Prelude.{◌≡◌};
-ghost use Rattle.std.proofs.Math.Option.{some};
+ghost use Rattle.std.specs.Prelude.{◌≡◌, Some};
 ghost use Rattle.words.specs.Weights.{kind_of};
 ghost use Rattle.fst.specs.Meaning.{on_of, tr_means};
 ghost use Rattle.matchers.specs.Meaning.{match_means};
@@ -79,7 +78,7 @@ fn move_kind(first: IterItemMatcher, second: IterItemMatcher) -> MoveKind
 
 // The composed transition of a kept move, or refusal 12.
 fn add_tr(kind: u32, tr1: Tr, tr2: Tr, fs: u32) -> Made
-    ensures { made_means result ≡ step_if (kind_of kind) (tr_means tr1) (tr_means tr2) (some fs) }
+    ensures { made_means result ≡ step_if (kind_of kind) (tr_means tr1) (tr_means tr2) (Some fs) }
 {
     let ilabel = tr1.ilabel;
     let olabel = tr2.olabel;

@@ -2,7 +2,7 @@
 use mathlib.Core.Path.{◌≡◌, refl, sym, ◌∙◌, ap, ap₂}
 use mathlib.Core.Bool.{Bool, true, false, cond}
 use mathlib.Core.List.{List, flat_map}
-use mathlib.Core.Option.{Option, some}
+use Rattle.std.specs.Prelude.{Option, Some}
 use Prim.Native.Nat.{ℕ}
 use lib.Dec.{eqb}
 use Rattle.papers.specs.Filter.{bothEpsilon, aLabel, Facts}
@@ -42,7 +42,7 @@ walked_words inputs m1 m2 = m1
 walked_words outputs m1 m2 = m2
 
 -- two transitions with one label: "a label" is kept, and f becomes 0
-pair_cell : (n : ℕ) (φ : Facts) (f : ℕ) (cell : Option ℕ) (b : Bool) → cell ≡ filter_of n bothEpsilon φ f → cond b cell (some 0) ≡ filter_of n (cond b bothEpsilon aLabel) φ f
+pair_cell : (n : ℕ) (φ : Facts) (f : ℕ) (cell : Option ℕ) (b : Bool) → cell ≡ filter_of n bothEpsilon φ f → cond b cell (Some 0) ≡ filter_of n (cond b bothEpsilon aLabel) φ f
 pair_cell n φ f cell true e = e
 pair_cell n φ f cell false e = sym (label_kept n φ f)
 
@@ -103,7 +103,7 @@ module _ (o : ComposeFstOpOptions) (m1 m2 a1 a2 : List ℕ) (t : Triple) where
     alone = λ u. made_is (move_of outputs (own u) loop) _ _ _ _ (ap kind_of h.kind) (same_rest (ap kind_of h.kind) h.looked) refl h.lone_walked_lem;
     pairs = λ u w e.
         made_is (move_of outputs (own u) (own w)) _ _ _ _ (ap kind_of h.kind) refl refl
-        (ap (λ (x : ℕ). cond (eqb x eps_label) (filtered_means v.both) (some 0)) (sym e) ∙ pair_cell o.filter φ t.f _ (eqb (inner A w) eps_label) h.both);
+        (ap (λ (x : ℕ). cond (eqb x eps_label) (filtered_means v.both) (Some 0)) (sym e) ∙ pair_cell o.filter φ t.f _ (eqb (inner A w) eps_label) h.both);
   }
 
   -- in a direction

@@ -2,7 +2,7 @@
 use mathlib.Core.Path.{◌≡◌, refl, sym, ◌∙◌, ap, ap₂, subst}
 use mathlib.Core.Bool.{Bool, true, false, cond}
 use mathlib.Core.List.{List, ◌∷◌, ◌++◌, map, map-map, flat_map, Memᴰ as In}
-use mathlib.Core.Option.{Option, some}
+use Rattle.std.specs.Prelude.{Option, Some}
 use Prim.Native.Nat.{ℕ}
 use native.Mathlib.Omega.{arith}
 use lib.Dec.{eqb}
@@ -48,7 +48,7 @@ module _ (v : Plan) (mw mm : List ℕ) (σw σm : Sigma) (F : Checked Move → L
     pub rests : (u : ℕ) → F (good (move_of d loop (own u))) ≡ joined_by d kind (as_tr kind v.walked.0 the_loop) (tr_of (machine_of mm) u) (filtered_means v.lone_looked)
     pub alone : (t : ℕ) → F (good (move_of d (own t) loop)) ≡ joined_by d kind (tr_of (machine_of mw) t) (as_tr kind v.looked.0 the_loop) (filtered_means v.lone_walked)
     pub pairs : (t u : ℕ) → inner (M d) u ≡ inner (W d) t
-        → F (good (move_of d (own t) (own u))) ≡ joined_by d kind (tr_of (machine_of mw) t) (tr_of (machine_of mm) u) (cond (eqb (inner (W d) t) eps_label) (filtered_means v.both) (some 0))
+        → F (good (move_of d (own t) (own u))) ≡ joined_by d kind (tr_of (machine_of mw) t) (tr_of (machine_of mm) u) (cond (eqb (inner (W d) t) eps_label) (filtered_means v.both) (Some 0))
 
   module _ (form : well_formed mw ≡ true) (plain : σm.label ≡ no_label) (first : v.list.first ≡ first_of mm v.looked.0) where
     abbrev d : MatchType
@@ -68,11 +68,11 @@ module _ (v : Plan) (mw mm : List ℕ) (σw σm : Sigma) (F : Checked Move → L
     module _ (joins : Joins d) where
       -- a walked transition with each record of its label
       paired : (t : ℕ) (b : Bool) (x : ℕ) → eqb (inner (W d) t) eps_label ≡ b → inner (W d) t ≡ x
-          → flat_map F (map (λ u. good (move_of d (own t) (own u))) (labelled d (machine_of mm) sm x)) ≡ with_labelled v mm (tr_of (machine_of mw) t) (cond b (filtered_means v.both) (some 0)) x
+          → flat_map F (map (λ u. good (move_of d (own t) (own u))) (labelled d (machine_of mm) sm x)) ≡ with_labelled v mm (tr_of (machine_of mw) t) (cond b (filtered_means v.both) (Some 0)) x
       paired t b x e z =
           flat_map_lem F (λ u. good (move_of d (own t) (own u))) (labelled d (machine_of mm) sm x)
-          ∙ with_label_lem (λ u. F (good (move_of d (own t) (own u)))) (tr_of (machine_of mw) t) (cond b (filtered_means v.both) (some 0)) x
-          (λ u h. subst (λ (c : Bool). F (good (move_of d (own t) (own u))) ≡ joined_by d kind (tr_of (machine_of mw) t) (tr_of (machine_of mm) u) (cond c (filtered_means v.both) (some 0))) e (joins.pairs t u (h ∙ sym z)))
+          ∙ with_label_lem (λ u. F (good (move_of d (own t) (own u)))) (tr_of (machine_of mw) t) (cond b (filtered_means v.both) (Some 0)) x
+          (λ u h. subst (λ (c : Bool). F (good (move_of d (own t) (own u))) ≡ joined_by d kind (tr_of (machine_of mw) t) (tr_of (machine_of mm) u) (cond c (filtered_means v.both) (Some 0))) e (joins.pairs t u (h ∙ sym z)))
 
       -- one walked transition
       edge : (t : ℕ) → In t (list_of mw v.walked.0) → flat_map F (moves_of_tr d (W d) (M d) sm t) ≡ record_by v mw mm t
@@ -81,7 +81,7 @@ module _ (v : Plan) (mw mm : List ℕ) (σw σm : Sigma) (F : Checked Move → L
         where
           go : (b : Bool) → eqb (inner (W d) t) eps_label ≡ b
               → flat_map F (cond b (good (move_of d (own t) loop) ∷ map (λ u. good (move_of d (own t) (own u))) (epsilons (M d) sm)) (moves_of d (own t) (lookup (M d) sm (inner (W d) t))))
-              ≡ cond b (eps_by v mm (tr_of (machine_of mw) t)) (with_labelled v mm (tr_of (machine_of mw) t) (some 0) (inner (W d) t))
+              ≡ cond b (eps_by v mm (tr_of (machine_of mw) t)) (with_labelled v mm (tr_of (machine_of mw) t) (Some 0) (inner (W d) t))
           go true e = ap₂ ◌++◌ (joins.alone t) (paired t true eps_label e (eqb-true _ _ e))
           go false e =
               let below = label_below (walked_side d) mw form v.walked.0 t i in

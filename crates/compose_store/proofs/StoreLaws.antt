@@ -2,7 +2,7 @@
 use mathlib.Core.Path.{◌≡◌}
 use mathlib.Core.Bool.{Bool, true, false}
 use mathlib.Core.List.{List}
-use mathlib.Core.Option.{Option, none, some}
+use Rattle.std.specs.Prelude.{Option, None, Some}
 use Prim.Native.Nat.{ℕ, ◌<◌}
 use lib.Dec.{leb}
 use borrow.Author.Tests.{lt-leb}
@@ -13,11 +13,11 @@ use Rattle.calls.specs.Calls.{Reached, reached_by, reach, store_step, reach_with
 use Rattle.store_records.specs.Meaning.{stored}
 use Rattle.compose_store.specs.Meaning.{Accepted}
 
-pub reach_found : (d : Store) (t : Triple) (n : ℕ) → find d t ≡ some n → reach d t ≡ good (record { store = d; state = n })
+pub reach_found : (d : Store) (t : Triple) (n : ℕ) → find d t ≡ Some n → reach d t ≡ good (record { store = d; state = n })
 unfolding reach_with
 reach_found d t n e = rw e
 
-pub reach_new : (d : Store) (t : Triple) → find d t ≡ none → d.used.states < state_room d.memory → reach d t ≡ good (record { store = add d t; state = d.used.states })
+pub reach_new : (d : Store) (t : Triple) → find d t ≡ None → d.used.states < state_room d.memory → reach d t ≡ good (record { store = add d t; state = d.used.states })
 unfolding reach_with
 reach_new d t e h = rw (e, lt-leb _ _ h)
 
@@ -27,8 +27,8 @@ room_any false x y h = tt
 
 find_any : (heads states : List ℕ) (n : ℕ) (t : Triple) (trs other : List ℕ) (k j : ℕ) (o : Option ℕ) → Accepted (reached_by (stored heads states trs n k) t o) → Accepted (reached_by (stored heads states other n j) t o)
 unfolding state_room_with
-find_any heads states n t trs other k j (some m) h = tt
-find_any heads states n t trs other k j none h =
+find_any heads states n t trs other k j (Some m) h = tt
+find_any heads states n t trs other k j None h =
     room_any (leb (room_of state_size states) n) (record { store = add (stored heads states trs n k) t; state = n }) (record { store = add (stored heads states other n j) t; state = n }) h
 
 -- transitions play no part in reaching a triple

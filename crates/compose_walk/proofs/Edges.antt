@@ -2,7 +2,7 @@
 use mathlib.Core.Path.{◌≡◌, refl, sym, ◌∙◌, ap, ap₂, subst}
 use mathlib.Core.Bool.{Bool, true, false}
 use mathlib.Core.List.{List, [], ◌∷◌, ◌++◌, flat_map}
-use mathlib.Core.Option.{Option, none, some}
+use Rattle.std.specs.Prelude.{Option, None, Some}
 use Prim.Native.Nat.{ℕ, ◌≤◌}
 use native.Mathlib.Omega.{arith}
 use lib.Dec.{leb}
@@ -68,7 +68,7 @@ no_length [] e = refl
 no_length (u ∷ us) e = absurd (omega arith)
 
 -- no pair is made with no record, nor where the filter drops it
-no_pair : (on : MatchType) (k : Kind) (a b : Transition) (cell : Option ℕ) → cell ≡ none → joined_by on k a b cell ≡ []
+no_pair : (on : MatchType) (k : Kind) (a b : Transition) (cell : Option ℕ) → cell ≡ None → joined_by on k a b cell ≡ []
 no_pair inputs k a b cell e = rw e
 no_pair outputs k a b cell e = rw e
 
@@ -76,7 +76,7 @@ pub no_records : (on : MatchType) (k : Kind) (mm : List ℕ) (w : Transition) (c
 unfolding with_records flat_map
 no_records on k mm w cell us e = rw e
 
-pub no_pairs : (on : MatchType) (k : Kind) (mm : List ℕ) (w : Transition) (cell : Option ℕ) (us : List ℕ) → cell ≡ none → with_records on k mm w cell us ≡ []
+pub no_pairs : (on : MatchType) (k : Kind) (mm : List ℕ) (w : Transition) (cell : Option ℕ) (us : List ℕ) → cell ≡ None → with_records on k mm w cell us ≡ []
 unfolding with_records flat_map
 no_pairs on k mm w cell [] e = refl
 no_pairs on k mm w cell (u ∷ us) e = ap₂ (λ (x y : List (Checked Step)). x ++ y) (no_pair on k w (tr_of (machine_of mm) u) cell e) (no_pairs on k mm w cell us e)
@@ -107,13 +107,13 @@ abbrev pub both_by : Plan → List ℕ → Transition → List (Checked Step)
 both_by v mm w = with_labelled v mm w (filtered_means v.both) eps_label
 
 -- the first as the code has it
-pub alone_is : (v : Plan) (w u : Transition) (f : ℕ) → u ≡ as_tr (kind_of v.kind) v.looked.0 the_loop → v.lone_walked ≡ Kept f → joined_by (side_by v) (kind_of v.kind) w u (some f) ≡ alone_by v w
+pub alone_is : (v : Plan) (w u : Transition) (f : ℕ) → u ≡ as_tr (kind_of v.kind) v.looked.0 the_loop → v.lone_walked ≡ Kept f → joined_by (side_by v) (kind_of v.kind) w u (Some f) ≡ alone_by v w
 alone_is v w u f p q = ap₂ (λ (z : Transition) (o : Filtered). joined_by (side_by v) (kind_of v.kind) w z (filtered_means o)) p (sym q)
 
 pub alone_none : (v : Plan) (w : Transition) → v.lone_walked ≡ Dropped → alone_by v w ≡ []
 alone_none v w q = no_pair (side_by v) (kind_of v.kind) w (as_tr (kind_of v.kind) v.looked.0 the_loop) (filtered_means v.lone_walked) (ap filtered_means q)
 
-pub both_is : (v : Plan) (mm : List ℕ) (w : Transition) (f : ℕ) → v.both ≡ Kept f → with_labelled v mm w (some f) eps_label ≡ both_by v mm w
+pub both_is : (v : Plan) (mm : List ℕ) (w : Transition) (f : ℕ) → v.both ≡ Kept f → with_labelled v mm w (Some f) eps_label ≡ both_by v mm w
 both_is v mm w f q = ap (λ (o : Filtered). with_labelled v mm w (filtered_means o) eps_label) (sym q)
 
 module _ (v : Plan) (mm : List ℕ) (w : Transition) where
@@ -122,16 +122,16 @@ module _ (v : Plan) (mm : List ℕ) (w : Transition) where
   unfolding edge_by
   edge_eps x e = rw (eq-eqb x eps_label e)
 
-  pub edge_label : (x : ℕ) → (x ≡ eps_label → ⊥) → edge_by v mm w x ≡ with_labelled v mm w (some 0) x
+  pub edge_label : (x : ℕ) → (x ≡ eps_label → ⊥) → edge_by v mm w x ≡ with_labelled v mm w (Some 0) x
   unfolding edge_by
   edge_label x e = rw (ne_eqb x eps_label e)
 
   pub edge_from : (x from : ℕ) → (x ≡ eps_label → ⊥) → from ≡ head0 (with_label (side_by v) mm x v.list.first)
-      → edge_by v mm w x ≡ with_records (side_by v) (kind_of v.kind) mm w (some 0) (with_label (side_by v) mm x from)
-  edge_from x from n e = edge_label x n ∙ ap (with_records (side_by v) (kind_of v.kind) mm w (some 0)) (sym (from_again (side_by v) mm x v.list.first from e))
+      → edge_by v mm w x ≡ with_records (side_by v) (kind_of v.kind) mm w (Some 0) (with_label (side_by v) mm x from)
+  edge_from x from n e = edge_label x n ∙ ap (with_records (side_by v) (kind_of v.kind) mm w (Some 0)) (sym (from_again (side_by v) mm x v.list.first from e))
 
 -- the rest as the code has it
-pub rest_is : (v : Plan) (mm : List ℕ) (w : Transition) (f : ℕ) → w ≡ as_tr (kind_of v.kind) v.walked.0 the_loop → v.lone_looked ≡ Kept f → with_labelled v mm w (some f) eps_label ≡ rest_by v mm
+pub rest_is : (v : Plan) (mm : List ℕ) (w : Transition) (f : ℕ) → w ≡ as_tr (kind_of v.kind) v.walked.0 the_loop → v.lone_looked ≡ Kept f → with_labelled v mm w (Some f) eps_label ≡ rest_by v mm
 rest_is v mm w f p q = ap₂ (λ (z : Transition) (o : Filtered). with_labelled v mm z (filtered_means o) eps_label) p (sym q)
 
 module _ (v : Plan) (mw mm : List ℕ) where

@@ -2,7 +2,7 @@
 use mathlib.Core.Path.{◌≡◌, refl, sym, ◌∙◌, ap, subst}
 use mathlib.Core.Bool.{Bool, true, false, or_comm}
 use mathlib.Core.List.{List, [], ◌∷◌, ◌++◌, flat_map}
-use mathlib.Core.Option.{Option, none, some}
+use Rattle.std.specs.Prelude.{Option, None, Some}
 use Prim.Native.Nat.{ℕ, ◌≤◌, ◌<◌}
 use native.Mathlib.Nat.{add_comm, mul_comm}
 use native.Mathlib.Omega.{arith}
@@ -32,13 +32,13 @@ times_swap cost a b = rw (or_comm (eqb a MAX) (eqb b MAX), add_comm a b)
 times_swap count a b = rw (mul_comm a b)
 
 -- a step that is no refusal has a product
-some_product : (a b : Transition) (f : ℕ) (o : Option ℕ) (d : Store) (others : List (Checked Step)) → Fits d (weighed a b f o ∷ others) → (v : ℕ) × (o ≡ some v)
-some_product a b f (some v) d others h = (v, refl)
-some_product a b f none d others h = absurd h
+some_product : (a b : Transition) (f : ℕ) (o : Option ℕ) (d : Store) (others : List (Checked Step)) → Fits d (weighed a b f o ∷ others) → (v : ℕ) × (o ≡ Some v)
+some_product a b f (Some v) d others h = (v, refl)
+some_product a b f None d others h = absurd h
 
 -- so what fits has one at its front, in either direction
-pub fits_product : (on : MatchType) (k : Kind) (w l : Transition) (f : ℕ) (d : Store) (others : List (Checked Step)) → Fits d (joined_by on k w l (some f) ++ others)
-    → (v : ℕ) × (times k w.weight l.weight ≡ some v)
+pub fits_product : (on : MatchType) (k : Kind) (w l : Transition) (f : ℕ) (d : Store) (others : List (Checked Step)) → Fits d (joined_by on k w l (Some f) ++ others)
+    → (v : ℕ) × (times k w.weight l.weight ≡ Some v)
 fits_product inputs k w l f d others h = some_product w l f (times k w.weight l.weight) d others h
 fits_product outputs k w l f d others h =
     let p = some_product l w f (times k l.weight w.weight) d others h in (p.0, times_swap k w.weight l.weight ∙ p.1)
@@ -81,7 +81,7 @@ some_here on m x u h r n = (some_record, go (eqb (label_on on (machine_of m) u) 
     go true e = eqb-true _ _ e
     go false e = absurd (omega (arith, n, ap length (with_stops on m x u some_record h r (eqb-false _ _ e))))
 
-pub no_records : (on : MatchType) (k : Kind) (m : List ℕ) (w : Transition) (f : ℕ) → with_records on k m w (some f) [] ≡ []
+pub no_records : (on : MatchType) (k : Kind) (m : List ℕ) (w : Transition) (f : ℕ) → with_records on k m w (Some f) [] ≡ []
 unfolding with_records flat_map
 no_records on k m w f = refl
 
@@ -89,13 +89,13 @@ no_records on k m w f = refl
 module _ (on : MatchType) (k : Kind) (m : List ℕ) (w : Transition) (f x : ℕ) where
   -- the steps from record u on
   abbrev pub steps_on : ℕ → List (Checked Step)
-  steps_on u = with_records on k m w (some f) (with_label on m x u)
+  steps_on u = with_records on k m w (Some f) (with_label on m x u)
 
   -- at a record with the label, whose transition is l: its step comes first
   pub steps_here : (u : ℕ) (l : Transition) → with_label on m x u ≡ u ∷ with_label on m x (next_of m u) → l ≡ tr_of (machine_of m) u
-      → steps_on u ≡ joined_by on k w l (some f) ++ steps_on (next_of m u)
+      → steps_on u ≡ joined_by on k w l (Some f) ++ steps_on (next_of m u)
   unfolding with_records flat_map
-  steps_here u l e t = ap (with_records on k m w (some f)) e ∙ ap (λ (r : Transition). joined_by on k w r (some f) ++ steps_on (next_of m u)) (sym t)
+  steps_here u l e t = ap (with_records on k m w (Some f)) e ∙ ap (λ (r : Transition). joined_by on k w r (Some f) ++ steps_on (next_of m u)) (sym t)
 
 -- where a loop over these records stands: at record u, with the store d
 pub record Stands (on : MatchType) (k : Kind) (m : List ℕ) (w : Transition) (f x : ℕ) (d₀ : Store) (all : List (Checked Step)) (d : Store) (u : ℕ) : Type 0 where
@@ -106,17 +106,17 @@ pub record Stands (on : MatchType) (k : Kind) (m : List ℕ) (w : Transition) (f
 module _ {on : MatchType} {k : Kind} {m : List ℕ} {w : Transition} {f x : ℕ} {d₀ : Store} {all : List (Checked Step)} {d : Store} {u : ℕ} (a : Stands on k m w f x d₀ all d u) where
   -- no record is left
   pub at_end : with_label on m x u ≡ [] → d ≡ store_all d₀ all
-  at_end e = left_none (ap (with_records on k m w (some f)) e ∙ no_records on k m w f) a.left
+  at_end e = left_none (ap (with_records on k m w (Some f)) e ∙ no_records on k m w f) a.left
 
   -- a record with the label is in hand
   module _ (n : u ≡ 0 → ⊥) (y : label_on on (machine_of m) u ≡ x) {l : Transition} (t : l ≡ tr_of (machine_of m) u) where
-    front : steps_on on k m w f x u ≡ joined_by on k w l (some f) ++ steps_on on k m w f x (next_of m u)
+    front : steps_on on k m w f x u ≡ joined_by on k w l (Some f) ++ steps_on on k m w f x (next_of m u)
     front = steps_here on k m w f x u l (with_on on m x u n a.inside a.rises y).0 t
 
-    pub at_product : (v : ℕ) × (times k w.weight l.weight ≡ some v)
+    pub at_product : (v : ℕ) × (times k w.weight l.weight ≡ Some v)
     at_product = fits_product on k w l f d (steps_on on k m w f x (next_of m u)) (subst (Fits d) front a.left.fits)
 
-    module _ {st : Step} (j : joined_by on k w l (some f) ≡ good st ∷ []) where
+    module _ {st : Step} (j : joined_by on k w l (Some f) ≡ good st ∷ []) where
       first : steps_on on k m w f x u ≡ good st ∷ steps_on on k m w f x (next_of m u)
       first = front ∙ ap (λ (r : List (Checked Step)). r ++ steps_on on k m w f x (next_of m u)) j
 

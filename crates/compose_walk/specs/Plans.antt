@@ -1,7 +1,6 @@
 -- The steps of a composed state by a plan: which list is walked, which is looked up, and the three cells of the filters' table that its epsilons meet. No label is sigma.
-use Rattle.std.specs.Prelude.{◌≡◌, true, cond, ℕ, ◌<◌, eqb}
+use Rattle.std.specs.Prelude.{◌≡◌, true, cond, ℕ, ◌<◌, eqb, Option, Some}
 use mathlib.Core.List.{List, ◌++◌, flat_map}
-use Rattle.std.proofs.Math.Option.{Option, some}
 use Rattle.words.specs.Labels.{eps_label, Checked}
 use Rattle.words.specs.Weights.{Kind, kind_of}
 use Rattle.words.specs.Matches.{MatchType, inputs, outputs, Tr as Transition, tr_of}
@@ -40,7 +39,7 @@ eps_by v mm w =
 
 -- all that a walked transition makes; "for another label, each match", and f becomes 0
 unfoldable pub edge_by : Plan → List ℕ → Transition → ℕ → List (Checked Step)
-edge_by v mm w x = cond (eqb x eps_label) (eps_by v mm w) (with_labelled v mm w (some 0) x)
+edge_by v mm w x = cond (eqb x eps_label) (eps_by v mm w) (with_labelled v mm w (Some 0) x)
 
 -- "Machine 1 is matched on outputs, 2 on inputs.": the inner label of a walked transition
 abbrev pub walked_label : MatchType → Transition → ℕ

@@ -4,8 +4,7 @@
 
 mod pairs;
 
-ghost use Rattle.std.specs.Prelude.{◌≡◌, true, List, ℕ, ◌≤◌, length};
-ghost use Rattle.std.proofs.Math.Option.{some};
+ghost use Rattle.std.specs.Prelude.{◌≡◌, true, List, ℕ, ◌≤◌, length, Some};
 ghost use Rattle.words.specs.Labels.{eps_label};
 ghost use Rattle.words.specs.Weights.{kind_of};
 ghost use Rattle.words.specs.Machines.{tr_count, well_formed};
@@ -58,10 +57,10 @@ fn with_label(
 ) -> Used
     requires { let d = store_in heads.old states.old trs.old used in
         (well_formed mm.now ≡ true) × (base ≡ record_base mm.now) × (from ≤ tr_count mm.now) × (rising (on_of on) mm.now x.0 from ≡ true)
-        × Fits d (with_records (on_of on) (kind_of kind) mm.now (tr_means edge) (some 0) (with_label (on_of on) mm.now x.0 from)) × Chained d }
+        × Fits d (with_records (on_of on) (kind_of kind) mm.now (tr_means edge) (Some 0) (with_label (on_of on) mm.now x.0 from)) × Chained d }
     ensures { let d = store_in heads.old states.old trs.old used in
         store_in heads.new states.new trs.new result
-        ≡ store_all d (with_records (on_of on) (kind_of kind) mm.now (tr_means edge) (some 0) (with_label (on_of on) mm.now x.0 from)) }
+        ≡ store_all d (with_records (on_of on) (kind_of kind) mm.now (tr_means edge) (Some 0) (with_label (on_of on) mm.now x.0 from)) }
 {
     let k = word_on(on);
     let mut grown = used;
@@ -95,10 +94,10 @@ fn with_eps(
     requires { let d = store_in heads.old states.old trs.old used in
         (well_formed mm.now ≡ true) × (base ≡ record_base mm.now) × (first ≤ tr_count mm.now) × (rising (on_of on) mm.now eps_label first ≡ true)
         × (count ≡ length (with_label (on_of on) mm.now eps_label first))
-        × Fits d (with_records (on_of on) (kind_of kind) mm.now (tr_means edge) (some fs) (with_label (on_of on) mm.now eps_label first)) × Chained d }
+        × Fits d (with_records (on_of on) (kind_of kind) mm.now (tr_means edge) (Some fs) (with_label (on_of on) mm.now eps_label first)) × Chained d }
     ensures { let d = store_in heads.old states.old trs.old used in
         store_in heads.new states.new trs.new result
-        ≡ store_all d (with_records (on_of on) (kind_of kind) mm.now (tr_means edge) (some fs) (with_label (on_of on) mm.now eps_label first)) }
+        ≡ store_all d (with_records (on_of on) (kind_of kind) mm.now (tr_means edge) (Some fs) (with_label (on_of on) mm.now eps_label first)) }
 {
     let mut grown = used;
     let mut u = first;

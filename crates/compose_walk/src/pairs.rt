@@ -1,6 +1,5 @@
 // One composed transition: made of a walked transition and a looked-up one, and stored with the state of its target.
-ghost use Rattle.std.specs.Prelude.{◌≡◌, List, [], ◌∷◌, ℕ, ◌<◌};
-ghost use Rattle.std.proofs.Math.Option.{none, some};
+ghost use Rattle.std.specs.Prelude.{◌≡◌, List, [], ◌∷◌, ℕ, ◌<◌, None, Some};
 ghost use Rattle.words.specs.Labels.{good};
 ghost use Rattle.words.specs.Weights.{kind_of, times as timesOf};
 ghost use Rattle.calls.specs.Store.{find, state_size, room_of};
@@ -25,7 +24,7 @@ use store_records::{Used, push_tr};
 fn place(heads: &mut [u32], states: &mut [u32], used: u32, tuple: ComposeStateTuple) -> Reached
     requires { (trs : List ℕ) (k : ℕ) →
         let d = stored heads.old states.old trs used k in
-        Chained d × (find d (tuple_means tuple) ≡ none → used < room_of state_size states.old) }
+        Chained d × (find d (tuple_means tuple) ≡ None → used < room_of state_size states.old) }
     ensures { (trs : List ℕ) (k : ℕ) →
         let d = stored heads.old states.old trs used k in
         reached_means heads.new states.new trs k result ≡ place_of d (tuple_means tuple) }
@@ -79,8 +78,8 @@ pub fn push(
 
 // A product that is not too large.
 fn product(kind: u32, a: u32, b: u32) -> u32
-    requires { (w : ℕ) × (timesOf (kind_of kind) a b ≡ some w) }
-    ensures { timesOf (kind_of kind) a b ≡ some result }
+    requires { (w : ℕ) × (timesOf (kind_of kind) a b ≡ Some w) }
+    ensures { timesOf (kind_of kind) a b ≡ Some result }
 {
     let found = times(kind, a, b);
     match found {
@@ -103,8 +102,8 @@ pub fn resting(kind: u32, s: StateId) -> Tr
 
 // What a walked transition and a looked-up one make, where their product is not too large: machine 1's input and machine 2's output.
 pub fn joined(kind: u32, on: MatchType, walked: Tr, looked: Tr, fs: u32) -> ComposeTr
-    requires { (w : ℕ) × (timesOf (kind_of kind) walked.weight looked.weight ≡ some w) }
-    ensures { joined_by (on_of on) (kind_of kind) (tr_means walked) (tr_means looked) (some fs) ≡ good (compose_tr_means result) ∷ [] }
+    requires { (w : ℕ) × (timesOf (kind_of kind) walked.weight looked.weight ≡ Some w) }
+    ensures { joined_by (on_of on) (kind_of kind) (tr_means walked) (tr_means looked) (Some fs) ≡ good (compose_tr_means result) ∷ [] }
 {
     let weight = product(kind, walked.weight, looked.weight);
     let s = walked.nextstate;

@@ -2,7 +2,8 @@
 use mathlib.Core.Path.{◌≡◌, refl, sym, ◌∙◌, ap, subst}
 use mathlib.Core.Bool.{Bool, true, false, not, ◌&&◌, ◌||◌, and-true, and-false, or-false, or_assoc, true≢false, false≢true}
 use mathlib.Core.List.{List, ◌∷◌}
-use mathlib.Core.Option.{Option, none, some, none-ne-some, some-injective}
+use Rattle.std.specs.Prelude.{Option, None, Some}
+use Rattle.std.proofs.lemmas.Option.{none-some, same_Some}
 use Prim.Native.Nat.{ℕ, suc, ◌+◌, ◌-◌, ◌*◌, ◌/◌, ◌≤◌, ◌<◌, min}
 use native.Mathlib.Omega.{arith}
 use lib.Dec.{eqb, leb}
@@ -112,7 +113,7 @@ module _ (P : Triple → Bool) (k : ℕ) (steps : List (Checked Step)) (room : �
 
 -- the marked records of a set are those whose triple has Q
 abbrev pub Marked : Store → List ℕ → (Triple → Bool) → Type 0
-Marked d marks Q = (t : Triple) (n : ℕ) → find d t ≡ some n → eqb (get_or marks n 0) 0 ≡ not (Q t)
+Marked d marks Q = (t : Triple) (n : ℕ) → find d t ≡ Some n → eqb (get_or marks n 0) 0 ≡ not (Q t)
 
 -- Q, or one triple more
 abbrev pub or_this : (Triple → Bool) → Triple → Triple → Bool
@@ -128,8 +129,8 @@ module _ (d : Store) (marks : List ℕ) (a : Triple) where
       by_mark n false = refl
 
       by_found : (o : Option ℕ) → length (mark_at o marks).1 ≡ length marks
-      by_found none = refl
-      by_found (some n) = by_mark n (eqb (get_or marks n 0) 0)
+      by_found None = refl
+      by_found (Some n) = by_mark n (eqb (get_or marks n 0) 0)
 
   mark_most : (mark_of d marks a).0 ≤ 1
   unfolding mark_of
@@ -140,8 +141,8 @@ module _ (d : Store) (marks : List ℕ) (a : Triple) where
       by_mark n false = omega arith
 
       by_found : (o : Option ℕ) → (mark_at o marks).0 ≤ 1
-      by_found none = omega arith
-      by_found (some n) = by_mark n (eqb (get_or marks n 0) 0)
+      by_found None = omega arith
+      by_found (Some n) = by_mark n (eqb (get_or marks n 0) 0)
 
   -- at most one is marked, in as many words
   pub mark_small : (r : ℕ) (marks' : List ℕ) → (r, marks') ≡ mark_of d marks a → (r ≤ 1) × (length marks' ≡ length marks)
@@ -157,12 +158,12 @@ module _ (d : Store) (marks : List ℕ) (Q : Triple → Bool) (a : Triple) (mark
     unfolding mark_of
     mark_marks t m e = by_found (find d a) refl (same_triple a t) refl
       where
-        this : Marked d marks Q → same_triple a t ≡ true → find d a ≡ some m
+        this : Marked d marks Q → same_triple a t ≡ true → find d a ≡ Some m
         this h p = ap (find d) (same_triple_lem a t p) ∙ e
 
-        by_mark : (n : ℕ) → find d a ≡ some n → (b : Bool) → eqb (get_or marks n 0) 0 ≡ b → (c : Bool) → same_triple a t ≡ c → eqb (get_or (mark_if b marks n).1 m 0) 0 ≡ not (or_this Q a t)
+        by_mark : (n : ℕ) → find d a ≡ Some n → (b : Bool) → eqb (get_or marks n 0) 0 ≡ b → (c : Bool) → same_triple a t ≡ c → eqb (get_or (mark_if b marks n).1 m 0) 0 ≡ not (or_this Q a t)
         by_mark n f true p true q =
-            let z : m ≡ n = some-injective m n (sym (this marked q) ∙ f) in
+            let z : m ≡ n = same_Some m n (sym (this marked q) ∙ f) in
             let l = (set_sound d chained a n f).0 in
             let g : get_or (set marks n 1) n 0 ≡ 1 = get_or-set_same marks n 1 0 (omega (arith, l, long)) in
             rw (z, g, q, or_true (Q t)) refl
@@ -170,14 +171,14 @@ module _ (d : Store) (marks : List ℕ) (Q : Triple → Bool) (a : Triple) (mark
             let apart : m ≡ n → ⊥ = λ z. true≢false (sym (ap (λ u. same_triple u t) (sym (set_sound d chained a n f).1 ∙ (ap (triple_at d.memory.states) (sym z) ∙ (set_sound d chained t m e).1)) ∙ same_self t) ∙ q) in
             ap (λ x. eqb x 0) (get_or-set_other marks n m 1 0 apart) ∙ (marked t m e ∙ other_mark t q)
         by_mark n f false p true q =
-            let z : n ≡ m = some-injective n m (sym f ∙ this marked q) in
+            let z : n ≡ m = same_Some n m (sym f ∙ this marked q) in
             rw (← z, p, q, or_true (Q t)) refl
         by_mark n f false p false q = marked t m e ∙ other_mark t q
 
         by_found : (o : Option ℕ) → find d a ≡ o → (c : Bool) → same_triple a t ≡ c → eqb (get_or (mark_at o marks).1 m 0) 0 ≡ not (or_this Q a t)
-        by_found (some n) f c q = by_mark n f (eqb (get_or marks n 0) 0) refl c q
-        by_found none f true q = absurd (none-ne-some m (sym f ∙ this marked q))
-        by_found none f false q = marked t m e ∙ other_mark t q
+        by_found (Some n) f c q = by_mark n f (eqb (get_or marks n 0) 0) refl c q
+        by_found None f true q = absurd (none-some m (sym f ∙ this marked q))
+        by_found None f false q = marked t m e ∙ other_mark t q
 
   -- the triples without Q that the steps go to are as many less as were marked
   pub mark_count : (P : Triple → Bool) (k : ℕ) (steps : List (Checked Step)) (room : ℕ) → Filled P k steps room d
@@ -189,7 +190,7 @@ module _ (d : Store) (marks : List ℕ) (Q : Triple → Bool) (a : Triple) (mark
       let m = by_found (find d a) refl (fill.holding a) in
       omega (arith, n, same, m)
     where
-      by_mark : (n : ℕ) → find d a ≡ some n → true ≡ (P a && reached_within a k steps) → (b : Bool) → eqb (get_or marks n 0) 0 ≡ b → (mark_if b marks n).0 ≡ one ((P a && not (Q a)) && reached_within a k steps)
+      by_mark : (n : ℕ) → find d a ≡ Some n → true ≡ (P a && reached_within a k steps) → (b : Bool) → eqb (get_or marks n 0) 0 ≡ b → (mark_if b marks n).0 ≡ one ((P a && not (Q a)) && reached_within a k steps)
       by_mark n f h b p = told b ∙ sym (ap one (and_swap (P a) (not (Q a)) (reached_within a k steps) ∙ (ap (λ x. x && not (Q a)) (sym h) ∙ (sym (marked a n f) ∙ p))))
         where
           told : (b : Bool) → (mark_if b marks n).0 ≡ one b
@@ -197,8 +198,8 @@ module _ (d : Store) (marks : List ℕ) (Q : Triple → Bool) (a : Triple) (mark
           told false = refl
 
       by_found : (o : Option ℕ) → find d a ≡ o → is_found (find d a) ≡ (P a && reached_within a k steps) → (mark_at o marks).0 ≡ one ((P a && not (Q a)) && reached_within a k steps)
-      by_found none f h = sym (ap one (and_swap (P a) (not (Q a)) (reached_within a k steps) ∙ ap (λ x. x && not (Q a)) (sym h ∙ ap is_found f)))
-      by_found (some n) f h = by_mark n f (sym (ap is_found f) ∙ h) (eqb (get_or marks n 0) 0) refl
+      by_found None f h = sym (ap one (and_swap (P a) (not (Q a)) (reached_within a k steps) ∙ ap (λ x. x && not (Q a)) (sym h ∙ ap is_found f)))
+      by_found (Some n) f h = by_mark n f (sym (ap is_found f) ∙ h) (eqb (get_or marks n 0) 0) refl
 
 -- A window while it is filled: k steps from `before` on, of those that come from `steps` on, up to `count`, with `rest` after them; e holds their targets that d lacks.
 pub record Filling (d : Store) (before : ℕ) (steps rest : List (Checked Step)) (count room : ℕ) (e : Store) : Type 0 where

@@ -5,7 +5,7 @@ use mathlib.Core.Bool.{Bool, true, false, not, ◌&&◌, ◌||◌, and-true, and
 use mathlib.Core.List.Memᴰ.{head as here}
 use mathlib.Core.List.Memᴰ.{tail as there}
 use mathlib.Core.List.{List, [], ◌∷◌, Memᴰ as In}
-use mathlib.Core.Option.{Option, none, some}
+use Rattle.std.specs.Prelude.{Option, None, Some}
 use Prim.Native.Nat.{ℕ, zero, suc, ◌+◌, ◌*◌, ◌<◌}
 use native.Mathlib.Omega.{arith}
 use native.Mathlib.Numerals.{add-one}
@@ -63,7 +63,7 @@ record Grown (S1 S2 : ℕ) (d : Store) (all : List (Checked Step)) (last i : ℕ
   lacks : (t : Triple) → is_new d all i t ≡ missing (find e t)
 
 -- a triple is missing after a step just where it was and is not the step's target
-lacks_next : (e f : Store) (to : Triple) (n : ℕ) → find f to ≡ some n → ((t : Triple) → same_triple to t ≡ false → find f t ≡ find e t) → (t : Triple)
+lacks_next : (e f : Store) (to : Triple) (n : ℕ) → find f to ≡ Some n → ((t : Triple) → same_triple to t ≡ false → find f t ≡ find e t) → (t : Triple)
     → (missing (find e t) && not (same_triple to t)) ≡ missing (find f t)
 lacks_next e f to n found other t = go (same_triple to t) refl
   where
@@ -76,7 +76,7 @@ module _ {S1 S2 : ℕ} (d : Store) (all : List (Checked Step)) (last : ℕ) wher
   append_grown : (e f : Store) (i n next : ℕ) (s : Step) (others : List (Checked Step)) → Grown S1 S2 d all last i e → Ahead i all (good s ∷ others)
       → Form S1 S2 f last → state_room f.memory ≡ state_room e.memory → tr_room f.memory ≡ tr_room e.memory → f.used.trs ≡ e.used.trs → n < f.used.states
       → e.used.trs < tr_room e.memory → LinkOk e last next
-      → find f s.to ≡ some n → ((t : Triple) → same_triple s.to t ≡ false → find f t ≡ find e t)
+      → find f s.to ≡ Some n → ((t : Triple) → same_triple s.to t ≡ false → find f t ≡ find e t)
       → Grown S1 S2 d all last (suc i) (append f s n next)
   unfolding append find_with chain_with tr_room_with state_room_with
   append_grown e f i n next s others g a form sr tr same inside room l found other = record {
@@ -93,7 +93,7 @@ module _ {S1 S2 : ℕ} (d : Store) (all : List (Checked Step)) (last : ℕ) wher
     abbrev next : ℕ
     next = next_for e (non_empty others)
 
-    found_grown : (n : ℕ) → find e s.to ≡ some n → Grown S1 S2 d all last (suc i) (append e s n next)
+    found_grown : (n : ℕ) → find e s.to ≡ Some n → Grown S1 S2 d all last (suc i) (append e s n next)
     found_grown n p = append_grown e e i n next s others g a g.form refl refl refl (find_sound e g.form s.to n p).0 room (link_ok e last others (omega arith)) p (λ t q. refl)
 
     new_grown : e.used.states < state_room e.memory → Grown S1 S2 d all last (suc i) (append (add e s.to) s e.used.states next)
@@ -126,8 +126,8 @@ module _ {S1 S2 : ℕ} (d : Store) (all : List (Checked Step)) (last : ℕ) wher
         → and_then (count_state (missing o) (state_room e.memory) e.used.states) (λ v. weigh_from d all (i + 1) v others)
         ≡ rest (and_then (reached_by e s.to o) put)
     unfolding append count_state
-    by_find (some n) p rec = rec (append e s n next) (found_grown n p) (omega (arith, h))
-    by_find none p rec = by_room (leb (state_room e.memory) e.used.states) refl rec
+    by_find (Some n) p rec = rec (append e s n next) (found_grown n p) (omega (arith, h))
+    by_find None p rec = by_room (leb (state_room e.memory) e.used.states) refl rec
 
   -- its transition record is there, or 13
   by_tr : (i : ℕ) (e : Store) (s : Step) (others : List (Checked Step)) → Grown S1 S2 d all last i e → Ahead i all (good s ∷ others) → InRange S1 S2 s.to → e.used.trs + suc (length others) ≡ last

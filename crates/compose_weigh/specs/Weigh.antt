@@ -1,6 +1,5 @@
 -- 01, "Ids inserted before an error: first weigh and count the moves, then store.": what the weighing decides. It reads the store and changes nothing.
-use Rattle.std.specs.Prelude.{Bool, true, false, not, ◌&&◌, ◌||◌, cond, List, [], ◌∷◌, ℕ, zero, suc, ◌+◌, leb}
-use Rattle.std.proofs.Math.Option.{Option, none, some}
+use Rattle.std.specs.Prelude.{Bool, true, false, not, ◌&&◌, ◌||◌, cond, List, [], ◌∷◌, ℕ, zero, suc, ◌+◌, leb, Option, None, Some}
 use Rattle.words.specs.Labels.{Checked, good, refused, refuse_if, and_then}
 use Rattle.words.specs.Steps.{Triple, Step}
 use Rattle.calls.specs.Store.{Store, state_room, tr_room, same_triple, find}
@@ -14,8 +13,8 @@ reached_within t (suc i) (good s ∷ others) = same_triple s.to t || reached_wit
 
 -- the table lacks it
 abbrev pub missing : Option ℕ → Bool
-missing none = true
-missing (some n) = false
+missing None = true
+missing (Some n) = false
 
 -- t needs a new state when i of all steps are stored: the table lacks it, and none of those steps went to it
 unfoldable pub is_new : Store → List (Checked Step) → ℕ → Triple → Bool

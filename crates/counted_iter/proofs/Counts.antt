@@ -2,7 +2,8 @@
 use mathlib.Core.Path.{◌≡◌, refl, sym, ap, ◌∙◌}
 use mathlib.Core.Bool.{Bool, true, false, cond}
 use mathlib.Core.List.{List, [], ◌∷◌, map}
-use mathlib.Core.Option.{none, none-ne-some}
+use Rattle.std.specs.Prelude.{None}
+use Rattle.std.proofs.lemmas.Option.{none-some}
 use Prim.Native.Nat.{ℕ, ◌+◌, ◌≤◌}
 use native.Mathlib.Omega.{arith}
 use lib.Dec.{eqb, leb}
@@ -65,13 +66,13 @@ module _ (m : List ℕ) (c : Cursor) where
   count_no_loop n l e = e ∙ ap (λ (b : Bool). length (put_if b loop (in_phase c.phase m c))) (sym l)
 
 -- an asking that gives none had none to give
-pub none_left : (m : List ℕ) (c : Cursor) (left : List Item) → record { given = none; left = left } ≡ asked (items_left m c) → 0 ≡ length (matches_left m c)
+pub none_left : (m : List ℕ) (c : Cursor) (left : List Item) → record { given = None; left = left } ≡ asked (items_left m c) → 0 ≡ length (matches_left m c)
 unfolding items_left
 none_left m c left e = go (matches_left m c) e
   where
-    go : (us : List Match) → record { given = none; left = left } ≡ asked (items_of m c us) → 0 ≡ length us
+    go : (us : List Match) → record { given = None; left = left } ≡ asked (items_of m c us) → 0 ≡ length us
     go [] h = refl
-    go (u ∷ us) h = absurd (none-ne-some _ (ap (λ (x : Asked). x.given) h))
+    go (u ∷ us) h = absurd (none-some _ (ap (λ (x : Asked). x.given) h))
 
 -- what the look-up gives, counted: as many as its matches
 pub items_counted : (o : Operand) (s x : ℕ) (m : List ℕ) (c : Cursor) → good (items_left m c) ≡ lookup_items o s x → good (length (matches_left m c)) ≡ fan_out o s x

@@ -3,7 +3,8 @@
 use mathlib.Core.Path.{◌≡◌, refl, sym, ap, subst, ◌∙◌}
 use mathlib.Core.Bool.{Bool, cond}
 use mathlib.Core.List.{List, [], ◌∷◌, map}
-use mathlib.Core.Option.{none, none-ne-some, some-injective}
+use Rattle.std.specs.Prelude.{None}
+use Rattle.std.proofs.lemmas.Option.{none-some, same_Some}
 use Prim.Native.Nat.{ℕ}
 use contract.Lifetimes.{Lfts}
 use denote.Ref.{Bor}
@@ -85,7 +86,7 @@ count_is_handed_out κs κt w g allowed on labels sigma s x i (count, (first, pl
     m = read_as on labels g.now w.now
 
     both : Bool
-    both = (operand_in (on_of on) m sigma none).sigma.rewrite_both
+    both = (operand_in (on_of on) m sigma None).sigma.rewrite_both
 
     stands : Bool
     stands = stands_for sigma.label.0 (allowed_of sigma.listed allowed.now) x.0
@@ -117,7 +118,7 @@ count_is_handed_out κs κt w g allowed on labels sigma s x i (count, (first, pl
     refused_at (Refused k) n e = ap Refused (refused_is e)
 
     none_at_lem : (j : CountedIter) → first_means m j ≡ good (asked []) → Apart SameEdge [] → GoesOnAt j (cursor_after m begin) → (c : Cursor) × (j ≡ Empty c) × Gives (NextReply κt w g) m s.0 asks item [] c
-    none_at_lem (First k v c) e d p = absurd (none-ne-some _ (sym (ap (λ (y : Asked). y.given) (good_is e))))
+    none_at_lem (First k v c) e d p = absurd (none-some _ (sym (ap (λ (y : Asked). y.given) (good_is e))))
     none_at_lem (Empty c) e d p = (c, refl, all [] c (ap (λ (y : Asked). y.left) (good_is e)) d (held c p))
     none_at_lem (Refused k) e d p = absurd (good≢refused (sym e))
 
@@ -125,8 +126,8 @@ count_is_handed_out κs κt w g allowed on labels sigma s x i (count, (first, pl
         → (v : IterItemMatcher) × (c : Cursor) × (j ≡ First (length (u ∷ us)) v c) × (match_means v ≡ item u) × Gives (NextReply κt w g) m s.0 asks item us c
     first_at_lem (First k v c) u us n e d p =
         let h = good_is e in
-        (v, c, ap (λ (z : ℕ). First z v c) (good_is n), some-injective _ _ (ap (λ (y : Asked). y.given) h), all us c (ap (λ (y : Asked). y.left) h) d.1 (held c p))
-    first_at_lem (Empty c) u us n e d p = absurd (none-ne-some _ (ap (λ (y : Asked). y.given) (good_is e)))
+        (v, c, ap (λ (z : ℕ). First z v c) (good_is n), same_Some _ _ (ap (λ (y : Asked). y.given) h), all us c (ap (λ (y : Asked). y.left) h) d.1 (held c p))
+    first_at_lem (Empty c) u us n e d p = absurd (none-some _ (ap (λ (y : Asked). y.given) (good_is e)))
     first_at_lem (Refused k) u us n e d p = absurd (good≢refused (sym e))
 
     handed : (j : CountedIter) (n : ℕ) (l : List Match) → lookup operand s.0 x.0 ≡ good l → n ≡ length l → first_means m j ≡ good (asked (map item l)) → count_means j ≡ good (length l)

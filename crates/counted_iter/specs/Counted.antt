@@ -1,6 +1,5 @@
 -- What the answer of a look-up that counts stands for.
-use Rattle.std.specs.Prelude.{◌≡◌, List, ℕ}
-use Rattle.std.proofs.Math.Option.{none, some}
+use Rattle.std.specs.Prelude.{◌≡◌, List, ℕ, None, Some}
 use Rattle.words.specs.Labels.{Checked, good, refused}
 use Rattle.matchers.specs.Meaning.{match_means}
 use Rattle.matchers.specs.Cursors.{Asked, items_left}
@@ -16,8 +15,8 @@ count_means (Refused k) = refused k
 
 -- the first match (none: there is none), and what is left to give
 abbrev pub first_means : List ℕ → CountedIter → Checked Asked
-first_means m (First n u c) = good (record { given = some (match_means u); left = items_left m c })
-first_means m (Empty c) = good (record { given = none; left = items_left m c })
+first_means m (First n u c) = good (record { given = Some (match_means u); left = items_left m c })
+first_means m (Empty c) = good (record { given = None; left = items_left m c })
 first_means m (Refused k) = refused k
 
 -- the cursor to ask on with is d, where it is not refused

@@ -1,6 +1,5 @@
 -- 02, 2.6: "It is proved equal to the number of matches then handed out".
-use Rattle.std.specs.Prelude.{◌≡◌, List, [], ◌∷◌, ℕ, suc, ◌≤◌, ◌<◌, length}
-use Rattle.std.proofs.Math.Option.{none, some}
+use Rattle.std.specs.Prelude.{◌≡◌, List, [], ◌∷◌, ℕ, suc, ◌≤◌, ◌<◌, length, None, Some}
 use Rattle.lists.specs.Asking.{AskedOn}
 use Rattle.words.specs.Labels.{Checked, good, refused}
 use Rattle.words.specs.Matches.{Match}
@@ -17,8 +16,8 @@ use Rattle.counted_iter.specs.declared.CountedIter.TheVariants.{First, Empty, Re
 -- Asked on from the cursor c, n matches are handed out before the end: each of the first n askings gives one, and none after them does. `Answers c r` is what a function that is asked for the next match
 -- promises of its reply r.
 pub record HandsOut (Answers : Cursor → Step → Type 0) (c : Cursor) (n : ℕ) : Type 0 where
-  pub gives : (k : ℕ) (r : Step) → AskedOn Answers onward c k r → k < n → (i : Item) × (given_by r ≡ some i)
-  pub ends : (k : ℕ) (r : Step) → AskedOn Answers onward c k r → n ≤ k → given_by r ≡ none
+  pub gives : (k : ℕ) (r : Step) → AskedOn Answers onward c k r → k < n → (i : Item) × (given_by r ≡ Some i)
+  pub ends : (k : ℕ) (r : Step) → AskedOn Answers onward c k r → n ≤ k → given_by r ≡ None
 
 -- n matches are handed out in all: the first with the answer itself, and the others by asking on
 abbrev pub HandedOut : (Cursor → Step → Type 0) → CountedIter → ℕ → Type 0

@@ -1,10 +1,9 @@
 // The look-up of a label with its fan-out (02, 2.6): the matches are counted along the list, and their number is stated with the first. The expansion takes `sigma_iter`, which does not count.
 #![tactic(auto)]
 
-ghost use Rattle.std.specs.Prelude.{◌≡◌, ◌+◌, ◌≤◌, cond, eqb, length};
+ghost use Rattle.std.specs.Prelude.{◌≡◌, ◌+◌, ◌≤◌, cond, eqb, length, None};
 ghost use Rattle.words.specs.Labels.{MAX, good, and_then};
 ghost use Rattle.words.specs.Machines.{first_of};
-ghost use Rattle.std.proofs.Math.Option.{none};
 ghost use Rattle.fst.specs.Meaning.{on_of, read_as};
 ghost use Rattle.fan_outs.specs.FanOut.{fan_out};
 ghost use Rattle.matchers.specs.Meaning.{allowed_of, operand_in, lookup_items, stands_for};
@@ -123,7 +122,7 @@ pub fn counted_iter(
         let operand = operand_in (on_of on) words sigma allowed in
         first_means words result ≡ and_then (lookup_items operand s.0 label.0) (λ items. good (asked items)) }
     ensures place { let words = read_as on sigmas ignored.now m.now in
-        let both = (operand_in (on_of on) words sigma none).sigma.rewrite_both in
+        let both = (operand_in (on_of on) words sigma None).sigma.rewrite_both in
         let from = cond (stands_for sigma.label.0 (allowed_of sigma.listed allowed.now) label.0) (first_of words s.0) 0 in
         GoesOnAt result (cursor_after words (first_cursor words on sigmas s label sigma.label both from)) }
 {

@@ -1,8 +1,7 @@
 // Reads settings, two machines and a query (machine, state, label), a line each, and prints how many matches the look-up of the label gives, or `refused n`.
 #![tactic(auto)]
 
-ghost use Rattle.std.specs.Prelude.{◌≡◌, [], IfSome};
-ghost use Rattle.std.proofs.Math.Option.{none};
+ghost use Rattle.std.specs.Prelude.{◌≡◌, [], IfSome, None};
 ghost use Rattle.io.specs.Counts.{IsPrefixLen};
 ghost use Rattle.fan_outs.specs.FanOut.{fan_out_line};
 ghost use Rattle.listing_text.specs.FanOutText.{fan_out_bytes, ended_fan_out};
@@ -27,14 +26,14 @@ const NO_MACHINE: u32 = 0;
 
 // The fan-out that the words of the four lines ask for, without allowed lists and ignored labels.
 fn look_up(settings: &[u32], m1: &[u32], m2: &[u32], query: &[u32]) -> FanOut
-    ensures { let l = lent_slices m1.now m2.now none none [] in
+    ensures { let l = lent_slices m1.now m2.now None None [] in
         fan_out_means result ≡ fan_out_line settings.now l query.now }
 {
     if settings.len() != SETTINGS_WORDS {
         return FanOut::Refused(REFUSED_SETTINGS);
     }
     let wanted = read_settings(settings);
-    let none = AllowedLists {
+    let None = AllowedLists {
         first: false,
         second: false,
     };

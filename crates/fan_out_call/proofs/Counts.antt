@@ -1,7 +1,7 @@
 -- How many matches there are does not depend on how sigma is rewritten: the number is that of the definition's operand.
 use mathlib.Core.Path.{◌≡◌}
 use mathlib.Core.List.{List}
-use mathlib.Core.Option.{Option}
+use Rattle.std.specs.Prelude.{Option}
 use Prim.Native.Nat.{ℕ}
 use Rattle.words.specs.Matches.{MatchType}
 use Rattle.words.specs.Ignored.{Ignored, acceptor_read, words_read}

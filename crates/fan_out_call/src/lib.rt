@@ -1,8 +1,7 @@
 // The fan-out of a look-up (02, 2.6) for a caller that is lent no memory: checks 1 to 7 with 18, then 9 for machine and state, then the look-up with its 11. No public function has a precondition.
 #![tactic(auto)]
 
-ghost use Rattle.std.specs.Prelude.{◌≡◌, List, ℕ};
-ghost use Rattle.std.proofs.Math.Option.{Option};
+ghost use Rattle.std.specs.Prelude.{◌≡◌, List, ℕ, Option};
 ghost use Rattle.fan_outs.specs.FanOut.{fan_out, states_of, operand_numbered, fan_out_at, fan_out_of};
 ghost use Rattle.session_checks.specs.Meaning.{settings_means, lent_slices};
 ghost use Rattle.lazy_fst.specs.Meaning.{lent_with};

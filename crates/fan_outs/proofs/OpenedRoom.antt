@@ -1,7 +1,7 @@
 -- The room of `composed` is enough for every opening, which is then refused by the checks 1 to 7 and 18 or not at all: so a caller that is lent no memory gets what the program prints.
 use mathlib.Core.Path.{◌≡◌, refl, ◌∙◌}
 use mathlib.Core.List.{List}
-use mathlib.Core.Option.{Option, none, some}
+use Rattle.std.specs.Prelude.{Option, None, Some}
 use Prim.Native.Nat.{ℕ}
 use native.Mathlib.Omega.{arith}
 use lib.ListN.{length, get_or}
@@ -23,8 +23,8 @@ unfolding open_with
 room_enough s l got after = go (side_for s l) refl
   where
     by_start : (side : Side) (t : Option Triple) → side_for s l ≡ good side → start_at (composition_of s l side) ≡ t → and_then (open_of s l got empty_memory).answer (λ u. after) ≡ after
-    by_start side none e h = rw (open_empty s l got empty_memory side e h)
-    by_start side (some t) e h = rw (open_begun s l got empty_memory side t e h (record { room = let r = rooms.1 in omega (arith, r); headed = let r = rooms.0 in omega (arith, r) }))
+    by_start side None e h = rw (open_empty s l got empty_memory side e h)
+    by_start side (Some t) e h = rw (open_begun s l got empty_memory side t e h (record { room = let r = rooms.1 in omega (arith, r); headed = let r = rooms.0 in omega (arith, r) }))
 
     go : (o : Checked Side) → side_for s l ≡ o → and_then (open_of s l got empty_memory).answer (λ u. after) ≡ and_then o (λ side. after)
     go (refused k) e = rw e

@@ -1,7 +1,7 @@
 -- The words of final weights: two for each, one state after the other; they are those of all weights where none was refused.
 use mathlib.Core.Path.{◌≡◌, refl, sym, ap, ◌∙◌}
 use mathlib.Core.List.{List, [], ◌∷◌, ◌++◌, map, flat_map, append-nil}
-use mathlib.Core.Option.{Option, none, some}
+use Rattle.std.specs.Prelude.{Option, None, Some}
 use Prim.Native.Nat.{ℕ, suc, ◌+◌, ◌-◌, ◌*◌, ◌≤◌, ◌<◌}
 use native.Mathlib.Nat.{sub-zero}
 use native.Mathlib.Omega.{arith}
@@ -24,8 +24,8 @@ pub sets_all : (w r : List ℕ) → length w ≡ length r → sets w 0 r ≡ r
 sets_all w r e = sets-eq r w 0 (omega (arith, e)) ∙ ap (λ (q : List ℕ). r ++ q) (drop_of_length-le w {i = 0 + length r} (omega (arith, e))) ∙ append-nil r
 
 two_words : (w : Option ℕ) → length (weight_words w) ≡ 2
-two_words (some w) = refl
-two_words none = refl
+two_words (Some w) = refl
+two_words None = refl
 
 module _ (l : Lent) (s : Session) (m : Memory) where
   words_length : (n k : ℕ) → length (words_from l s m n k) ≡ 2 * k

@@ -1,6 +1,6 @@
 -- The final weights of all found states: whether each was answered, and their words.
 use mathlib.Core.List.{List, [], ◌∷◌, flat_map}
-use Rattle.std.proofs.Math.Option.{Option, none, some}
+use Rattle.std.specs.Prelude.{Option, None, Some}
 use Rattle.std.specs.Prelude.{ℕ}
 use Rattle.lists.specs.Lists.{interval}
 use Rattle.words.specs.Labels.{Checked, good, refused}
@@ -19,12 +19,12 @@ verdict (refused n) = Refused n
 -- the final weight that was answered; none where it was refused
 abbrev pub given_weight : Checked (Option ℕ) → Option ℕ
 given_weight (good w) = w
-given_weight (refused n) = none
+given_weight (refused n) = None
 
 -- 1 and the weight; two zeros where the composed state is not final
 abbrev pub weight_words : Option ℕ → List ℕ
-weight_words (some w) = 1 ∷ w ∷ []
-weight_words none = 0 ∷ 0 ∷ []
+weight_words (Some w) = 1 ∷ w ∷ []
+weight_words None = 0 ∷ 0 ∷ []
 
 -- the words of all of them; a refusal leaves what there was
 abbrev pub weights_words : List ℕ → Checked (List (Option ℕ)) → List ℕ

@@ -1,7 +1,7 @@
 -- What a test in the code says of the definition that the tested function's contract names, and the number below a start word.
 use mathlib.Core.Path.{◌≡◌, refl, sym, ◌∙◌, ap}
 use mathlib.Core.Bool.{Bool, true, false}
-use mathlib.Core.Option.{some}
+use Rattle.std.specs.Prelude.{Some}
 use Prim.Native.Nat.{ℕ, zero, suc, ◌-◌}
 use native.Mathlib.Omega.{arith}
 use Rattle.words.specs.Machines.{less_one}
@@ -14,6 +14,6 @@ pub holds : {r b : Bool} → r ≡ b → r ≡ true → b ≡ true
 holds e t = sym e ∙ t
 
 -- "start plus one (0: no start)"
-pub less_one_lem : (n : ℕ) → (n ≡ 0 → ⊥) → less_one n ≡ some (n - 1)
+pub less_one_lem : (n : ℕ) → (n ≡ 0 → ⊥) → less_one n ≡ Some (n - 1)
 less_one_lem zero e = absurd (e refl)
-less_one_lem (suc n) e = ap some (omega arith)
+less_one_lem (suc n) e = ap Some (omega arith)

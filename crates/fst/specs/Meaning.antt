@@ -1,14 +1,12 @@
 -- What the code's own types, and a machine's words, stand for in the definitions of `words`.
-use Rattle.std.specs.Prelude.{List, ℕ}
-use Rattle.std.proofs.Math.Option.{Option, none, some}
+use Rattle.std.specs.Prelude.{List, ℕ, Option, None, Some}
 use Rattle.words.specs.Matches.{MatchType as Side, inputs, outputs, Tr as Transition}
 use Rattle.words.specs.Sigmas.{Operand}
 use Rattle.words.specs.Ignored.{Ignored, words_read}
 use Rattle.words.specs.Settings.{operand_of}
 use Rattle.fst.specs.declared.MatchType.{MatchType}
 use Rattle.fst.specs.declared.MatchType.TheVariants.{MatchInput, MatchOutput}
-use Rattle.fst.specs.declared.StartState.{StartState}
-use Rattle.fst.specs.declared.StartState.TheVariants.{At, Missing}
+use Rattle.fst.specs.declared.StateId.{StateId}
 use Rattle.fst.specs.declared.Sigmas.{Sigmas}
 use Rattle.fst.specs.declared.tr.Tr.{Tr}
 
@@ -17,10 +15,10 @@ abbrev pub on_of : MatchType → Side
 on_of MatchInput = inputs
 on_of MatchOutput = outputs
 
--- "start plus one (0: no start)"
-abbrev pub start_means : StartState → Option ℕ
-start_means (At s) = some s.0
-start_means Missing = none
+-- the number of a state, if there is one
+abbrev pub number_if : Option StateId → Option ℕ
+number_if (Some s) = Some s.0
+number_if None = None
 
 -- "input, output, weight, target state"
 abbrev pub tr_means : Tr → Transition
@@ -29,7 +27,7 @@ tr_means r = record { input = r.ilabel.0; output = r.olabel.0; weight = r.weight
 -- A machine's words as an operand with a sigma label ("MAX means none"). What reads only its lists, its mark and its sigma label is said of this one: rewrite mode and
 -- allowed list play no part there.
 abbrev pub as_operand : Side → List ℕ → ℕ → Operand
-as_operand on m sigma = operand_of on m sigma 0 none
+as_operand on m sigma = operand_of on m sigma 0 None
 
 -- what the list and the sigma labels replace
 abbrev pub ignored_under : Sigmas → List ℕ → Ignored

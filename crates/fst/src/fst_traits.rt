@@ -3,12 +3,12 @@ ghost use Rattle.std.specs.Prelude.{◌≡◌, length, get_or};
 ghost use Rattle.words.specs.Machines.{state_count, tr_count, start_word, side_mark, acceptor_mark, state_word, tr_word, first_of, next_of, list_of, machine_of};
 ghost use Rattle.words.specs.Matches.{label_on, tr_of};
 ghost use Rattle.words.specs.Ignored.{otherwise};
-ghost use Rattle.fst.specs.Meaning.{on_of, start_means, tr_means, read_as};
+ghost use Rattle.fst.specs.Meaning.{on_of, number_if, tr_means, read_as};
 
 use crate::ignored::heard;
 use crate::{
     FINAL, FINAL_WEIGHT, FIRST, HEADER_WORDS, INPUT, Label, MatchType, NEXT, OUTPUT, STATE_WORDS,
-    Sigmas, StartState, StateId, TARGET, TR_WORDS, Tr, WEIGHT,
+    Sigmas, StateId, TARGET, TR_WORDS, Tr, WEIGHT,
 };
 
 // Word i, and 0 past the end.
@@ -38,14 +38,14 @@ pub fn start_word(m: &[u32]) -> u32
     word(m, 2)
 }
 
-pub fn start(m: &[u32]) -> StartState
-    ensures { start_means result ≡ (machine_of m.now).start }
+pub fn start(m: &[u32]) -> Option<StateId>
+    ensures { number_if result ≡ (machine_of m.now).start }
 {
     let n = start_word(m);
     if n == 0 {
-        return StartState::Missing;
+        return None;
     }
-    StartState::At(StateId(n - 1))
+    Some(StateId(n - 1))
 }
 
 // The mark of a side as it is lent: what the check of a machine holds to the fact.

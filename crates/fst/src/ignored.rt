@@ -10,22 +10,14 @@ use crate::{EPS_LABEL, Label, Sigmas};
 pub fn has(list: &[u32], label: Label) -> bool
     ensures { result ≡ hasLabel label.0 list.now }
 {
-    for i in 0..list.len() {
-        if list[i] == label.0 {
-            return true;
-        }
-    }
-    false
+    list.contains(&label.0)
 }
 
 // Whether the label is a sigma label, of either machine: such a label is never replaced.
 fn is_sigma(sigmas: Sigmas, label: Label) -> bool
     ensures { result ≡ (eqb label.0 sigmas.first.0 || eqb label.0 sigmas.second.0) }
 {
-    if label.0 == sigmas.first.0 {
-        return true;
-    }
-    label.0 == sigmas.second.0
+    label == sigmas.first || label == sigmas.second
 }
 
 // An inner label as the composition reads it: 0 where the list holds it and it is no sigma label.

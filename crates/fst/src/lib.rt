@@ -12,16 +12,11 @@ pub use fst_traits::{
     word,
 };
 pub use ignored::{has, heard};
-pub use refusals::{
-    REFUSED_BOTH_MATCH, REFUSED_IGNORED, REFUSED_MACHINE_1, REFUSED_MACHINE_2, REFUSED_NO_ROOM,
-    REFUSED_NO_SIDE, REFUSED_NOT_EXPANDED, REFUSED_NOT_FOUND, REFUSED_SESSION, REFUSED_SETTINGS,
-    REFUSED_SIGMA_EPS, REFUSED_TOO_LARGE, REFUSED_UNSORTED_1, REFUSED_UNSORTED_2,
-    REFUSED_WALKED_SIGMA,
-};
+pub use refusals::Refusal;
 pub use tr::Tr;
 
 // A label. It cannot be given where a state number is asked.
-#[derive(Clone, Copy)]
+#[derive(Clone, Copy, PartialEq, Eq, PartialOrd, Ord)]
 pub struct Label(pub u32);
 
 // The sigma labels of the two machines: with the list of ignored labels, what decides which labels are replaced.
@@ -32,7 +27,7 @@ pub struct Sigmas {
 }
 
 // The number of a state.
-#[derive(Clone, Copy)]
+#[derive(Clone, Copy, PartialEq, Eq)]
 pub struct StateId(pub u32);
 
 // The largest number of states, of transitions, and of records of each sort.
@@ -72,15 +67,8 @@ pub const NO_SIGMAS: Sigmas = Sigmas {
     second: NO_LABEL,
 };
 
-// The state where a machine starts, if it has one.
-#[derive(Clone, Copy)]
-pub enum StartState {
-    At(StateId),
-    Missing,
-}
-
 // The side of a machine (matchers/mod.rs).
-#[derive(Clone, Copy)]
+#[derive(Clone, Copy, PartialEq, Eq)]
 pub enum MatchType {
     MatchInput,
     MatchOutput,

@@ -1,46 +1,61 @@
-// The numbers of the refusals, each with its cause in document 01's table of answers.
+// The refusals, each with its cause, and the number of each in document 01's table of answers.
+ghost use Rattle.std.specs.Prelude.{◌≡◌};
+ghost use Rattle.fst.specs.Refusals.{number_of};
 
-// kind, filter or rewrite mode outside its range
-pub const REFUSED_SETTINGS: u32 = 1;
+#[derive(Clone, Copy, PartialEq, Eq)]
+pub enum Refusal {
+    // kind, filter or rewrite mode outside its range
+    Settings,
+    // machine 1 malformed
+    Machine1,
+    // machine 2 malformed
+    Machine2,
+    // a sigma label 0
+    SigmaEps,
+    // sigma on 1, outputs unsorted
+    Unsorted1,
+    // sigma on 2, inputs unsorted
+    Unsorted2,
+    // no side to match
+    NoSide,
+    // session side differs from the rule, used above room, or form broken
+    Session,
+    // state not found yet
+    NotFound,
+    // both states need matching
+    BothMatch,
+    // walked label is sigma
+    WalkedSigma,
+    // weight too large
+    TooLarge,
+    // a record or, at opening, a head is lacking; a work slice or an output slice is short, or a count would pass its limit (document 02, 2.2)
+    NoRoom,
+    // a used state is not expanded (document 02, 2.2)
+    NotExpanded,
+    // the list of ignored labels holds 0 or MAX (document 02, 2.7)
+    Ignored,
+}
 
-// machine 1 malformed
-pub const REFUSED_MACHINE_1: u32 = 2;
+impl From<Refusal> for u32 {
+    ghost from_gives = { λ refusal number. number ≡ number_of refusal };
 
-// machine 2 malformed
-pub const REFUSED_MACHINE_2: u32 = 3;
-
-// a sigma label 0
-pub const REFUSED_SIGMA_EPS: u32 = 4;
-
-// sigma on 1, outputs unsorted
-pub const REFUSED_UNSORTED_1: u32 = 5;
-
-// sigma on 2, inputs unsorted
-pub const REFUSED_UNSORTED_2: u32 = 6;
-
-// no side to match
-pub const REFUSED_NO_SIDE: u32 = 7;
-
-// session side differs from the rule, used above room, or form broken
-pub const REFUSED_SESSION: u32 = 8;
-
-// state not found yet
-pub const REFUSED_NOT_FOUND: u32 = 9;
-
-// both states need matching
-pub const REFUSED_BOTH_MATCH: u32 = 10;
-
-// walked label is sigma
-pub const REFUSED_WALKED_SIGMA: u32 = 11;
-
-// weight too large
-pub const REFUSED_TOO_LARGE: u32 = 12;
-
-// a record or, at opening, a head is lacking; a work slice or an output slice is short, or a count would pass its limit (document 02, 2.2)
-pub const REFUSED_NO_ROOM: u32 = 13;
-
-// a used state is not expanded (document 02, 2.2)
-pub const REFUSED_NOT_EXPANDED: u32 = 14;
-
-// the list of ignored labels holds 0 or MAX (document 02, 2.7)
-pub const REFUSED_IGNORED: u32 = 18;
+    fn from(refusal: Refusal) -> u32 {
+        match refusal {
+            Refusal::Settings => 1,
+            Refusal::Machine1 => 2,
+            Refusal::Machine2 => 3,
+            Refusal::SigmaEps => 4,
+            Refusal::Unsorted1 => 5,
+            Refusal::Unsorted2 => 6,
+            Refusal::NoSide => 7,
+            Refusal::Session => 8,
+            Refusal::NotFound => 9,
+            Refusal::BothMatch => 10,
+            Refusal::WalkedSigma => 11,
+            Refusal::TooLarge => 12,
+            Refusal::NoRoom => 13,
+            Refusal::NotExpanded => 14,
+            Refusal::Ignored => 18,
+        }
+    }
+}

@@ -3,7 +3,8 @@ use mathlib.Core.Path.{◌≡◌, refl, sym, ◌∙◌, ap}
 use mathlib.Core.Bool.{Bool, true, false, ◌&&◌, cond, true≢false, false≢true}
 use mathlib.Core.List.{Memᴰ as In}
 use mathlib.Core.Logic.{◌≢◌}
-use mathlib.Core.Option.{Option, none, some, none-ne-some, some-injective}
+use Rattle.std.specs.Prelude.{Option, None, Some}
+use Rattle.std.proofs.lemmas.Option.{none-some, same_Some}
 use Prim.Native.Nat.{ℕ, zero, suc, ◌-◌, ◌≤◌, ◌<◌}
 use native.Mathlib.Omega.{arith}
 use lib.ListN.{length}
@@ -57,16 +58,16 @@ store_bounded c d S1 S2 ok = record {
   target_below = λ a r l i. let z = store_records c d S1 S2 ok a r l i in (form_tr S1 S2 d ok (r - 1) (omega (arith, z.0, z.1))).target;
 }
   where
-    start : (u a : ℕ) → first_state u ≡ some a → a < u
-    start zero a e = absurd (none-ne-some a e)
-    start (suc u) a e = let z : 0 ≡ a = some-injective 0 a e in omega (arith, z)
+    start : (u a : ℕ) → first_state u ≡ Some a → a < u
+    start zero a e = absurd (none-some a e)
+    start (suc u) a e = let z : 0 ≡ a = same_Some 0 a e in omega (arith, z)
 
 -- a final state's weight is not the kind's zero
 answered_weight_lem : (k : Kind) (o : Option ℕ) → answered (unless_zero k o) ≡ true → is_zero k (weight_in (unless_zero k o)) ≡ false
-answered_weight_lem k none e = absurd (false≢true e)
-answered_weight_lem k (some w) e = go (is_zero k w) refl e
+answered_weight_lem k None e = absurd (false≢true e)
+answered_weight_lem k (Some w) e = go (is_zero k w) refl e
   where
-    go : (b : Bool) → is_zero k w ≡ b → answered (good (cond b none (some w))) ≡ true → is_zero k (weight_in (good (cond b none (some w)))) ≡ false
+    go : (b : Bool) → is_zero k w ≡ b → answered (good (cond b None (Some w))) ≡ true → is_zero k (weight_in (good (cond b None (Some w)))) ≡ false
     go true z e = absurd (false≢true e)
     go false z e = z
 
@@ -77,7 +78,7 @@ store_final c d n e = go (c.operand1.machine.is_final (triple_at d.memory.states
     o : Option ℕ
     o = times c.kind (c.operand1.machine.final_weight (triple_at d.memory.states n).s1) (c.operand2.machine.final_weight (triple_at d.memory.states n).s2)
 
-    go : (b : Bool) → answered (cond b (unless_zero c.kind o) (good none)) ≡ true → is_zero c.kind (weight_in (cond b (unless_zero c.kind o) (good none))) ≡ false
+    go : (b : Bool) → answered (cond b (unless_zero c.kind o) (good None)) ≡ true → is_zero c.kind (weight_in (cond b (unless_zero c.kind o) (good None))) ≡ false
     go true h = answered_weight_lem c.kind o h
     go false h = absurd (false≢true h)
 

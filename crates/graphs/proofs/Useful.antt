@@ -6,7 +6,7 @@ use mathlib.Core.List.Memᴰ.{head as here}
 use mathlib.Core.List.Memᴰ.{tail as there}
 use mathlib.Core.List.{List, [], ◌∷◌, ◌++◌, Memᴰ as In}
 use mathlib.Core.Logic.{⊎_elim, ◌↔◌, ◌≢◌}
-use mathlib.Core.Option.{Option, none, some}
+use Rattle.std.specs.Prelude.{Option, None, Some}
 use Prim.Native.Nat.{ℕ, zero, suc, ◌≤◌, ◌<◌}
 use native.Mathlib.Omega.{arith}
 use lib.Dec.{eqb}
@@ -91,8 +91,8 @@ unfolding useful
 useful_is M B n = (λ e. there_is M.start refl e, λ u. (and-eq-true_iff _ _).1 (found u, lasts u))
   where
     there_is : (o : Option ℕ) → M.start ≡ o → starts_with o (leads_within M (λ b. eqb b n) M.states) && leads_within M M.is_final M.states n ≡ true → Useful M n
-    there_is none s e = absurd (false≢true e)
-    there_is (some a) s e =
+    there_is None s e = absurd (false≢true e)
+    there_is (Some a) s e =
         let x = leads_sound M (λ b. eqb b n) M.states a (and_left (leads_within M (λ b. eqb b n) M.states a) _ e) in
         let y = leads_sound M M.is_final M.states n (and_right (leads_within M (λ b. eqb b n) M.states a) _ e) in
         record { start = a; starts = s; reached = subst (λ b. Reach M a b) (eqb-true x.0 n x.2) x.1; end = y.0; leads = y.1; final = y.2 }
@@ -120,7 +120,7 @@ accepting_leads K value M q [] h = (q, refl, h.0)
 accepting_leads K value M q (t ∷ p) h = let r = accepting_leads K value M (M.target t) p h.1 in (r.0, (h.0, r.1), r.2)
 
 -- a reached state with an accepting path is useful
-pub accepting_useful : (K : Semiring) (value : ℕ → K.Element) (M : Machine) (a q : ℕ) (p : List ℕ) → M.start ≡ some a → Reach M a q → Accepting K value M q p → Useful M q
+pub accepting_useful : (K : Semiring) (value : ℕ → K.Element) (M : Machine) (a q : ℕ) (p : List ℕ) → M.start ≡ Some a → Reach M a q → Accepting K value M q p → Useful M q
 accepting_useful K value M a q p s h k = let r = accepting_leads K value M q p k in record { start = a; starts = s; reached = h; end = r.0; leads = (p, r.1); final = r.2 }
 
 -- and so is the target of the path's first transition

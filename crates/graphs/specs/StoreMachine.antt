@@ -1,6 +1,5 @@
 -- The store read as a machine of the papers: for 02's requests 2.2, 2.3 and 2.10, which ask for its accepting paths.
-use Rattle.std.specs.Prelude.{Bool, true, false, ℕ, zero, suc, ◌-◌}
-use Rattle.std.proofs.Math.Option.{Option, none, some}
+use Rattle.std.specs.Prelude.{Bool, true, false, ℕ, zero, suc, ◌-◌, Option, None, Some}
 use Rattle.lists.specs.Lists.{interval}
 use Rattle.papers.specs.Machine.{Machine}
 use Rattle.words.specs.Labels.{Checked, good, refused}
@@ -9,23 +8,23 @@ use Rattle.calls.specs.Store.{Store, triple_at, part_at, input_at, output_at, we
 
 -- "state 0 wherever any state is used"
 abbrev pub first_state : ℕ → Option ℕ
-first_state zero = none
-first_state (suc n) = some 0
+first_state zero = None
+first_state (suc n) = Some 0
 
 -- the final weight that was answered; none where it was refused
 abbrev pub given_weight : Checked (Option ℕ) → Option ℕ
 given_weight (good w) = w
-given_weight (refused n) = none
+given_weight (refused n) = None
 
 -- a composed state is final where its final weight is answered and not zero
 abbrev pub answered : Checked (Option ℕ) → Bool
-answered (good (some w)) = true
-answered (good none) = false
+answered (good (Some w)) = true
+answered (good None) = false
 answered (refused n) = false
 
 abbrev pub weight_in : Checked (Option ℕ) → ℕ
-weight_in (good (some w)) = w
-weight_in (good none) = 0
+weight_in (good (Some w)) = w
+weight_in (good None) = 0
 weight_in (refused n) = 0
 
 -- Transitions are record numbers, from 1. The list of a state is the part that expanding it answers, which form makes consecutive; a made-up store may have a record in several lists.

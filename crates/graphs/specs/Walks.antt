@@ -1,7 +1,6 @@
 -- Walks through a machine of the papers, and its useful states. MPR: Mohri, Pereira, Riley 2002, the definition of a path.
-use Rattle.std.specs.Prelude.{◌≡◌, Bool, true, false, ◌&&◌, ◌||◌, ℕ, zero, suc, ◌<◌, eqb}
+use Rattle.std.specs.Prelude.{◌≡◌, Bool, true, false, ◌&&◌, ◌||◌, ℕ, zero, suc, ◌<◌, eqb, Option, None, Some}
 use mathlib.Core.List.{List, [], ◌∷◌, Memᴰ}
-use Rattle.std.proofs.Math.Option.{Option, none, some}
 use Rattle.papers.specs.Machine.{Machine}
 
 -- MPR, a path from a to b: consecutive transitions, by their numbers
@@ -15,7 +14,7 @@ Reach M a b = (rs : List ℕ) × Walk M a rs b
 -- 02, 2.2: "the states on some path from start to a final state". Weights are not looked at: a transition of weight zero counts.
 pub record Useful (M : Machine) (n : ℕ) : Type 0 where
   pub start : ℕ
-  pub starts : M.start ≡ some start
+  pub starts : M.start ≡ Some start
   pub reached : Reach M start n
   pub end : ℕ
   pub leads : Reach M n end
@@ -32,8 +31,8 @@ leads_within M P zero a = P a
 leads_within M P (suc k) a = P a || exists (λ r. leads_within M P k (M.target r)) (M.list a)
 
 abbrev pub starts_with : Option ℕ → (ℕ → Bool) → Bool
-starts_with none P = false
-starts_with (some a) P = P a
+starts_with None P = false
+starts_with (Some a) P = P a
 
 -- The same as a test: as many transitions as there are states lead wherever any number leads (`useful_is` in proofs/Useful).
 unfoldable pub useful : Machine → ℕ → Bool
@@ -41,5 +40,5 @@ useful M n = starts_with M.start (leads_within M (λ b. eqb b n) M.states) && le
 
 -- what the test asks of a machine: start and targets are states
 pub record Bounded (M : Machine) : Type 0 where
-  pub start_below : (a : ℕ) → M.start ≡ some a → a < M.states
+  pub start_below : (a : ℕ) → M.start ≡ Some a → a < M.states
   pub target_below : (a r : ℕ) → a < M.states → Memᴰ r (M.list a) → M.target r < M.states

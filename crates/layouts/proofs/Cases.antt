@@ -1,7 +1,7 @@
 -- Closed cases: the old calls on the machines of 01's case 1, with the words that crate calls had in its tables before 2.9; and what the theorem says of them.
 use mathlib.Core.Path.{◌≡◌, refl}
 use mathlib.Core.List.{List, [], ◌∷◌}
-use mathlib.Core.Option.{none, some}
+use Rattle.std.specs.Prelude.{None, Some}
 use Prim.Native.Nat.{ℕ, zero, suc, ◌≤◌, ◌<◌}
 use native.Mathlib.Omega.{arith}
 use lib.ListN.{get_or, replicate}
@@ -45,8 +45,8 @@ pub all_was :
     ∷ handed (0 ∷ 7 ∷ 4 ∷ 2 ∷ 0 ∷ [])
     ∷ handed (2 ∷ 8 ∷ 3 ∷ 3 ∷ 0 ∷ [])
     ∷ handed []
-    ∷ answered (weight none) (with 4 3)
-    ∷ answered (weight (some 3)) (with 4 3)
+    ∷ answered (weight None) (with 4 3)
+    ∷ answered (weight (Some 3)) (with 4 3)
     ∷ answered (refusal 9) (with 4 3)
     ∷ [])
     (world (with 4 3) (4 ∷ 2 ∷ [])

@@ -2,7 +2,7 @@
 use mathlib.Core.Path.{◌≡◌, refl, sym, ◌∙◌}
 use mathlib.Core.List.{List, [], ◌∷◌, flat_map}
 use mathlib.Core.Logic.{inl, inr, ⊎_elim}
-use mathlib.Core.Option.{none}
+use Rattle.std.specs.Prelude.{None}
 use Prim.Native.Nat.{ℕ, zero, suc, ◌+◌, ◌*◌, ◌≤◌, ◌<◌}
 use native.Mathlib.Omega.{arith}
 use lib.ListN.{length, get_or, replicate, length-replicate}
@@ -101,7 +101,7 @@ module _ (trs : List ℕ) (size : length trs ≡ 327680) (zeros : (i : ℕ) → 
 
   pub eight_moves :
       ((call_with five both (old 65536) (final_weight 0)).reply ≡ answered (refusal 8) (holding 65536))
-      × ((call_of both (new 65536) (final_weight 0)).reply ≡ answered (weight none) (holding 65536))
+      × ((call_of both (new 65536) (final_weight 0)).reply ≡ answered (weight None) (holding 65536))
   unfolding call_with final_weight_with entered_at_with final_at times is_zero state_word state_count triple_at field_of
   eight_moves = (rw old_eight, rw (enters 65536 (omega arith)))
 

@@ -3,7 +3,7 @@ use mathlib.Core.Path.{◌≡◌, refl, ◌∙◌, ap, subst}
 use mathlib.Core.Bool.{Bool, true, false, not, ◌||◌}
 use mathlib.Core.List.{map}
 use mathlib.Core.Logic.{◌≢◌}
-use mathlib.Core.Option.{Option, none, some}
+use Rattle.std.specs.Prelude.{Option, None, Some}
 use Prim.Native.Nat.{ℕ, ◌<◌}
 use native.Mathlib.Omega.{arith}
 use native.Mathlib.Decide.{ℕ_discrete}
@@ -33,7 +33,7 @@ use Rattle.layouts.proofs.SameRuns.{Agree}
 
 module _ {K J : ℕ} (s : Settings) (l : Lent) (small : Small l) (got : Session) (o m : Memory) (pair : Pair K J o m got.used) where
   -- the start is a pair of states of the two machines, the second within the old limit
-  start_low : (side : Side) (t : Triple) → side_for s l ≡ good side → start_at (composition_of s l side) ≡ some t → Begins m → t.s2 < 65536
+  start_low : (side : Side) (t : Triple) → side_for s l ≡ good side → start_at (composition_of s l side) ≡ Some t → Begins m → t.s2 < 65536
   unfolding add_with cleared
   start_low side t e f b =
       let p = open_begun s l got m side t e f b in
@@ -90,7 +90,7 @@ module _ {K J : ℕ} (s : Settings) (l : Lent) (small : Small l) (got : Session)
       new : Side → Option Triple → Outcome (Unit {0})
       new side t = settle got m (and_then (begun m t) (λ d. good (opened s side d)))
 
-      by_room : (side : Side) (t : Triple) (b : Bool) → side_for s l ≡ good side → start_at (composition_of s l side) ≡ some t → lacking ≡ b → Agree K J (old side (some t)) (new side (some t))
+      by_room : (side : Side) (t : Triple) (b : Bool) → side_for s l ≡ good side → start_at (composition_of s l side) ≡ Some t → lacking ≡ b → Agree K J (old side (Some t)) (new side (Some t))
       by_room side t true e f x = rw (lacks, x) (record { answer = refl; session = refl; pair = pair })
       by_room side t false e f x =
           let p = or_false (eqb (state_room m) 0) (not (non_empty m.heads)) x in
@@ -99,8 +99,8 @@ module _ {K J : ℕ} (s : Settings) (l : Lent) (small : Small l) (got : Session)
           rw (lacks, x) (record { answer = refl; session = refl; pair = begun_both t (start_low side t e f b) b })
 
       by_start : (side : Side) (t : Option Triple) → side_for s l ≡ good side → start_at (composition_of s l side) ≡ t → Agree K J (old side t) (new side t)
-      by_start side none e f = record { answer = refl; session = refl; pair = cleared_two }
-      by_start side (some t) e f = by_room side t lacking e f refl
+      by_start side None e f = record { answer = refl; session = refl; pair = cleared_two }
+      by_start side (Some t) e f = by_room side t lacking e f refl
 
       go : (x : Checked Side) → side_for s l ≡ x
           → Agree K J (settle got o (and_then x (λ side. and_then (begun_with five o (start_at (composition_of s l side))) (λ d. good (opened s side d)))))

@@ -4,7 +4,7 @@ use mathlib.Core.List.Memᴰ.{head as here}
 use mathlib.Core.List.Memᴰ.{tail as there}
 use mathlib.Core.List.{List, [], ◌∷◌, Memᴰ as In}
 use mathlib.Core.Logic.{◌⊎◌, inl, inr, ⊎_elim}
-use mathlib.Core.Option.{Option, none, some}
+use Rattle.std.specs.Prelude.{Option, None, Some}
 use Prim.Native.Nat.{ℕ, ◌+◌, ◌≤◌, ◌<◌, min}
 use native.Mathlib.Omega.{arith}
 use native.Mathlib.Decide.{dec_lt}
@@ -109,7 +109,7 @@ module _ {S1 S2 K J : ℕ} (narrow : S2 ≤ 65535) (last : ℕ) where
     same_find = find_two o d w.same w.form st.to
 
     -- to a state found before
-    old_step : T < tr_room_with five o → T < tr_room d.memory → (n : ℕ) → find d st.to ≡ some n → Goal
+    old_step : T < tr_room_with five o → T < tr_room d.memory → (n : ℕ) → find d st.to ≡ Some n → Goal
     unfolding store_step_with reach_with append
     old_step x y n f = inr (inr (
       (append (beside o d) st n next).memory,
@@ -120,7 +120,7 @@ module _ {S1 S2 K J : ℕ} (narrow : S2 ≤ 65535) (last : ℕ) where
     ))
 
     -- to a new one
-    new_step : T < tr_room_with five o → T < tr_room d.memory → find d st.to ≡ none → Goal
+    new_step : T < tr_room_with five o → T < tr_room d.memory → find d st.to ≡ None → Goal
     unfolding store_step_with reach_with append add_with tr_room_with
     new_step x y f =
         ⊎_elim both (⊎_elim none' old)
@@ -148,8 +148,8 @@ module _ {S1 S2 K J : ℕ} (narrow : S2 ≤ 65535) (last : ℕ) where
         (room_split T J (tr_room_with five o) (tr_room d.memory) ((r o d w).old_trs ∙ ap (min 65535) w.trs) ((r o d w).new_trs ∙ ap (min 16777215) w.trs))
       where
         on : (p : Option ℕ) → T < tr_room_with five o → T < tr_room d.memory → find d st.to ≡ p → Goal
-        on none x y f = new_step x y f
-        on (some n) x y f = old_step x y n f
+        on None x y f = new_step x y f
+        on (Some n) x y f = old_step x y n f
 
   pub steps_two : (steps : List (Checked Step)) (o : Memory) (d : Store) → Both S1 S2 K J last o d → ((st : Step) → In (good st) steps → InRange S1 S2 st.to)
       → d.used.trs + length steps ≤ last → Steps2 S1 S2 K J last (store_steps_with five (beside o d) steps) (store_steps d steps)

@@ -1,6 +1,5 @@
 -- What the session and the answers of the calls stand for in the definitions of `calls`.
-use Rattle.std.specs.Prelude.{cond, List, ℕ, eqb}
-use Rattle.std.proofs.Math.Option.{Option, none, some}
+use Rattle.std.specs.Prelude.{cond, List, ℕ, eqb, Option, None, Some}
 use Rattle.words.specs.Labels.{no_label, good, refused, and_then}
 use Rattle.words.specs.Matches.{MatchType, inputs, outputs}
 use Rattle.words.specs.Machines.{acceptor_mark}
@@ -46,8 +45,8 @@ part_left (NotExpanded n s) m = record { answer = refused n; session = session_m
 
 -- what final weight leaves: a weight, or none where the composed state is not final
 abbrev pub weight_left : WeightAnswer → Memory → Outcome (Option ℕ)
-weight_left (Weight w s) m = record { answer = good (some w); session = session_means s; memory = m }
-weight_left (NotFinal s) m = record { answer = good none; session = session_means s; memory = m }
+weight_left (Weight w s) m = record { answer = good (Some w); session = session_means s; memory = m }
+weight_left (NotFinal s) m = record { answer = good None; session = session_means s; memory = m }
 weight_left (NoWeight n s) m = record { answer = refused n; session = session_means s; memory = m }
 
 -- the composition's settings in the code: the six settings, the side, whether there are allowed lists, and two acceptor marks

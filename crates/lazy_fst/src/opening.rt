@@ -1,6 +1,5 @@
 // The opening after its checks: the heads are cleared, and the start of the composition is the first state.
-ghost use Rattle.std.specs.Prelude.{◌≡◌, not, ◌||◌, List, ℕ, eqb};
-ghost use Rattle.std.proofs.Math.Option.{Option};
+ghost use Rattle.std.specs.Prelude.{◌≡◌, not, ◌||◌, List, ℕ, eqb, Option};
 ghost use Rattle.words.specs.Sides.{non_empty};
 ghost use Rattle.calls.specs.Store.{room_of, state_size};
 ghost use Rattle.match_type.specs.Chosen.{side_means};

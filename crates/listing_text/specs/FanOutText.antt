@@ -1,6 +1,5 @@
 -- 02, 2.6: what `fan_out` prints, as bytes, from the bytes that it reads.
-use Rattle.std.specs.Prelude.{List, [], ◌∷◌, ◌++◌, ℕ}
-use Rattle.std.proofs.Math.Option.{none}
+use Rattle.std.specs.Prelude.{List, [], ◌∷◌, ◌++◌, ℕ, None}
 use Rattle.words.specs.Labels.{Checked, good, refused}
 use Rattle.calls.specs.Listing.{refused_line, lent_lines}
 use Rattle.fan_outs.specs.FanOut.{fan_out_line}
@@ -23,4 +22,4 @@ fan_out_printed input =
 
 -- what is printed of the words that the four lines are left with
 abbrev pub ended_fan_out : (settings first second query : List ℕ) → List ℕ
-ended_fan_out settings first second query = fan_out_bytes (fan_out_line settings (record { m1 = first; m2 = second; allowed1 = none; allowed2 = none; ignored = [] }) query)
+ended_fan_out settings first second query = fan_out_bytes (fan_out_line settings (record { m1 = first; m2 = second; allowed1 = None; allowed2 = None; ignored = [] }) query)

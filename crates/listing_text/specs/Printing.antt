@@ -1,7 +1,6 @@
 -- 01, "The listing": what `composed` prints, as bytes, from the bytes that it reads.
-use Rattle.std.specs.Prelude.{cond, ℕ, zero, suc, ◌+◌, ◌/◌, ◌%◌, eqb, ltb}
+use Rattle.std.specs.Prelude.{cond, ℕ, zero, suc, ◌+◌, ◌/◌, ◌%◌, eqb, ltb, Option, None, Some}
 use mathlib.Core.List.{List, [], ◌∷◌, ◌++◌, flat_map}
-use Rattle.std.proofs.Math.Option.{Option, none, some}
 use Rattle.calls.specs.Listing.{Line, side_line, state_line, tr_line, end_line, refused_line, listing}
 use Rattle.listing_text.specs.Ascii.{ascii}
 use Rattle.listing_text.specs.Reading.{line_feed, line_at, words_read}
@@ -26,8 +25,8 @@ side_name n = cond (eqb n 0) (ascii "input") (cond (eqb n 1) (ascii "output") (a
 
 -- "final or -"
 abbrev pub final_word : Option ℕ → List ℕ
-final_word (some w) = decimal w
-final_word none = ascii "-"
+final_word (Some w) = decimal w
+final_word None = ascii "-"
 
 -- "side: input, output or both; s: state, s1, s2, f, final or -; t: input, output, weight, target; end: counts", and `refused n`
 unfoldable pub line_bytes : Line → List ℕ

@@ -1,6 +1,5 @@
 -- What a function that puts a text into a buffer leaves.
-use Rattle.std.specs.Prelude.{◌≡◌, Bool, true, false, List, ℕ, ◌+◌, length}
-use Rattle.std.proofs.Math.Option.{Option, none, some}
+use Rattle.std.specs.Prelude.{◌≡◌, Bool, true, false, List, ℕ, ◌+◌, length, Option, None, Some}
 use Rattle.lists.specs.Lists.{put}
 
 -- out' is out with the bytes from place `to` on, and r is the place after them
@@ -10,5 +9,5 @@ pub record Written (out : List ℕ) (to : ℕ) (bytes out' : List ℕ) (r : ℕ)
 
 -- a final weight as it is handed over: whether there is one, and it
 abbrev pub final_of : Bool → ℕ → Option ℕ
-final_of true w = some w
-final_of false w = none
+final_of true w = Some w
+final_of false w = None

@@ -5,7 +5,7 @@ use mathlib.Core.List.Memᴰ.{head as here}
 use mathlib.Core.List.Memᴰ.{tail as there}
 use mathlib.Core.List.{List, [], ◌∷◌, ◌++◌, map, flat_map, Memᴰ as In}
 use mathlib.Core.Logic.{⊎_elim}
-use mathlib.Core.Option.{none-ne-some, some-injective}
+use Rattle.std.proofs.lemmas.Option.{none-some, same_Some}
 use Prim.Native.Nat.{ℕ, zero, suc}
 use Rattle.lists.specs.Lists.{At, Distinct}
 use Rattle.lists.proofs.Members.{of_flat}
@@ -17,10 +17,10 @@ Apart {A} R (x ∷ xs) = ((y : A) → In y xs → R x y → ⊥) × Apart R xs
 
 -- two places that hold alike things are one
 pub apart_place : {A : Type 0} (R : A → A → Type 0) → ((a b : A) → R a b → R b a) → (l : List A) → Apart R l → (j k : ℕ) {a b : A} → At l j a → At l k b → R a b → j ≡ k
-apart_place R sy [] d j k h i r = absurd (none-ne-some _ h)
+apart_place R sy [] d j k h i r = absurd (none-some _ h)
 apart_place R sy (x ∷ xs) d zero zero h i r = refl
-apart_place R sy (x ∷ xs) d zero (suc k) {a} {b} h i r = absurd (d.0 b (at_in xs k i) (subst (λ z. R z b) (sym (some-injective _ _ h)) r))
-apart_place R sy (x ∷ xs) d (suc j) zero {a} {b} h i r = absurd (d.0 a (at_in xs j h) (subst (λ z. R z a) (sym (some-injective _ _ i)) (sy _ _ r)))
+apart_place R sy (x ∷ xs) d zero (suc k) {a} {b} h i r = absurd (d.0 b (at_in xs k i) (subst (λ z. R z b) (sym (same_Some _ _ h)) r))
+apart_place R sy (x ∷ xs) d (suc j) zero {a} {b} h i r = absurd (d.0 a (at_in xs j h) (subst (λ z. R z a) (sym (same_Some _ _ i)) (sy _ _ r)))
 apart_place R sy (x ∷ xs) d (suc j) (suc k) h i r = ap suc (apart_place R sy xs d.1 j k h i r)
 
 -- where likeness gives equality, nothing twice is enough

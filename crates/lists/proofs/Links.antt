@@ -6,28 +6,29 @@ use mathlib.Core.List.Memᴰ.{head as here}
 use mathlib.Core.List.Memᴰ.{tail as there}
 use mathlib.Core.List.{List, [], ◌∷◌, Memᴰ as In}
 use mathlib.Core.Logic.{⊎_elim}
-use mathlib.Core.Option.{some, none-ne-some, some-injective}
+use Rattle.std.specs.Prelude.{Some}
+use Rattle.std.proofs.lemmas.Option.{none-some, same_Some}
 use Prim.Native.Nat.{ℕ, zero, suc, ◌-◌, ◌≤◌, ◌<◌}
 use native.Mathlib.Omega.{arith}
 use Rattle.lists.specs.Lists.{first_if, first, linked}
 
 -- what is found is in the list and passes the test
-pub first_sound : {A : Type 0} (P : A → Bool) (l : List A) (a : A) → first P l ≡ some a → In a l × (P a ≡ true)
+pub first_sound : {A : Type 0} (P : A → Bool) (l : List A) (a : A) → first P l ≡ Some a → In a l × (P a ≡ true)
 unfolding first
-first_sound P [] a e = absurd (none-ne-some _ e)
+first_sound P [] a e = absurd (none-some _ e)
 first_sound P (x ∷ xs) a e = go (P x) refl e (λ d. first_sound P xs a d)
   where
-    go : (b : Bool) → P x ≡ b → first_if b x (first P xs) ≡ some a → (first P xs ≡ some a → In a xs × (P a ≡ true)) → In a (x ∷ xs) × (P a ≡ true)
-    go true p d rec = let z = some-injective x a d in (here (sym z), ap P (sym z) ∙ p)
+    go : (b : Bool) → P x ≡ b → first_if b x (first P xs) ≡ Some a → (first P xs ≡ Some a → In a xs × (P a ≡ true)) → In a (x ∷ xs) × (P a ≡ true)
+    go true p d rec = let z = same_Some x a d in (here (sym z), ap P (sym z) ∙ p)
     go false p d rec = (there (rec d).0, (rec d).1)
 
 -- where one of the list passes, one is found
-pub first_found : {A : Type 0} (P : A → Bool) (l : List A) (a : A) → In a l → P a ≡ true → (b : A) × (first P l ≡ some b)
+pub first_found : {A : Type 0} (P : A → Bool) (l : List A) (a : A) → In a l → P a ≡ true → (b : A) × (first P l ≡ Some b)
 unfolding first
 first_found P [] a i p = absurd (Memᴰ.not-nil i)
 first_found {A} P (x ∷ xs) a i p = go (P x) refl (λ j. first_found P xs a j p)
   where
-    go : (t : Bool) → P x ≡ t → (In a xs → (b : A) × (first P xs ≡ some b)) → (b : A) × (first_if t x (first P xs) ≡ some b)
+    go : (t : Bool) → P x ≡ t → (In a xs → (b : A) × (first P xs ≡ Some b)) → (b : A) × (first_if t x (first P xs) ≡ Some b)
     go true e rec = (x, refl)
     go false e rec = ⊎_elim (λ d. absurd (true≢false (sym p ∙ (ap P d ∙ e)))) rec (Memᴰ.cases_cons i)
 

@@ -6,7 +6,7 @@ use mathlib.Core.List.Memᴰ.{head as here}
 use mathlib.Core.List.Memᴰ.{tail as there}
 use mathlib.Core.List.{List, [], ◌∷◌, ◌++◌, map, flat_map, Memᴰ as In}
 use mathlib.Core.Logic.{⊎_elim}
-use mathlib.Core.Option.{none-ne-some}
+use Rattle.std.proofs.lemmas.Option.{none-some}
 use Prim.Native.Nat.{ℕ, zero, suc}
 use native.Mathlib.Omega.{arith}
 use Rattle.lists.specs.Lists.{At, Distinct, put_if, keep_if, interval}
@@ -14,7 +14,7 @@ use Rattle.lists.proofs.Members.{of_flat, of_keep, of_interval}
 use Rattle.lists.proofs.Places.{in_at, at_in}
 
 pub one_place : {A : Type 0} (l : List A) → Distinct l → (j k : ℕ) {a : A} → At l j a → At l k a → j ≡ k
-one_place [] d j k h i = absurd (none-ne-some _ h)
+one_place [] d j k h i = absurd (none-some _ h)
 one_place (x ∷ xs) d zero zero h i = refl
 one_place (x ∷ xs) d zero (suc k) h i = absurd (d.0 (at_in xs k (i ∙ sym h)))
 one_place (x ∷ xs) d (suc j) zero h i = absurd (d.0 (at_in xs j (h ∙ sym i)))

@@ -4,7 +4,8 @@ use mathlib.Core.Bool.{Bool, true, and-eq-true_iff}
 use mathlib.Core.List.Memᴰ.{head as here}
 use mathlib.Core.List.Memᴰ.{tail as there}
 use mathlib.Core.List.{List, [], ◌∷◌, ◌++◌, map, Memᴰ as In}
-use mathlib.Core.Option.{some, none-ne-some, some-injective}
+use Rattle.std.specs.Prelude.{Some}
+use Rattle.std.proofs.lemmas.Option.{none-some, same_Some}
 use Prim.Native.Nat.{ℕ, zero, suc, ◌+◌, ◌<◌}
 use native.Mathlib.Omega.{arith}
 use lib.ListN.{length, get_or, replicate}
@@ -12,31 +13,31 @@ use Rattle.lists.specs.Lists.{At, every, interval}
 use Rattle.lists.proofs.Members.{and_left, and_right}
 
 pub at_in : {A : Type 0} (l : List A) (k : ℕ) {a : A} → At l k a → In a l
-at_in [] k h = absurd (none-ne-some _ h)
-at_in (x ∷ xs) zero h = here (sym (some-injective _ _ h))
+at_in [] k h = absurd (none-some _ h)
+at_in (x ∷ xs) zero h = here (sym (same_Some _ _ h))
 at_in (x ∷ xs) (suc k) h = there (at_in xs k h)
 
 pub in_at : {A : Type 0} {a : A} {l : List A} → In a l → (k : ℕ) × At l k a
-in_at (here e) = (0, ap some (sym e))
+in_at (here e) = (0, ap Some (sym e))
 in_at (there h) = let r = in_at h in (suc r.0, r.1)
 
 pub at_length : {A : Type 0} (l : List A) (k : ℕ) {a : A} → At l k a → k < length l
-at_length [] k h = absurd (none-ne-some _ h)
+at_length [] k h = absurd (none-some _ h)
 at_length (x ∷ xs) zero h = omega arith
 at_length (x ∷ xs) (suc k) h = let i = at_length xs k h in omega arith
 
 pub at_map : {A B : Type 0} (g : A → B) (l : List A) (k : ℕ) {a : A} → At l k a → At (map g l) k (g a)
-at_map g [] k h = absurd (none-ne-some _ h)
+at_map g [] k h = absurd (none-some _ h)
 at_map g (x ∷ xs) zero h = cc
 at_map g (x ∷ xs) (suc k) h = at_map g xs k h
 
 pub of_at_map : {A B : Type 0} (g : A → B) (l : List A) (k : ℕ) {b : B} → At (map g l) k b → (a : A) × At l k a × (b ≡ g a)
-of_at_map g [] k h = absurd (none-ne-some _ h)
+of_at_map g [] k h = absurd (none-some _ h)
 of_at_map g (x ∷ xs) zero h = (x, refl, cc)
 of_at_map g (x ∷ xs) (suc k) h = of_at_map g xs k h
 
 pub at_left : {A : Type 0} (xs ys : List A) (k : ℕ) {a : A} → At xs k a → At (xs ++ ys) k a
-at_left [] ys k h = absurd (none-ne-some _ h)
+at_left [] ys k h = absurd (none-some _ h)
 at_left (x ∷ xs) ys zero h = h
 at_left (x ∷ xs) ys (suc k) h = at_left xs ys k h
 
@@ -71,6 +72,6 @@ zeros (suc k) (suc i) = zeros k i
 -- the number at a place of an interval
 pub at_interval : (s k n : ℕ) {i : ℕ} → At (interval s k) n i → i ≡ s + n
 unfolding interval
-at_interval s zero n h = absurd (none-ne-some _ h)
-at_interval s (suc k) zero h = omega (arith, some-injective _ _ h)
+at_interval s zero n h = absurd (none-some _ h)
+at_interval s (suc k) zero h = omega (arith, same_Some _ _ h)
 at_interval s (suc k) (suc n) h = omega (arith, at_interval (suc s) k n h)

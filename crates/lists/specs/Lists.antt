@@ -1,13 +1,11 @@
--- What the library lacks for lists that are walked, filtered and written to. map, _++_ and flatMap are mathlib's; length, getD and get_elem? are lib.ListN's.
-use Rattle.std.specs.Prelude.{◌≡◌, Bool, true, false, ◌&&◌, ◌↔◌, ℕ, zero, suc}
+-- What the library lacks for lists that are walked, filtered and written to. map, _++_ and flatMap are mathlib's; length, get_or and slice_get are the Prelude's.
+use Rattle.std.specs.Prelude.{◌≡◌, Bool, true, false, ◌&&◌, ◌↔◌, ℕ, zero, suc, Option, None, Some, slice_get}
 use mathlib.Core.List.{List, [], ◌∷◌, Memᴰ}
-use Rattle.std.proofs.Math.Option.{Option, none, some}
-use Rattle.std.proofs.Math.ListN.{get_elem?}
 use Rattle.std.proofs.lemmas.List.Edits.{sets}
 
 -- a stands in l at place k, counted from 0
 abbrev pub At : {A : Type 0} → List A → ℕ → A → Type 0
-At l k a = get_elem? l k ≡ some a
+At l k a = slice_get l k ≡ Some a
 
 -- nothing stands in l twice
 abbrev pub Distinct : {A : Type 0} → List A → Type 0
@@ -45,11 +43,11 @@ put s at r = sets s at r
 
 -- the first of l for which P holds
 abbrev pub first_if : {A : Type 0} → Bool → A → Option A → Option A
-first_if true x others = some x
+first_if true x others = Some x
 first_if false x others = others
 
 unfoldable pub first : {A : Type 0} → (A → Bool) → List A → Option A
-first P [] = none
+first P [] = None
 first P (x ∷ xs) = first_if (P x) x (first P xs)
 
 -- The places along links: the link n + 1 leads to place n, whose own link is `next n`, and 0 ends; at most k places.

@@ -2,7 +2,8 @@
 use mathlib.Core.Path.{◌≡◌, refl, sym, ◌∙◌, ap}
 use mathlib.Core.Bool.{Bool, true, false, cond}
 use mathlib.Core.List.{List, [], ◌∷◌, ◌++◌}
-use mathlib.Core.Option.{Option, none, some, none-ne-some, some-injective}
+use Rattle.std.specs.Prelude.{Option, None, Some}
+use Rattle.std.proofs.lemmas.Option.{none-some, same_Some}
 use Prim.Native.Nat.{ℕ, zero, suc, ◌+◌, ◌*◌, ◌<◌}
 use native.Mathlib.Nat.{add-zero}
 use native.Mathlib.Omega.{arith}
@@ -21,8 +22,8 @@ abbrev pub link_of : ℕ → ℕ → ℕ → ℕ
 link_of n j many = cond (ltb (j + 1) many) (n + j + 2) 0
 
 final_length : (o : Option ℕ) → length (final_words o) ≡ 2
-final_length none = refl
-final_length (some w) = refl
+final_length None = refl
+final_length (Some w) = refl
 
 -- a word in the first of two joined lists, and one in the second, by what the index is equal to
 in_left : (l r : List ℕ) (n i : ℕ) → i ≡ n → n < length l → get_or (l ++ r) i 0 ≡ get_or l n 0
@@ -42,9 +43,9 @@ states_length n (r ∷ rs) =
 pub states_word : (n : ℕ) (rows : List Row) (s k : ℕ) {row : Row} → At rows s row → k < 3
     → get_or (states_words n rows) (3 * s + k) 0 ≡ get_or (row_words (n + before rows s) row) k 0
 unfolding states_words before
-states_word n [] s k h l = absurd (none-ne-some _ h)
+states_word n [] s k h l = absurd (none-some _ h)
 states_word n (r ∷ rs) zero k {row} h l =
-    let e : r ≡ row = some-injective _ _ h in
+    let e : r ≡ row = same_Some _ _ h in
     in_left (row_words n r) (states_words (n + length r.list) rs) k (3 * 0 + k) (omega arith) (omega (arith, final_length r.final))
     ∙ ap (λ (q : Row). get_or (row_words n q) k 0) e
     ∙ ap (λ (i : ℕ). get_or (row_words i row) k 0) (sym (add-zero n))
@@ -84,9 +85,9 @@ ltb_suc a b = go (ltb (a + 1) b) refl
 pub list_word : (n : ℕ) (ts : List Tr) (j k : ℕ) {t : Tr} → At ts j t → k < 5
     → get_or (list_words n ts) (5 * j + k) 0 ≡ get_or (words_of_tr t (link_of n j (length ts))) k 0
 unfolding list_words
-list_word n [] j k h l = absurd (none-ne-some _ h)
+list_word n [] j k h l = absurd (none-some _ h)
 list_word n (t ∷ ts) zero k {t = u} h l =
-    let e : t ≡ u = some-injective _ _ h in
+    let e : t ≡ u = same_Some _ _ h in
     in_left (words_of_tr t (cond (non_empty ts) (n + 2) 0)) (list_words (suc n) ts) k (5 * 0 + k) (omega arith) (omega arith)
     ∙ ap (λ (b : Bool). get_or (words_of_tr t (cond b (n + 2) 0)) k 0) (more ts)
     ∙ ap (λ (i : ℕ). get_or (words_of_tr t (cond (ltb (0 + 1) (suc (length ts))) (i + 2) 0)) k 0) (sym (add-zero n))
@@ -104,9 +105,9 @@ list_word n (t ∷ ts) (suc j) k {t = u} h l =
 pub trs_word : (n : ℕ) (rows : List Row) (s j k : ℕ) {row : Row} {t : Tr} → At rows s row → At row.list j t → k < 5
     → get_or (trs_words n rows) (5 * (before rows s + j) + k) 0 ≡ get_or (words_of_tr t (link_of (n + before rows s) j (length row.list))) k 0
 unfolding trs_words before
-trs_word n [] s j k h i l = absurd (none-ne-some _ h)
+trs_word n [] s j k h i l = absurd (none-some _ h)
 trs_word n (r ∷ rs) zero j k {row} {t} h i l =
-    let e : r ≡ row = some-injective _ _ h in
+    let e : r ≡ row = same_Some _ _ h in
     let i' : At r.list j t = rw e i in
     let b = list_length n r.list in
     in_left (list_words n r.list) (trs_words (n + length r.list) rs) (5 * j + k) (5 * (0 + j) + k) (omega arith) (omega (arith, b, at_length r.list j i'))

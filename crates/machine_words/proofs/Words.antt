@@ -2,7 +2,8 @@
 use mathlib.Core.Path.{◌≡◌, refl, sym, ◌∙◌, ap}
 use mathlib.Core.Bool.{Bool, true, false, cond, ◌&&◌, ◌||◌, and-eq-true_iff}
 use mathlib.Core.List.{List, [], ◌∷◌, ◌++◌, Memᴰ as In}
-use mathlib.Core.Option.{Option, none, some, none-ne-some, some-injective}
+use Rattle.std.specs.Prelude.{Option, None, Some}
+use Rattle.std.proofs.lemmas.Option.{none-some, same_Some}
 use Prim.Native.Nat.{ℕ, zero, suc, ◌+◌, ◌-◌, ◌*◌, ◌<◌, ◌≤◌}
 use native.Mathlib.Numerals.{add-one}
 use native.Mathlib.Omega.{arith}
@@ -33,8 +34,8 @@ before_taken (r ∷ rs) (suc s) = ap (λ (n : ℕ). length r.list + n) (before_t
 -- the records before a state and its own are no more than all
 pub before_within : (rows : List Row) (s : ℕ) {row : Row} → At rows s row → before rows s + length row.list ≤ trs_in rows
 unfolding before trs_in
-before_within [] s h = absurd (none-ne-some _ h)
-before_within (r ∷ rs) zero {row} h = let e : length r.list ≡ length row.list = ap (λ (q : Row). length q.list) (some-injective _ _ h) in omega (arith, e)
+before_within [] s h = absurd (none-some _ h)
+before_within (r ∷ rs) zero {row} h = let e : length r.list ≡ length row.list = ap (λ (q : Row). length q.list) (same_Some _ _ h) in omega (arith, e)
 before_within (r ∷ rs) (suc s) h = let a = before_within rs s h in omega (arith, a)
 
 -- which transition of which state a record is
@@ -217,8 +218,8 @@ module _ (start : ℕ) (rows : List Row) where
   words_state_ok s {row} h = rw (words_first_ok s h, words_final s h, words_final_weight s h) (go row.final)
     where
       go : (o : Option ℕ) → final_ok (get_or (final_words o) 0 0) (get_or (final_words o) 1 0) ≡ true
-      go none = refl
-      go (some w) = refl
+      go None = refl
+      go (Some w) = refl
 
   words_tr_ok : RowsFormed → (s j : ℕ) {row : Row} {t : Tr} → At rows s row → At row.list j t → tr_ok (machine_words start rows) (before rows s + j + 1) ≡ true
   unfolding tr_ok

@@ -1,6 +1,5 @@
 -- 01, "A machine in words", the other way: the words of a machine that is given by its rows, with lists one after another.
-use Rattle.std.specs.Prelude.{cond, List, [], ◌∷◌, ◌++◌, ℕ, zero, suc, ◌+◌, length}
-use Rattle.std.proofs.Math.Option.{Option, none, some}
+use Rattle.std.specs.Prelude.{cond, List, [], ◌∷◌, ◌++◌, ℕ, zero, suc, ◌+◌, length, Option, None, Some}
 use Rattle.words.specs.Matches.{Tr}
 use Rattle.words.specs.Sides.{non_empty}
 
@@ -25,8 +24,8 @@ trs_words n (r ∷ rs) = list_words n r.list ++ trs_words (n + length r.list) rs
 
 -- "final 0 or 1, final weight (0 if not final)"
 abbrev pub final_words : Option ℕ → List ℕ
-final_words none = 0 ∷ 0 ∷ []
-final_words (some w) = 1 ∷ w ∷ []
+final_words None = 0 ∷ 0 ∷ []
+final_words (Some w) = 1 ∷ w ∷ []
 
 -- "first transition (0: none), final 0 or 1, final weight": the record of a state whose list begins behind n other records
 abbrev pub row_words : ℕ → Row → List ℕ

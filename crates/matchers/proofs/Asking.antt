@@ -4,7 +4,7 @@ use mathlib.Core.Path.{◌≡◌, refl, sym, ap, subst, ◌∙◌}
 use mathlib.Core.Bool.{Bool, cond}
 use mathlib.Core.List.{List, [], ◌∷◌, map}
 use mathlib.Core.Logic.{◌⊎◌, inl, inr}
-use mathlib.Core.Option.{none}
+use Rattle.std.specs.Prelude.{None, slice_get}
 use Prim.Native.Nat.{ℕ, zero, suc, ◌≤◌}
 use native.Mathlib.Omega.{arith}
 use seplogic.Ra.Ura.{Ura}
@@ -15,7 +15,7 @@ use types.Logic.{Logic}
 use contract.Lifetimes.{Lfts}
 use contract.Monad.{Fun}
 use denote.Ref.{Bor}
-use lib.ListN.{length, get_elem?}
+use lib.ListN.{length}
 use Rattle.lists.specs.Asking.{AskedOn}
 use Rattle.lists.proofs.Apart.{Apart, apart_once}
 use Rattle.lists.proofs.Asking.{asked_on_lem, kept_on}
@@ -94,15 +94,15 @@ held_after_lem w g m c = go (matches_left m c)
     go (own t ∷ us) = refl
     go (viaSigma t ∷ us) = refl
 
-head_asked : (l : List Item) → (asked l).given ≡ get_elem? l 0
+head_asked : (l : List Item) → (asked l).given ≡ slice_get l 0
 head_asked [] = refl
 head_asked (i ∷ is) = refl
 
-tail_asked : (l : List Item) (k : ℕ) → get_elem? (asked l).left k ≡ get_elem? l (suc k)
+tail_asked : (l : List Item) (k : ℕ) → slice_get (asked l).left k ≡ slice_get l (suc k)
 tail_asked [] k = refl
 tail_asked (i ∷ is) k = refl
 
-past : (item : Match → Item) (ms : List Match) (k : ℕ) → length ms ≤ k → get_elem? (map item ms) k ≡ none
+past : (item : Match → Item) (ms : List Match) (k : ℕ) → length ms ≤ k → slice_get (map item ms) k ≡ None
 past item [] k h = refl
 past item (u ∷ us) zero h = absurd (omega arith)
 past item (u ∷ us) (suc k) h = past item us k (omega arith)
@@ -119,17 +119,17 @@ gives κs w g s q item ms c e d h = record { in_order = λ k r a u i. at k r a �
     left : Cursor → List Item
     left d = items_left (held_words d g.now w.now) d
 
-    one : (d : Cursor) (r : Step) → NextReply κs w g d r → (given_by r ≡ get_elem? (left d) 0) × ((k : ℕ) → get_elem? (left (cursor_of r)) k ≡ get_elem? (left d) (suc k))
+    one : (d : Cursor) (r : Step) → NextReply κs w g d r → (given_by r ≡ slice_get (left d) 0) × ((k : ℕ) → slice_get (left (cursor_of r)) k ≡ slice_get (left d) (suc k))
     one d r a =
         let x = answers κs w g d r a in
         let n = held_words d g.now w.now in
         let same = ap (λ (f : Cursor). held_words f g.now w.now) x.1 ∙ held_after_lem w.now g.now n d in
-        (ap (λ y. y.given) x.0 ∙ head_asked (left d), λ k. ap (λ (v : List ℕ). get_elem? (items_left v (cursor_of r)) k) same ∙ (ap (λ y. get_elem? y.left k) x.0 ∙ tail_asked (left d) k))
+        (ap (λ y. y.given) x.0 ∙ head_asked (left d), λ k. ap (λ (v : List ℕ). slice_get (items_left v (cursor_of r)) k) same ∙ (ap (λ y. slice_get y.left k) x.0 ∙ tail_asked (left d) k))
 
-    at : (k : ℕ) (r : Step) → AskedOn (NextReply κs w g) onward c k r → given_by r ≡ get_elem? (map item ms) k
+    at : (k : ℕ) (r : Step) → AskedOn (NextReply κs w g) onward c k r → given_by r ≡ slice_get (map item ms) k
     at k r a =
-        asked_on_lem (NextReply κs w g) onward given_by (λ d j. get_elem? (left d) j) one c k r a
-        ∙ ap (λ (l : List Item). get_elem? l k) (ap (λ (v : List ℕ). items_left v c) (held_words_lem w g m s q c h) ∙ e)
+        asked_on_lem (NextReply κs w g) onward given_by (λ d j. slice_get (left d) j) one c k r a
+        ∙ ap (λ (l : List Item). slice_get l k) (ap (λ (v : List ℕ). items_left v c) (held_words_lem w g m s q c h) ∙ e)
 
     keeps : (d : Cursor) (r : Step) → NextReply κs w g d r → Holds m s q d → Holds m s q (cursor_of r)
     keeps d r a p = rw ((answers κs w g d r a).1, held_words_lem w g m s q d p) (after_holds m s q d p)
@@ -179,7 +179,7 @@ sigma_asked_on κs κt w g allowed on labels sigma s x i (means, place) = record
     m = read_as on labels g.now w.now
 
     both : Bool
-    both = (operand_in (on_of on) m sigma none).sigma.rewrite_both
+    both = (operand_in (on_of on) m sigma None).sigma.rewrite_both
 
     stands : Bool
     stands = stands_for sigma.label.0 (allowed_of sigma.listed allowed.now) x.0

@@ -4,7 +4,7 @@ use mathlib.Core.Path.{◌≡◌, refl}
 use mathlib.Core.Bool.{Bool, true, false}
 use mathlib.Core.List.{List, [], ◌∷◌}
 use mathlib.Core.Logic.{inl}
-use mathlib.Core.Option.{none, some}
+use Rattle.std.specs.Prelude.{None, Some}
 use Prim.Native.Nat.{ℕ, ◌+◌}
 use native.Mathlib.Omega.{arith}
 use contract.Lifetimes.{Lfts}
@@ -145,11 +145,11 @@ module _ (κs : Lfts 2) (κt : Lfts 3) (ptr : ℕ × ℕ) (unread : Bor (List �
   four_gives : Gives Answer words 0 (record { on = inputs; label = 4; sigma = 9; labels = labels; both = false }) (λ u. item_of (machine_of words) (rewrite false inputs 9 4) u) (own 2 ∷ viaSigma 3 ∷ []) (four Own 2)
   four_gives = let f = four_found in rw (from_is f.1) f.2
 
-  pub four_given : (r q : Step) → Gets (four Own 2) 0 r → Gets (four Own 2) 1 q → (given_by r ≡ some (item 4 6 2)) × (given_by q ≡ some (item 4 9 3))
+  pub four_given : (r q : Step) → Gets (four Own 2) 0 r → Gets (four Own 2) 1 q → (given_by r ≡ Some (item 4 6 2)) × (given_by q ≡ Some (item 4 9 3))
   unfolding lookup sorted_matches sigma_matches sigma_trs labelled keep_if state_count tr_count state_word tr_word first_ok next_ok first_of next_of list_by list_from list_of acceptor_mark words_read
   four_given r q h i = (four_gives.in_order 0 r h (own 2) refl, four_gives.in_order 1 q i (viaSigma 3) refl)
 
-  pub four_ended : (k : ℕ) (r : Step) → Gets (four Own 2) (2 + k) r → given_by r ≡ none
+  pub four_ended : (k : ℕ) (r : Step) → Gets (four Own 2) (2 + k) r → given_by r ≡ None
   four_ended k r h = four_gives.then_none (2 + k) r h (omega arith)
 
   -- of the sorted look-up of 0
@@ -157,11 +157,11 @@ module _ (κs : Lfts 2) (κt : Lfts 3) (ptr : ℕ × ℕ) (unread : Bor (List �
   unfolding lookup sorted_matches sigma_matches sigma_trs labelled keep_if state_count tr_count state_word tr_word first_ok next_ok first_of next_of list_by list_from list_of acceptor_mark words_read
   zero_gives = sorted_asked_on κs κs lent none_ignored MatchInput labels (record { 0 = 0 }) (record { 0 = 0 }) _ zero_begins
 
-  pub zero_given : (r q : Step) → Gets (zero Own true 1) 0 r → Gets (zero Own true 1) 1 q → (given_by r ≡ some the_loop) × (given_by q ≡ some (item 0 6 1))
+  pub zero_given : (r q : Step) → Gets (zero Own true 1) 0 r → Gets (zero Own true 1) 1 q → (given_by r ≡ Some the_loop) × (given_by q ≡ Some (item 0 6 1))
   unfolding lookup sorted_matches sigma_matches sigma_trs labelled keep_if state_count tr_count state_word tr_word first_ok next_ok first_of next_of list_by list_from list_of acceptor_mark words_read
   zero_given r q h i = (zero_gives.in_order 0 r h loop refl, zero_gives.in_order 1 q i (own 1) refl)
 
-  pub zero_ended : (k : ℕ) (r : Step) → Gets (zero Own true 1) (2 + k) r → given_by r ≡ none
+  pub zero_ended : (k : ℕ) (r : Step) → Gets (zero Own true 1) (2 + k) r → given_by r ≡ None
   zero_ended k r h = zero_gives.then_none (2 + k) r h (omega arith)
 
   -- of the sigma look-up of the sigma label: refusal 11

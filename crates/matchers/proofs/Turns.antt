@@ -2,7 +2,7 @@
 use mathlib.Core.Path.{◌≡◌, refl, sym, ap, ap₂, ◌∙◌}
 use mathlib.Core.Bool.{Bool, true, false}
 use mathlib.Core.List.{List, [], ◌∷◌, map}
-use mathlib.Core.Option.{none, some}
+use Rattle.std.specs.Prelude.{None, Some}
 use Prim.Native.Nat.{ℕ}
 use Rattle.lists.specs.Lists.{put_if}
 use Rattle.words.specs.Matches.{Match, loop, viaSigma, Tr as Transition, tr_of}
@@ -19,16 +19,16 @@ use Rattle.matchers.proofs.Seeks.{with_end, sought_none, sought_first}
 
 -- an asking that gives the transition t and leaves what the cursor d has to give
 abbrev gives : List ℕ → Transition → Cursor → Asked
-gives m t d = record { given = some (whole t); left = items_left m d }
+gives m t d = record { given = Some (whole t); left = items_left m d }
 
 pub same_gives : (m : List ℕ) {t u : Transition} {d e : Cursor} → t ≡ u → d ≡ e → gives m t d ≡ gives m u e
 same_gives m p q = ap₂ (gives m) p q
 
 -- the loop is due
-pub loop_turn : (m : List ℕ) (c : Cursor) → c.loops ≡ true → record { given = some the_loop; left = items_left m (moved_to c c.phase c.tr) } ≡ asked (items_left m c)
+pub loop_turn : (m : List ℕ) (c : Cursor) → c.loops ≡ true → record { given = Some the_loop; left = items_left m (moved_to c c.phase c.tr) } ≡ asked (items_left m c)
 unfolding items_left matches_left own_left sigma_left
 loop_turn m c e =
-    ap (λ (is : List Item). record { given = some the_loop; left = is }) (go c.phase)
+    ap (λ (is : List Item). record { given = Some the_loop; left = is }) (go c.phase)
     ∙ ap (λ (b : Bool). asked (items_of m c (put_if b loop (in_phase c.phase m c)))) (sym e)
   where
     go : (p : Phase) → items_of m c (in_phase p m (moved_to c c.phase c.tr)) ≡ items_of m c (in_phase p m c)
@@ -61,7 +61,7 @@ answers_all m c us r e h = rw e h
 abbrev pub next_sigma : List ℕ → Cursor → ℕ
 next_sigma m c = head0 (with_label (on_of c.on) m c.sigma.0 c.tr)
 
-pub sigma_end : (m : List ℕ) (c : Cursor) → next_sigma m c ≡ 0 → record { given = none; left = items_left m (moved_to c Sigmas 0) } ≡ asked (items_of m c (sigma_left m c c.tr))
+pub sigma_end : (m : List ℕ) (c : Cursor) → next_sigma m c ≡ 0 → record { given = None; left = items_left m (moved_to c Sigmas 0) } ≡ asked (items_of m c (sigma_left m c c.tr))
 unfolding items_left matches_left sigma_left
 sigma_end m c z = rw (sought_none (on_of c.on) m c.sigma.0 c.tr z, with_end (on_of c.on) m c.sigma.0 0)
 

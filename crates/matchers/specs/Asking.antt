@@ -1,7 +1,6 @@
 -- 02, 2.5: "Asked on, it is proved to give the definition's matches, each once and in order, then none ever after"; "it walks the list itself and keeps only the present place".
-use Rattle.std.specs.Prelude.{◌≡◌, Bool, false, ◌⊎◌, ℕ, ◌≤◌, length}
+use Rattle.std.specs.Prelude.{◌≡◌, Bool, false, ◌⊎◌, ℕ, ◌≤◌, length, None, Some}
 use mathlib.Core.List.{List, map, Memᴰ as In}
-use Rattle.std.proofs.Math.Option.{none, some}
 use Rattle.lists.specs.Lists.{At, Distinct}
 use Rattle.lists.specs.Asking.{AskedOn}
 use Rattle.words.specs.Labels.{no_label, Checked, good, refused}
@@ -83,9 +82,9 @@ onward c r = cursor_of r
 -- reply r; `item u` is what the match u gives.
 pub record Gives (Answers : Cursor → Step → Type 0) (m : List ℕ) (s : ℕ) (q : LookUp) (item : Match → Item) (ms : List Match) (c : Cursor) : Type 0 where
   -- asking number k gives match number k ..
-  pub in_order : (k : ℕ) (r : Step) → AskedOn Answers onward c k r → (u : Match) → At ms k u → given_by r ≡ some (item u)
+  pub in_order : (k : ℕ) (r : Step) → AskedOn Answers onward c k r → (u : Match) → At ms k u → given_by r ≡ Some (item u)
   -- .. and from their end on, however often it is asked, none
-  pub then_none : (k : ℕ) (r : Step) → AskedOn Answers onward c k r → length ms ≤ k → given_by r ≡ none
+  pub then_none : (k : ℕ) (r : Step) → AskedOn Answers onward c k r → length ms ≤ k → given_by r ≡ None
   -- each once: among the matches neither the loop nor a record stands twice
   pub once : Distinct (map edge_of ms)
   -- the first cursor, and each that an asking hands back, holds what was asked, and places

@@ -1,6 +1,5 @@
 -- What a cursor has still to give, and what one asking answers.
-use Rattle.std.specs.Prelude.{◌≡◌, Bool, false, cond, List, [], ◌∷◌, ◌++◌, map, ℕ, eqb, leb}
-use Rattle.std.proofs.Math.Option.{Option, none, some}
+use Rattle.std.specs.Prelude.{◌≡◌, Bool, false, cond, List, [], ◌∷◌, ◌++◌, map, ℕ, eqb, leb, Option, None, Some}
 use Rattle.lists.specs.Lists.{put_if, keep_if}
 use Rattle.words.specs.Labels.{eps_label, no_label, Checked, good, refused}
 use Rattle.words.specs.Matches.{MatchType, label_on, Match, loop, own, viaSigma}
@@ -87,13 +86,13 @@ pub record Asked : Type 0 where
 
 -- asked for the next of a list
 abbrev pub asked : List Item → Asked
-asked [] = record { given = none; left = [] }
-asked (i ∷ is) = record { given = some i; left = is }
+asked [] = record { given = None; left = [] }
+asked (i ∷ is) = record { given = Some i; left = is }
 
 -- what a step of the code gives; none: the end
 abbrev pub given_by : Step → Option Item
-given_by (AMatch i c) = some (match_means i)
-given_by (End c) = none
+given_by (AMatch i c) = Some (match_means i)
+given_by (End c) = None
 
 -- the cursor that it hands back
 abbrev pub cursor_of : Step → Cursor

@@ -1,6 +1,5 @@
 -- What a match of the code stands for in the definitions of `words`, and what the two look-ups give.
-use Rattle.std.specs.Prelude.{Bool, true, false, not, ◌&&◌, List, map, ℕ, eqb}
-use Rattle.std.proofs.Math.Option.{Option, none, some}
+use Rattle.std.specs.Prelude.{Bool, true, false, not, ◌&&◌, List, map, ℕ, eqb, Option, None, Some}
 use Rattle.papers.specs.Machine.{Machine}
 use Rattle.words.specs.Labels.{eps_label, no_label, Checked, good, and_then}
 use Rattle.words.specs.Matches.{MatchType, Match, loop, own, viaSigma, Tr as Transition, tr_of, sorted_matches}
@@ -38,8 +37,8 @@ lookup_items o s x = and_then (lookup o s x) (λ ms. good (map (item_of o.machin
 
 -- The allowed list is lent with a mark whether there is one: "no list: all; empty list: none".
 abbrev pub allowed_of : Bool → List ℕ → Option (List ℕ)
-allowed_of true xs = some xs
-allowed_of false xs = none
+allowed_of true xs = Some xs
+allowed_of false xs = None
 
 -- a machine's words with the sigma settings of the code, and an allowed list
 abbrev pub operand_in : MatchType → List ℕ → Sigma → Option (List ℕ) → Operand

@@ -1,6 +1,5 @@
 // The sigma look-up (sigma_matcher.rs): a label's own matches, and after them each sigma transition, rewritten.
-ghost use Rattle.std.specs.Prelude.{◌≡◌, not, ◌&&◌, cond, eqb};
-ghost use Rattle.std.proofs.Math.Option.{none};
+ghost use Rattle.std.specs.Prelude.{◌≡◌, not, ◌&&◌, cond, eqb, None};
 ghost use Rattle.words.specs.Labels.{no_label};
 ghost use Rattle.words.specs.Machines.{first_of};
 ghost use Rattle.words.specs.Sides.{non_empty};
@@ -115,7 +114,7 @@ pub fn sigma_iter(
         let operand = operand_in (on_of on) words sigma allowed in
         iter_means words result ≡ lookup_items operand s.0 label.0 }
     ensures place { let words = read_as on sigmas ignored.now m.now in
-        let both = (operand_in (on_of on) words sigma none).sigma.rewrite_both in
+        let both = (operand_in (on_of on) words sigma None).sigma.rewrite_both in
         let from = cond (stands_for sigma.label.0 (allowed_of sigma.listed allowed.now) label.0) (first_of words s.0) 0 in
         BeginsAt result (first_cursor words on sigmas s label sigma.label both from) }
 {
@@ -149,7 +148,7 @@ pub fn has_sigma(
     s: StateId,
 ) -> bool
     ensures { let words = read_as on sigmas ignored.now m.now in
-        result ≡ non_empty (sigma_trs (operand_of (on_of on) words sigma.0 0 none) s.0) }
+        result ≡ non_empty (sigma_trs (operand_of (on_of on) words sigma.0 0 None) s.0) }
 {
     if sigma.0 == NO_LABEL.0 {
         return false;

@@ -5,7 +5,8 @@ use mathlib.Core.List.Memᴰ
 use mathlib.Core.List.Memᴰ.{head as here}
 use mathlib.Core.List.{List, [], ◌∷◌, flat_map}
 use mathlib.Core.Logic.{⊎_elim}
-use mathlib.Core.Option.{none, some, none-ne-some, some-injective}
+use Rattle.std.specs.Prelude.{None, Some}
+use Rattle.std.proofs.lemmas.Option.{none-some, same_Some}
 use Prim.Native.Nat.{ℕ}
 use native.Mathlib.Omega.{arith}
 use lib.ListN.{get_or}
@@ -25,7 +26,7 @@ table d l n = get_or l n d
 abbrev T1 : Machine
 T1 = record {
   states = 3;
-  start = some 0;
+  start = Some 0;
   list = table [] ((1 ∷ []) ∷ (2 ∷ []) ∷ []);
   input = table 0 (0 ∷ 1 ∷ 2 ∷ []);
   output = table 0 (0 ∷ ε ∷ 5 ∷ []);
@@ -39,7 +40,7 @@ T1 = record {
 abbrev T2 : Machine
 T2 = record {
   states = 3;
-  start = some 0;
+  start = Some 0;
   list = table [] ((1 ∷ []) ∷ (2 ∷ 3 ∷ []) ∷ []);
   input = table 0 (0 ∷ ε ∷ 5 ∷ 6 ∷ []);
   output = table 0 (0 ∷ 7 ∷ ε ∷ 9 ∷ []);
@@ -95,16 +96,16 @@ not5 : ◌≡◌ {A = ℕ} 5 0 → ⊥
 not5 e = omega arith
 
 -- the moves are kept where the filter lets them pass
-move1 : (filter : Filter) (q2 f g : ℕ) → filter lone1 (facts_of T1 T2 0 q2) f ≡ some g → KeptMove (with filter) (at 0 q2 f) alone1 g
+move1 : (filter : Filter) (q2 f g : ℕ) → filter lone1 (facts_of T1 T2 0 q2) f ≡ Some g → KeptMove (with filter) (at 0 q2 f) alone1 g
 move1 filter q2 f g e = (lone1, (here refl, tt, (refl, refl)), e)
 
-move2 : (filter : Filter) (q1 f g : ℕ) → filter lone2 (facts_of T1 T2 q1 0) f ≡ some g → KeptMove (with filter) (at q1 0 f) alone2 g
+move2 : (filter : Filter) (q1 f g : ℕ) → filter lone2 (facts_of T1 T2 q1 0) f ≡ Some g → KeptMove (with filter) (at q1 0 f) alone2 g
 move2 filter q1 f g e = (lone2, (tt, here refl, (refl, refl)), e)
 
-moveε : (filter : Filter) (f g : ℕ) → filter bothEpsilon (facts_of T1 T2 0 0) f ≡ some g → KeptMove (with filter) (at 0 0 f) together g
+moveε : (filter : Filter) (f g : ℕ) → filter bothEpsilon (facts_of T1 T2 0 0) f ≡ Some g → KeptMove (with filter) (at 0 0 f) together g
 moveε filter f g e = (bothEpsilon, (here refl, here refl, (refl, refl)), e)
 
-move5 : (filter : Filter) (f g : ℕ) → filter aLabel (facts_of T1 T2 1 1) f ≡ some g → KeptMove (with filter) (at 1 1 f) five g
+move5 : (filter : Filter) (f g : ℕ) → filter aLabel (facts_of T1 T2 1 1) f ≡ Some g → KeptMove (with filter) (at 1 1 f) five g
 move5 filter f g e = (aLabel, (here refl, here refl, (5, 5, refl, refl, not5, not5, refl)), e)
 
 -- an accepting list of moves under each filter
@@ -123,7 +124,7 @@ matched_run = (at 0 0 0, (refl, refl, refl), (0, moveε epsilon_matching 0 0 ref
 pub null_run : AcceptingRun tropical finite (with null_filter) matched
 null_run = (at 0 0 0, (refl, refl, refl), (0, moveε null_filter 0 0 refl, (0, move5 null_filter 0 0 refl, ((refl, refl), finite≢infinite))))
 
-lone_runs : (F : Filter) → ((φ : Facts) (f : ℕ) → (F lone1 φ f ≡ some 0) × (F lone2 φ f ≡ some 0) × (F aLabel φ f ≡ some 0))
+lone_runs : (F : Filter) → ((φ : Facts) (f : ℕ) → (F lone1 φ f ≡ Some 0) × (F lone2 φ f ≡ Some 0) × (F aLabel φ f ≡ Some 0))
     → AcceptingRun tropical finite (with F) sequenced × AcceptingRun tropical finite (with F) mirrored
 lone_runs F e = (
   (at 0 0 0, (refl, refl, refl), (0, move1 F 0 0 0 (e _ 0).0, (0, move2 F 1 0 0 (e _ 0).1, (0, move5 F 0 0 (e _ 0).2, ((refl, refl), finite≢infinite))))),
@@ -139,7 +140,7 @@ pub no_match_runs : AcceptingRun tropical finite (with no_match_filter) sequence
 no_match_runs = lone_runs no_match_filter (λ φ f. (refl, refl, refl))
 
 -- what they block
-pub further_block : (φ : Facts) (f : ℕ) → (null_filter lone1 φ f ≡ none) × (null_filter lone2 φ f ≡ none) × (no_match_filter bothEpsilon φ f ≡ none)
+pub further_block : (φ : Facts) (f : ℕ) → (null_filter lone1 φ f ≡ None) × (null_filter lone2 φ f ≡ None) × (no_match_filter bothEpsilon φ f ≡ None)
 further_block φ f = (refl, refl, refl)
 
 -- the first list: its labels, its paths, its weight in both semirings, and that of its paths
@@ -186,32 +187,32 @@ label_alone filter q2 f g h = not5 (lone1_is T1 T2 T1.output T2.input equal 1 q2
 
 -- the filter blocks T1's ε after T2's, T2's after T1's, and one alone after the other alone
 pub sequencing_blocks : (g : ℕ) → KeptMove (with epsilon_sequencing) (at 0 1 1) alone1 g → ⊥
-sequencing_blocks g h = let k = (lone1_is T1 T2 T1.output T2.input equal 0 1 h.0 1 h.1).0 in none-ne-some _ (rw k at h.2)
+sequencing_blocks g h = let k = (lone1_is T1 T2 T1.output T2.input equal 0 1 h.0 1 h.1).0 in none-some _ (rw k at h.2)
 
 pub mirrored_blocks : (g : ℕ) → KeptMove (with epsilon_sequencing_mirrored) (at 1 0 1) alone2 g → ⊥
-mirrored_blocks g h = let k = (lone2_is T1 T2 T1.output T2.input equal 1 0 h.0 1 h.1).0 in none-ne-some _ (rw k at h.2)
+mirrored_blocks g h = let k = (lone2_is T1 T2 T1.output T2.input equal 1 0 h.0 1 h.1).0 in none-some _ (rw k at h.2)
 
 pub matching_blocks : (g : ℕ) → (KeptMove (with epsilon_matching) (at 1 0 1) alone2 g → ⊥) × (KeptMove (with epsilon_matching) (at 0 1 2) alone1 g → ⊥)
 matching_blocks g = (
-  λ h. let k = (lone2_is T1 T2 T1.output T2.input equal 1 0 h.0 1 h.1).0 in none-ne-some _ (rw k at h.2),
-  λ h. let k = (lone1_is T1 T2 T1.output T2.input equal 0 1 h.0 1 h.1).0 in none-ne-some _ (rw k at h.2),
+  λ h. let k = (lone2_is T1 T2 T1.output T2.input equal 1 0 h.0 1 h.1).0 in none-some _ (rw k at h.2),
+  λ h. let k = (lone1_is T1 T2 T1.output T2.input equal 0 1 h.0 1 h.1).0 in none-some _ (rw k at h.2),
 )
 
 -- each filter's next state is the one that it gives
 pub next_states : (g : ℕ) → (KeptMove (with epsilon_sequencing) (at 1 0 0) alone2 g → g ≡ 1) × (KeptMove (with epsilon_sequencing_mirrored) (at 0 1 0) alone1 g → g ≡ 1) × (KeptMove (with epsilon_matching) (at 0 0 0) alone1 g → g ≡ 1) × (KeptMove (with epsilon_matching) (at 0 0 0) alone2 g → g ≡ 2)
 next_states g = (
-  λ h. let k = (lone2_is T1 T2 T1.output T2.input equal 1 0 h.0 1 h.1).0 in sym (some-injective _ _ (rw k at h.2)),
-  λ h. let k = (lone1_is T1 T2 T1.output T2.input equal 0 1 h.0 1 h.1).0 in sym (some-injective _ _ (rw k at h.2)),
-  λ h. let k = (lone1_is T1 T2 T1.output T2.input equal 0 0 h.0 1 h.1).0 in sym (some-injective _ _ (rw k at h.2)),
-  λ h. let k = (lone2_is T1 T2 T1.output T2.input equal 0 0 h.0 1 h.1).0 in sym (some-injective _ _ (rw k at h.2)),
+  λ h. let k = (lone2_is T1 T2 T1.output T2.input equal 1 0 h.0 1 h.1).0 in sym (same_Some _ _ (rw k at h.2)),
+  λ h. let k = (lone1_is T1 T2 T1.output T2.input equal 0 1 h.0 1 h.1).0 in sym (same_Some _ _ (rw k at h.2)),
+  λ h. let k = (lone1_is T1 T2 T1.output T2.input equal 0 0 h.0 1 h.1).0 in sym (same_Some _ _ (rw k at h.2)),
+  λ h. let k = (lone2_is T1 T2 T1.output T2.input equal 0 0 h.0 1 h.1).0 in sym (same_Some _ _ (rw k at h.2)),
 )
 
 -- starts, and ends: both must be final, and a weight zero ends nothing
 pub no_start : (Start (with epsilon_sequencing) (at 0 0 1) → ⊥) × (Start (with epsilon_sequencing) (at 1 0 0) → ⊥) × (Start (with epsilon_sequencing) (at 0 1 0) → ⊥)
 no_start = (
   λ h. let z : ◌≡◌ {A = ℕ} 1 0 = h.2 in omega arith,
-  λ h. let z : ◌≡◌ {A = ℕ} 0 1 = some-injective _ _ h.0 in omega arith,
-  λ h. let z : ◌≡◌ {A = ℕ} 0 1 = some-injective _ _ h.1 in omega arith,
+  λ h. let z : ◌≡◌ {A = ℕ} 0 1 = same_Some _ _ h.0 in omega arith,
+  λ h. let z : ◌≡◌ {A = ℕ} 0 1 = same_Some _ _ h.1 in omega arith,
 )
 
 pub no_end : (EndsBoth tropical finite (with epsilon_sequencing) 1 2 → ⊥) × (EndsBoth tropical finite (with epsilon_sequencing) 2 1 → ⊥) × (EndsBoth tropical (λ n. infinite) (with epsilon_sequencing) 2 2 → ⊥) × (Ends tropical (λ n. infinite) T1 2 → ⊥) × (Ends tropical finite T1 1 → ⊥)

@@ -1,7 +1,7 @@
 -- The laws of a filter (specs/Laws) as a test that the checker computes: the laws follow from the test.
 use mathlib.Core.Path.{◌≡◌, refl, sym, ◌∙◌, ap₂}
 use mathlib.Core.Bool.{Bool, true, false, beq, false≢true}
-use mathlib.Core.Option.{Option, none, some}
+use Rattle.std.specs.Prelude.{Option, None, Some}
 use Prim.Native.Nat.{ℕ}
 use Rattle.lists.specs.Finite.{both, implies, all_b}
 use Rattle.lists.proofs.Finite.{left, right, join, apply, at_b}
@@ -55,12 +55,12 @@ same_k_eq j k e =
 
 -- the test of a result: it must be there; or, if it is there
 abbrev holds : (ℕ → Bool) → Option ℕ → Bool
-holds P none = false
-holds P (some g) = P g
+holds P None = false
+holds P (Some g) = P g
 
 abbrev fails : (ℕ → Bool) → Option ℕ → Bool
-fails P none = true
-fails P (some g) = P g
+fails P None = true
+fails P (Some g) = P g
 
 module _ (filter : Filter) (live : ℕ → Bool → Bool → Bool) (pick : Bool → Bool → MoveKind) where
   abbrev forward : ℕ → Bool → Bool → Bool → Bool → Bool → Bool → Bool → Bool → Bool
@@ -106,19 +106,19 @@ module _ (filter : Filter) (live : ℕ → Bool → Bool → Bool) (pick : Bool 
 
     forwards_of : (φ : Facts) (f : ℕ) (x y : Bool) → fits φ.none1 φ.all1 x ≡ true → fits φ.none2 φ.all2 y ≡ true → live f x y ≡ true
         → (o : Option ℕ) → filter (pick x y) φ f ≡ o
-        → (g : ℕ) × (filter (pick x y) φ f ≡ some g) × ((x' y' : Bool) → live g (then1 (pick x y) x x') (then2 (pick x y) y y') ≡ true)
+        → (g : ℕ) × (filter (pick x y) φ f ≡ Some g) × ((x' y' : Bool) → live g (then1 (pick x y) x x') (then2 (pick x y) y y') ≡ true)
     forwards_of φ f x y h1 h2 h3 o e = go o e
       where
         test : (x' y' : Bool) → holds (λ g. live g (then1 (pick x y) x x') (then2 (pick x y) y y')) (filter (pick x y) φ f) ≡ true
         test x' y' = apply _ _ (forward_of f φ x y x' y') (join _ _ (join _ _ h1 h2) h3)
 
         go : (o : Option ℕ) → filter (pick x y) φ f ≡ o
-            → (g : ℕ) × (filter (pick x y) φ f ≡ some g) × ((x' y' : Bool) → live g (then1 (pick x y) x x') (then2 (pick x y) y y') ≡ true)
-        go none e = let z : false ≡ true = rw e at (test true true) in absurd (false≢true z)
-        go (some g) e = (g, e, λ x' y'. rw e at (test x' y'))
+            → (g : ℕ) × (filter (pick x y) φ f ≡ Some g) × ((x' y' : Bool) → live g (then1 (pick x y) x x') (then2 (pick x y) y y') ≡ true)
+        go None e = let z : false ≡ true = rw e at (test true true) in absurd (false≢true z)
+        go (Some g) e = (g, e, λ x' y'. rw e at (test x' y'))
 
     backwards_of : (k : MoveKind) (φ : Facts) (f g : ℕ) (x y x' y' : Bool) → fits φ.none1 φ.all1 x ≡ true → fits φ.none2 φ.all2 y ≡ true → begins k x y ≡ true
-        → filter k φ f ≡ some g → live g (then1 k x x') (then2 k y y') ≡ true → (live f x y ≡ true) × (pick x y ≡ k)
+        → filter k φ f ≡ Some g → live g (then1 k x x') (then2 k y y') ≡ true → (live f x y ≡ true) × (pick x y ≡ k)
     backwards_of k φ f g x y x' y' h1 h2 h3 e h4 =
         let t = apply _ _ (backward_of f k φ x y x' y') (join _ _ (join _ _ h1 h2) h3) in
         let u : both (live f x y) (same_k (pick x y) k) ≡ true = apply _ _ (rw e at t) h4 in

@@ -3,7 +3,8 @@ use mathlib.Core.Path.{◌≡◌, refl, sym, ◌∙◌, ap}
 use mathlib.Core.Bool.{Bool, true, false, true≢false, false≢true}
 use mathlib.Core.List.{Memᴰ as In}
 use mathlib.Core.Logic.{◌≢◌, ◌⊎◌, inl, inr}
-use mathlib.Core.Option.{none, none-ne-some}
+use Rattle.std.specs.Prelude.{None}
+use Rattle.std.proofs.lemmas.Option.{none-some}
 use Prim.Native.Nat.{ℕ}
 use Rattle.papers.specs.Machine.{ε, Machine}
 use Rattle.papers.specs.Filter.{MoveKind, lone1, lone2, bothEpsilon, aLabel, facts_of}
@@ -96,5 +97,5 @@ module _ (A B : Machine) (la lb : ℕ → ℕ) (meets : Meets) (q1 q2 : ℕ) whe
   rest_is_none k h = of_pair k rest rest h
 
 -- what the filter blocks is not kept
-pub blocked : (C : Composed) (s : Triple) (m : Edges) (g : ℕ) → ((k : MoveKind) → C.filter k (facts_of C.first C.second s.s1 s.s2) s.f ≡ none) → KeptMove C s m g → ⊥
-blocked C s m g n h = none-ne-some _ (sym (n h.0) ∙ h.2)
+pub blocked : (C : Composed) (s : Triple) (m : Edges) (g : ℕ) → ((k : MoveKind) → C.filter k (facts_of C.first C.second s.s1 s.s2) s.f ≡ None) → KeptMove C s m g → ⊥
+blocked C s m g n h = none-some _ (sym (n h.0) ∙ h.2)

@@ -1,7 +1,7 @@
 -- The mirror image of a composition: the machines inverted and exchanged, the filter mirrored. Its moves are those of the composition, exchanged.
 use mathlib.Core.Path.{◌≡◌, refl}
 use mathlib.Core.Logic.{◌↔◌}
-use mathlib.Core.Option.{map}
+use Rattle.std.specs.Prelude.{option_map}
 use Prim.Native.Nat.{ℕ, zero, suc}
 use Rattle.papers.specs.Machine.{Machine}
 use Rattle.papers.specs.Filter.{MoveKind, lone1, lone2, bothEpsilon, aLabel, Facts, no_epsilon, only_epsilons, Filter, epsilon_sequencing, epsilon_sequencing_mirrored, epsilon_matching}
@@ -120,7 +120,7 @@ exchanged zero = 0
 exchanged (suc zero) = 2
 exchanged (suc (suc f)) = 1
 
-pub matching_mirror : (k : MoveKind) (φ : Facts) (f : ℕ) → map exchanged (epsilon_matching k φ f) ≡ mirror_filter epsilon_matching k φ (exchanged f)
+pub matching_mirror : (k : MoveKind) (φ : Facts) (f : ℕ) → option_map exchanged (epsilon_matching k φ f) ≡ mirror_filter epsilon_matching k φ (exchanged f)
 matching_mirror lone1 φ zero = refl
 matching_mirror lone1 φ (suc zero) = refl
 matching_mirror lone1 φ (suc (suc f)) = refl

@@ -7,7 +7,8 @@ use mathlib.Core.List.Memᴰ.{head as here}
 use mathlib.Core.List.Memᴰ.{tail as there}
 use mathlib.Core.List.{List, [], ◌∷◌, map, Memᴰ as In, head-eq_of_cons-eq}
 use mathlib.Core.Logic.{⊎_elim}
-use mathlib.Core.Option.{some, some-injective}
+use Rattle.std.specs.Prelude.{Some}
+use Rattle.std.proofs.lemmas.Option.{same_Some}
 use Prim.Native.Nat.{ℕ}
 use native.Mathlib.Omega.{arith}
 use lib.ListN.{get_or}
@@ -24,7 +25,7 @@ use Rattle.papers.proofs.MiddleWords.{over_middle_words}
 abbrev machine : List ℕ → List ℕ → List ℕ → Machine
 machine inputs outputs weights = record {
   states = 2;
-  start = some 0;
+  start = Some 0;
   list = λ q. get_or ((1 ∷ 2 ∷ 3 ∷ []) ∷ []) q [];
   input = λ t. get_or inputs t 0;
   output = λ t. get_or outputs t 0;
@@ -72,9 +73,9 @@ module _ (i o w : List ℕ) where
   from1 (t ∷ p) h = absurd (Memᴰ.not-nil h.0)
 
   three : (P : List ℕ → Type 0) → P (one 1) → P (one 2) → P (one 3) → (p : List ℕ) → AcceptingPath naturals itself (machine i o w) p → P p
-  three P a b d [] (q, s, h) = absurd (false≢true (subst (λ (n : ℕ). get_or (false ∷ true ∷ []) n false ≡ true) (sym (some-injective _ _ s)) h.0))
+  three P a b d [] (q, s, h) = absurd (false≢true (subst (λ (n : ℕ). get_or (false ∷ true ∷ []) n false ≡ true) (sym (same_Some _ _ s)) h.0))
   three P a b d (t ∷ p) (q, s, h) =
-      let h0 = subst (λ (n : ℕ). Accepting naturals itself (machine i o w) n (t ∷ p)) (sym (some-injective _ _ s)) h in
+      let h0 = subst (λ (n : ℕ). Accepting naturals itself (machine i o w) n (t ∷ p)) (sym (same_Some _ _ s)) h in
       ⊎_elim (λ e. at e a h0.1)
       (λ j. ⊎_elim (λ e. at e b h0.1) (λ j. ⊎_elim (λ e. at e d h0.1) (λ j. absurd (Memᴰ.not-nil j)) (Memᴰ.cases_cons j)) (Memᴰ.cases_cons j))
       (Memᴰ.cases_cons h0.0)

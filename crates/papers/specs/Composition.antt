@@ -1,9 +1,8 @@
 -- The composition of two machines T1 and T2 with a filter, as a relation. ARS: Allauzen, Riley, Schalkwyk 2009, "A generalized composition algorithm for weighted finite-state
 -- transducers"; MPR: Mohri, Pereira, Riley 2002, whose composition it is where no label is ε. T1's outputs and T2's inputs are the inner labels, by which the two meet; T1's
 -- inputs and T2's outputs are the outer labels, which the composition has.
-use Rattle.std.specs.Prelude.{◌≡◌, true, ◌≢◌, ℕ}
+use Rattle.std.specs.Prelude.{◌≡◌, true, ◌≢◌, ℕ, Some}
 use mathlib.Core.List.{Memᴰ}
-use Rattle.std.proofs.Math.Option.{some}
 use Rattle.papers.specs.Machine.{ε, Machine}
 use Rattle.papers.specs.Weight.{Semiring}
 use Rattle.papers.specs.Filter.{MoveKind, lone1, lone2, bothEpsilon, aLabel, facts_of, Filter}
@@ -73,7 +72,7 @@ pub record Edges : Type 0 where
 
 -- ARS, the composed initial state (i1, i2, i3), with i3 = 0
 abbrev pub Start : Composed → Triple → Type 0
-Start C s = (C.first.start ≡ some s.s1) × (C.second.start ≡ some s.s2) × (s.f ≡ 0)
+Start C s = (C.first.start ≡ Some s.s1) × (C.second.start ≡ Some s.s2) × (s.f ≡ 0)
 
 -- ARS: e1 leaves q1, e2 leaves q2, and their inner labels meet, as a move of this kind
 abbrev pub Enabled : Composed → ℕ → ℕ → MoveKind → Edges → Type 0
@@ -84,7 +83,7 @@ Enabled C q1 q2 k m =
 
 -- ARS, the transitions of the composition: (e1, e2) at (q1, q2, q3) where φ(e1, e2, q3) = g, and not ⊥
 abbrev pub KeptMove : Composed → Triple → Edges → ℕ → Type 0
-KeptMove C s m g = (k : MoveKind) × Enabled C s.s1 s.s2 k m × (C.filter k (facts_of C.first C.second s.s1 s.s2) s.f ≡ some g)
+KeptMove C s m g = (k : MoveKind) × Enabled C s.s1 s.s2 k m × (C.filter k (facts_of C.first C.second s.s1 s.s2) s.f ≡ Some g)
 
 -- ARS: it leads to (n[e1], n[e2], g),
 abbrev pub reached : Composed → Triple → Edges → ℕ → Triple

@@ -1,6 +1,5 @@
 -- A composition filter. ARS: Allauzen, Riley, Schalkwyk 2009, "A generalized composition algorithm for weighted finite-state transducers".
-use Rattle.std.specs.Prelude.{Bool, true, false, not, ◌&&◌, cond, ℕ, zero, suc, eqb}
-use Rattle.std.proofs.Math.Option.{Option, none, some}
+use Rattle.std.specs.Prelude.{Bool, true, false, not, ◌&&◌, cond, ℕ, zero, suc, eqb, Option, None, Some}
 use Rattle.lists.specs.Lists.{every}
 use Rattle.papers.specs.Machine.{ε, Machine}
 
@@ -39,36 +38,36 @@ Filter = MoveKind → Facts → ℕ → Option ℕ
 
 -- ARS, the epsilon-sequencing filter, Q3 = {0, 1}: 0 for (x, x); 0 for (ε, ε^L) in 0; 1 for (ε^L, ε); else ⊥. A state above 1 is read as 1.
 abbrev pub epsilon_sequencing : Filter
-epsilon_sequencing lone1 φ zero = some 0
-epsilon_sequencing lone1 φ (suc f) = none
-epsilon_sequencing lone2 φ f = some 1
-epsilon_sequencing bothEpsilon φ f = none
-epsilon_sequencing aLabel φ f = some 0
+epsilon_sequencing lone1 φ zero = Some 0
+epsilon_sequencing lone1 φ (suc f) = None
+epsilon_sequencing lone2 φ f = Some 1
+epsilon_sequencing bothEpsilon φ f = None
+epsilon_sequencing aLabel φ f = Some 0
 
 -- ARS, its mirror image: 0 for (x, x); 1 for (ε, ε^L); 0 for (ε^L, ε) in 0; else ⊥
 abbrev pub epsilon_sequencing_mirrored : Filter
-epsilon_sequencing_mirrored lone1 φ f = some 1
-epsilon_sequencing_mirrored lone2 φ zero = some 0
-epsilon_sequencing_mirrored lone2 φ (suc f) = none
-epsilon_sequencing_mirrored bothEpsilon φ f = none
-epsilon_sequencing_mirrored aLabel φ f = some 0
+epsilon_sequencing_mirrored lone1 φ f = Some 1
+epsilon_sequencing_mirrored lone2 φ zero = Some 0
+epsilon_sequencing_mirrored lone2 φ (suc f) = None
+epsilon_sequencing_mirrored bothEpsilon φ f = None
+epsilon_sequencing_mirrored aLabel φ f = Some 0
 
 -- ARS, the epsilon-matching filter, Q3 = {0, 1, 2}: 0 for (x, x); 0 for (ε, ε) in 0; 1 for (ε, ε^L) but in 2; 2 for (ε^L, ε) but in 1; else ⊥. A state above 2 is read as 2.
 -- It is the filter transducer of Mohri, Pereira, Riley 1996 and Pereira, Riley 1997; which state is 1 and which 2 is as in the implementations.
 abbrev pub epsilon_matching : Filter
-epsilon_matching lone1 φ zero = some 1
-epsilon_matching lone1 φ (suc zero) = some 1
-epsilon_matching lone1 φ (suc (suc f)) = none
-epsilon_matching lone2 φ zero = some 2
-epsilon_matching lone2 φ (suc zero) = none
-epsilon_matching lone2 φ (suc (suc f)) = some 2
-epsilon_matching bothEpsilon φ zero = some 0
-epsilon_matching bothEpsilon φ (suc f) = none
-epsilon_matching aLabel φ f = some 0
+epsilon_matching lone1 φ zero = Some 1
+epsilon_matching lone1 φ (suc zero) = Some 1
+epsilon_matching lone1 φ (suc (suc f)) = None
+epsilon_matching lone2 φ zero = Some 2
+epsilon_matching lone2 φ (suc zero) = None
+epsilon_matching lone2 φ (suc (suc f)) = Some 2
+epsilon_matching bothEpsilon φ zero = Some 0
+epsilon_matching bothEpsilon φ (suc f) = None
+epsilon_matching aLabel φ f = Some 0
 
 -- OpenFst's three further filters, as its compose-filter.h documents them. They have one filter state, 0, and look at the kind of move alone: those that are allowed are kept.
 abbrev pub keeping : (MoveKind → Bool) → Filter
-keeping allowed k φ f = cond (allowed k) (some 0) none
+keeping allowed k φ f = cond (allowed k) (Some 0) None
 
 -- a machine rests: an inner label is ε^L, there kNoLabel
 abbrev pub rests : MoveKind → Bool

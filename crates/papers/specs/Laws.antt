@@ -1,7 +1,6 @@
 -- The laws of a filter, from which it follows that it leaves exactly one composed path for each pair of paths. Ours: the papers show it of each filter. Of a path from
 -- a state, all that the laws look at is whether its first transition has ε on the inner side ("begins with ε").
-use Rattle.std.specs.Prelude.{◌≡◌, Bool, true, false, not, ℕ}
-use Rattle.std.proofs.Math.Option.{some}
+use Rattle.std.specs.Prelude.{◌≡◌, Bool, true, false, not, ℕ, Some}
 use Rattle.lists.specs.Finite.{both, implies}
 use Rattle.papers.specs.Filter.{MoveKind, lone1, lone2, bothEpsilon, aLabel, Facts, Filter}
 
@@ -39,7 +38,7 @@ pub record Lawful (filter : Filter) (live : ℕ → Bool → Bool → Bool) (pic
   pub end : (f : ℕ) → live f false false ≡ true
   -- the picked move is kept, and what is left can be taken to its ends, however it begins
   pub forwards : (φ : Facts) (f : ℕ) (x y : Bool) → fits φ.none1 φ.all1 x ≡ true → fits φ.none2 φ.all2 y ≡ true → live f x y ≡ true
-      → (g : ℕ) × (filter (pick x y) φ f ≡ some g) × ((x' y' : Bool) → live g (then1 (pick x y) x x') (then2 (pick x y) y y') ≡ true)
+      → (g : ℕ) × (filter (pick x y) φ f ≡ Some g) × ((x' y' : Bool) → live g (then1 (pick x y) x x') (then2 (pick x y) y y') ≡ true)
   -- a kept move from which the rest can be taken to its ends is the picked one
   pub backwards : (k : MoveKind) (φ : Facts) (f g : ℕ) (x y x' y' : Bool) → fits φ.none1 φ.all1 x ≡ true → fits φ.none2 φ.all2 y ≡ true
-      → begins k x y ≡ true → filter k φ f ≡ some g → live g (then1 k x x') (then2 k y y') ≡ true → (live f x y ≡ true) × (pick x y ≡ k)
+      → begins k x y ≡ true → filter k φ f ≡ Some g → live g (then1 k x x') (then2 k y y') ≡ true → (live f x y ≡ true) × (pick x y ≡ k)

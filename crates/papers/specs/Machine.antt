@@ -1,6 +1,5 @@
 -- A weighted transducer: Mohri, Pereira, Riley 2002, "Weighted finite-state transducers in speech recognition", the definition of a weighted transducer.
-use Rattle.std.specs.Prelude.{Bool, List, ℕ}
-use Rattle.std.proofs.Math.Option.{Option}
+use Rattle.std.specs.Prelude.{Bool, List, ℕ, Option}
 
 -- the empty label
 abbrev pub ε : ℕ

@@ -1,7 +1,6 @@
 -- Paths of a machine, as lists of transitions, and of a composition, as lists of moves. MPR: Mohri, Pereira, Riley 2002, the definitions of a path, its labels and its weight.
-use Rattle.std.specs.Prelude.{◌≡◌, true, not, ◌≢◌, ℕ, eqb}
+use Rattle.std.specs.Prelude.{◌≡◌, true, not, ◌≢◌, ℕ, eqb, Some}
 use mathlib.Core.List.{List, [], ◌∷◌, map, flat_map, Memᴰ}
-use Rattle.std.proofs.Math.Option.{some}
 use Rattle.lists.specs.Lists.{keep_if}
 use Rattle.papers.specs.Machine.{ε, Machine}
 use Rattle.papers.specs.Weight.{Semiring}
@@ -53,7 +52,7 @@ module _ (K : Semiring) (value : ℕ → K.Element) where
 
   -- MPR, an accepting path: from the initial state
   abbrev pub AcceptingPath : Machine → List ℕ → Type 0
-  AcceptingPath M p = (q : ℕ) × (M.start ≡ some q) × Accepting M q p
+  AcceptingPath M p = (q : ℕ) × (M.start ≡ Some q) × Accepting M q p
 
   -- MPR, the weight of an accepting path: the ⊗-product of its transitions' weights and the final weight of its end
   abbrev pub path_weight : Machine → ℕ → List ℕ → K.Element

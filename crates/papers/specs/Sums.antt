@@ -1,7 +1,6 @@
 -- The weight of a pair of words, and what composition means. MPR: Mohri, Pereira, Riley 2002: a transducer T gives the words (x, y) the ⊕-sum of the weights of its
 -- accepting paths x:y, and (T1 ∘ T2)(x, y) = ⊕ over z of T1(x, z) ⊗ T2(z, y). Ours: no sum is infinite; a sum is spoken of where what is summed over can be listed.
-use Rattle.std.specs.Prelude.{◌≡◌, List, [], ◌∷◌, map, ℕ}
-use Rattle.std.proofs.Math.Option.{Option, none, some}
+use Rattle.std.specs.Prelude.{◌≡◌, List, [], ◌∷◌, map, ℕ, Option, None, Some}
 use Rattle.lists.specs.Lists.{Enumerates}
 use Rattle.papers.specs.Machine.{Machine}
 use Rattle.papers.specs.Weight.{Semiring}
@@ -29,8 +28,8 @@ module _ (K : Semiring) (value : ℕ → K.Element) where
 
   -- the weight of a path that begins in this initial state; without one there is no path
   abbrev pub weight_from : Option ℕ → Machine → List ℕ → K.Element
-  weight_from none M p = K.zero
-  weight_from (some q) M p = path_weight K value M q p
+  weight_from None M p = K.zero
+  weight_from (Some q) M p = path_weight K value M q p
 
   abbrev pub weight_of_path : Machine → List ℕ → K.Element
   weight_of_path M p = weight_from M.start M p

@@ -2,7 +2,7 @@
 use mathlib.Core.Path.{◌≡◌, refl, sym, ◌∙◌, ap, subst}
 use mathlib.Core.List.{[], append-nil}
 use mathlib.Core.Logic.{◌↔◌}
-use mathlib.Core.Option.{some}
+use Rattle.std.specs.Prelude.{Some}
 use Prim.Native.Nat.{◌<◌}
 use Rattle.papers.specs.Composition.{Triple, Start}
 use Rattle.words.specs.Labels.{good}
@@ -38,7 +38,7 @@ use Rattle.readings.proofs.CallLists.{calls_onto}
 begun : (l : Lent) (c : Composition) (w : World) → Sound l c w → (t : Triple) → Start (composed_of c) t ↔ ((0 < w.session.used.states) × (state_at w 0 ≡ t))
 begun l c w S t = (
   λ h. let e = (start_as_papers c t).1 h in ((S.found 0).1 (at_start 0 t e refl), S.start t e),
-  λ h. let r = begins l c w S h.0 in (start_as_papers c t).0 (r.1 ∙ ap some (sym (S.start r.0 r.1) ∙ h.1)),
+  λ h. let r = begins l c w S h.0 in (start_as_papers c t).0 (r.1 ∙ ap Some (sym (S.start r.0 r.1) ∙ h.1)),
 )
 
 -- in every world that the calls keep

@@ -3,7 +3,7 @@
 use mathlib.Core.Path.{◌≡◌, refl, sym, ◌∙◌, subst}
 use mathlib.Core.List.{List, [], ◌∷◌, Memᴰ as In}
 use mathlib.Core.Logic.{inl}
-use mathlib.Core.Option.{some}
+use Rattle.std.specs.Prelude.{Some}
 use Prim.Native.Nat.{ℕ, ◌<◌}
 use native.Mathlib.Omega.{arith}
 use lib.ListN.{replicate}
@@ -67,7 +67,7 @@ said =
     ∷ answered accepted (with 4 3)
     ∷ handed (0 ∷ 7 ∷ 4 ∷ 2 ∷ 0 ∷ [])
     ∷ answered (list_part 1 1) (with 4 3)
-    ∷ answered (weight (some 3)) (with 4 3)
+    ∷ answered (weight (Some 3)) (with 4 3)
     ∷ []
 
 abbrev said_small : List Reply
@@ -144,7 +144,7 @@ pub one_number : (i j : ℕ) → i < 4 → j < 4 → state_at left i ≡ state_a
 one_number = (subst (Sound both c) left_there sound_there).distinct
 
 -- state 3 has document 01's final weight
-pub final_there : (final_in both left 3).answer ≡ good (some 3)
+pub final_there : (final_in both left 3).answer ≡ good (Some 3)
 unfolding Holds
 final_there = (subst (Answers both c) left_there (claimed.answers calls [] refl)).finals 3 (omega arith)
 

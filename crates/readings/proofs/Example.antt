@@ -7,7 +7,8 @@ use mathlib.Core.List.Memᴰ.{head as here}
 use mathlib.Core.List.Memᴰ.{tail as there}
 use mathlib.Core.List.{List, [], ◌∷◌, map, flat_map, Memᴰ as In}
 use mathlib.Core.Logic.{◌↔◌, ⊎_elim}
-use mathlib.Core.Option.{some, some-injective}
+use Rattle.std.specs.Prelude.{Some}
+use Rattle.std.proofs.lemmas.Option.{same_Some}
 use Prim.Native.Nat.{ℕ}
 use native.Mathlib.Omega.{arith}
 use Rattle.lists.specs.Lists.{every, interval, keep_if}
@@ -48,7 +49,7 @@ M2 = machine_of words2
 
 -- what the two have in common
 pub record Shape (M : Machine) : Type 0 where
-  pub start : M.start ≡ some 0
+  pub start : M.start ≡ Some 0
   pub list0 : M.list 0 ≡ 1 ∷ 3 ∷ []
   pub list1 : M.list 1 ≡ 2 ∷ []
   pub list2 : M.list 2 ≡ []
@@ -106,7 +107,7 @@ module _ (K : Semiring) (value : ℕ → K.Element) (M : Machine) (S : Shape M) 
 
 -- from its start
 begun : (K : Semiring) (value : ℕ → K.Element) (M : Machine) (p : List ℕ) → Shape M → AcceptingPath K value M p → Accepting K value M 0 p
-begun K value M p S h = subst (λ q. Accepting K value M q p) (some-injective _ _ (sym h.1 ∙ S.start)) h.2
+begun K value M p S h = subst (λ q. Accepting K value M q p) (same_Some _ _ (sym h.1 ∙ S.start)) h.2
 
 abbrev is_finite : Cost → Bool
 is_finite (finite a) = true

@@ -6,7 +6,8 @@ use mathlib.Core.List.Memᴰ
 use mathlib.Core.List.Memᴰ.{head as here}
 use mathlib.Core.List.{List, [], ◌∷◌, map, flat_map, Memᴰ, nil≢cons, head-eq_of_cons-eq, tail-eq_of_cons-eq}
 use mathlib.Core.Logic.{◌⊎◌, ⊎_elim}
-use mathlib.Core.Option.{some, none-ne-some}
+use Rattle.std.specs.Prelude.{Some}
+use Rattle.std.proofs.lemmas.Option.{none-some}
 use Prim.Native.Nat.{ℕ}
 use lib.Dec.{eqb}
 use borrow.Author.Tests.{eqb-true, eqb-false}
@@ -28,7 +29,7 @@ use Rattle.readings.proofs.Filters.{epsilon_sequencing_readings}
 
 -- what F keeps, G keeps from every filter state, with the next filter state 0
 abbrev pub Wider : Filter → Filter → Type 0
-Wider F G = (k : MoveKind) (φ : Facts) (f g h : ℕ) → F k φ f ≡ some g → G k φ h ≡ some 0
+Wider F G = (k : MoveKind) (φ : Facts) (f g h : ℕ) → F k φ f ≡ Some g → G k φ h ≡ Some 0
 
 pub trivial_wider : Wider epsilon_sequencing trivial
 trivial_wider lone1 φ f g h e = refl
@@ -39,7 +40,7 @@ trivial_wider aLabel φ f g h e = refl
 pub no_match_wider : Wider epsilon_sequencing no_match
 no_match_wider lone1 φ f g h e = refl
 no_match_wider lone2 φ f g h e = refl
-no_match_wider bothEpsilon φ f g h e = absurd (none-ne-some _ e)
+no_match_wider bothEpsilon φ f g h e = absurd (none-some _ e)
 no_match_wider aLabel φ f g h e = refl
 
 module _ (k : Kind) (value : ℕ → (semiring k).Element) (A B : Machine) where
@@ -70,7 +71,7 @@ module _ (k : Kind) (value : ℕ → (semiring k).Element) (A B : Machine) where
   unfolding flat_map
   narrow1 G [] s f n h = h
   narrow1 G (m ∷ ms) s f n h =
-      let r = by_form A B A.output B.input equal s.s1 s.s2 (λ k e1 e2. EpsilonFree A.output (taken e1) → (φ : Facts) → (g : ℕ) × (epsilon_sequencing k φ f ≡ some g))
+      let r = by_form A B A.output B.input equal s.s1 s.s2 (λ k e1 e2. EpsilonFree A.output (taken e1) → (φ : Facts) → (g : ℕ) × (epsilon_sequencing k φ f ≡ Some g))
       (λ t i e n φ. absurd (n t (here refl) e))
       (λ u i e n φ. (1, refl))
       (λ t u i j e d n φ. absurd (n t (here refl) e))
@@ -84,7 +85,7 @@ module _ (k : Kind) (value : ℕ → (semiring k).Element) (A B : Machine) where
   unfolding flat_map
   narrow2 G [] s n h = h
   narrow2 G (m ∷ ms) s n h =
-      let r = by_form A B A.output B.input equal s.s1 s.s2 (λ k e1 e2. EpsilonFree B.input (taken e2) → (φ : Facts) → epsilon_sequencing k φ 0 ≡ some 0)
+      let r = by_form A B A.output B.input equal s.s1 s.s2 (λ k e1 e2. EpsilonFree B.input (taken e2) → (φ : Facts) → epsilon_sequencing k φ 0 ≡ Some 0)
       (λ t i e n φ. refl)
       (λ u i e n φ. absurd (n u (here refl) e))
       (λ t u i j e d n φ. absurd (n u (here refl) d))
@@ -122,9 +123,9 @@ module _ (k : Kind) (value : ℕ → (semiring k).Element) (A B : Machine) where
 
   kept_both : (s : Triple) (m : Edges) (g : ℕ) → KeptMove N s m g → Both m.first m.second
   kept_both s m g h =
-      by_form A B A.output B.input equal s.s1 s.s2 (λ k e1 e2. (φ : Facts) (f : ℕ) → null k φ f ≡ some g → Both e1 e2)
-      (λ t i e φ f z. absurd (none-ne-some _ z))
-      (λ u i e φ f z. absurd (none-ne-some _ z))
+      by_form A B A.output B.input equal s.s1 s.s2 (λ k e1 e2. (φ : Facts) (f : ℕ) → null k φ f ≡ Some g → Both e1 e2)
+      (λ t i e φ f z. absurd (none-some _ z))
+      (λ u i e φ f z. absurd (none-some _ z))
       (λ t u i j e d φ f z. (t, u, refl, refl, e ∙ sym d))
       (λ t u i j n o e φ f z. (t, u, refl, refl, e))
       h.0 m.first m.second h.1 _ s.f h.2

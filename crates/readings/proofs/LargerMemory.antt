@@ -3,7 +3,7 @@ use mathlib.Core.Path.{◌≡◌, refl, sym, ◌∙◌, ap, ap₂, subst}
 use mathlib.Core.Bool.{Bool, true, false}
 use mathlib.Core.List.{List, [], ◌∷◌}
 use mathlib.Core.Logic.{◌⊎◌, inl, inr, ⊎_elim}
-use mathlib.Core.Option.{some}
+use Rattle.std.specs.Prelude.{Some}
 use Prim.Native.Nat.{ℕ, zero, suc, ◌+◌, ◌≤◌, ◌<◌}
 use native.Mathlib.Omega.{arith}
 use lib.Dec.{leb}
@@ -131,7 +131,7 @@ module _ (s : Settings) (l : Lent) (got got2 : Session) (m big : Memory) (more :
   begins2 b = let r = room_more state_size m.states big.states more.states in record { room = omega (arith, b.room, r); headed = omega (arith, b.headed, more.heads) }
 
   -- state 0 is the start in both
-  both_begun : (side : Side) (t : Triple) → side_for s l ≡ good side → start_at (composition_of s l side) ≡ some t → Begins m → Opens2 (opened_as s side (add (cleared m) t)) (opened_as s side (add (cleared big) t))
+  both_begun : (side : Side) (t : Triple) → side_for s l ≡ good side → start_at (composition_of s l side) ≡ Some t → Begins m → Opens2 (opened_as s side (add (cleared m) t)) (opened_as s side (add (cleared big) t))
   unfolding cleared add_with
   both_begun side t e h b = record {
     answer = refl;

@@ -6,7 +6,7 @@ use mathlib.Core.List.Memᴰ.{head as here}
 use mathlib.Core.List.Memᴰ.{tail as there}
 use mathlib.Core.List.{List, [], ◌∷◌}
 use mathlib.Core.Logic.{inr, ⊎_elim}
-use mathlib.Core.Option.{none, some}
+use Rattle.std.specs.Prelude.{None, Some}
 use Prim.Native.Nat.{ℕ}
 use native.Mathlib.Omega.{arith}
 use lib.ListN.{replicate}
@@ -102,7 +102,7 @@ total_of_pairs =
 
 -- the same with an allowed list that has 6 alone: 8 is read by its own transition only
 abbrev excluding : Lent
-excluding = record { m1 = letters.m1; m2 = letters.m2; allowed1 = none; allowed2 = some (6 ∷ []); ignored = [] }
+excluding = record { m1 = letters.m1; m2 = letters.m2; allowed1 = None; allowed2 = Some (6 ∷ []); ignored = [] }
 
 abbrev left2 : World
 left2 =

@@ -4,7 +4,7 @@ use mathlib.Core.Path.{◌≡◌, refl, ap}
 use mathlib.Core.Bool.{Bool, true, false, not, false≢true}
 use mathlib.Core.List.{List, [], ◌∷◌, map, flat_map}
 use mathlib.Core.Logic.{◌≢◌}
-use mathlib.Core.Option.{some}
+use Rattle.std.specs.Prelude.{Some}
 use Prim.Native.Nat.{ℕ, zero, suc, ◌+◌, ◌≤◌}
 use native.Mathlib.Omega.{arith}
 use lib.Dec.{eqb}
@@ -46,7 +46,7 @@ module _ (C : Composed) (R : ℕ → ℕ → Type 0) (meet : MeetBy R C) (live :
   -- the first move, of kind k, before what the rests give
   make : (n : ℕ) (k : MoveKind) (p1 p2 : List ℕ) (s : Triple) → length p1 + length p2 ≤ suc n → Accepting K value C.first s.s1 p1
       → Accepting K value C.second s.s2 p2 → Matching R C.first C.second p1 p2 → begins k (beginsε o p1) (beginsε i p2) ≡ true
-      → (g : ℕ) → C.filter k (facts_of C.first C.second s.s1 s.s2) s.f ≡ some g
+      → (g : ℕ) → C.filter k (facts_of C.first C.second s.s1 s.s2) s.f ≡ Some g
       → ((x y : Bool) → live g (then1 k (beginsε o p1) x) (then2 k (beginsε i p2) y) ≡ true) → Makes n
       → Joins s p1 p2 (front k p1 p2 (λ r1 r2. merge_up_to pick C.first C.second n r1 r2))
   unfolding flat_map

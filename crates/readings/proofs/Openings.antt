@@ -1,7 +1,8 @@
 -- Whatever memory held, an accepted opening establishes what every call keeps: state 0 is the start, nothing is expanded, no transition is used.
 use mathlib.Core.Path.{◌≡◌, refl, sym, ◌∙◌, ap, subst}
 use mathlib.Core.Logic.{◌⊎◌, inl, inr, ⊎_elim}
-use mathlib.Core.Option.{Option, none, some, none-ne-some, some-injective}
+use Rattle.std.specs.Prelude.{Option, None, Some}
+use Rattle.std.proofs.lemmas.Option.{none-some, same_Some}
 use Prim.Native.Nat.{ℕ, ◌<◌}
 use native.Mathlib.Omega.{arith}
 use native.Mathlib.Decide.{ℕ_discrete}
@@ -27,7 +28,7 @@ module _ (s : Settings) (l : Lent) (side : Side) (rule : side_for s l ≡ good s
   c = composition_of s l side
 
   -- without a start no state is found
-  empty_kept : start_at c ≡ none → entered l (opened_as s side (cleared m)).session (opened_as s side (cleared m)).memory ≡ good c → KeptWorld l c (world_of (opened_as s side (cleared m)))
+  empty_kept : start_at c ≡ None → entered l (opened_as s side (cleared m)).session (opened_as s side (cleared m)).memory ≡ good c → KeptWorld l c (world_of (opened_as s side (cleared m)))
   unfolding cleared
   empty_kept h e = record {
     whole = λ n i. absurd (omega arith);
@@ -37,17 +38,17 @@ module _ (s : Settings) (l : Lent) (side : Side) (rule : side_for s l ≡ good s
       listed = λ r. (λ i. absurd (omega (arith, i.0, i.1)), λ a. absurd (omega (arith, a.1.0)));
       alone = λ r j k x y a b. absurd (omega (arith, x.0));
       distinct = λ i j p q z. absurd (omega arith);
-      start = λ t z. absurd (none-ne-some _ (sym h ∙ z));
+      start = λ t z. absurd (none-some _ (sym h ∙ z));
       order = λ r n a b. absurd (omega arith);
       lists = λ n x. absurd (omega (arith, x.0));
     };
   }
     where
       none_found : (n : ℕ) → Found c (world_of (opened_as s side (cleared m))) n → n < 0
-      none_found n (at_start _ t z k) = absurd (none-ne-some _ (sym h ∙ z))
+      none_found n (at_start _ t z k) = absurd (none-some _ (sym h ∙ z))
       none_found n (as_target _ k r f x i z) = absurd (omega (arith, x.0))
 
-  module _ (t : Triple) (h : start_at c ≡ some t) (begins : Begins m) where
+  module _ (t : Triple) (h : start_at c ≡ Some t) (begins : Begins m) where
     abbrev w : World
     w = world_of (opened_as s side (add (cleared m) t))
 
@@ -71,7 +72,7 @@ module _ (s : Settings) (l : Lent) (side : Side) (rule : side_for s l ≡ good s
             listed = λ r. (λ i. absurd (omega (arith, i.0, i.1)), λ a. absurd (bare a.0 a.1));
             alone = λ r j k x y a b. absurd (bare j x);
             distinct = whole_distinct (add (cleared m) t) whole;
-            start = λ u z. begun_triple t m begins ∙ some-injective t u (sym h ∙ z);
+            start = λ u z. begun_triple t m begins ∙ same_Some t u (sym h ∙ z);
             order = λ r n a b. absurd (omega arith);
             lists = λ n x. absurd (bare n x);
           };
@@ -127,7 +128,7 @@ module _ (s : Settings) (l : Lent) (got : Session) (m : Memory) where
     accepts = (
       by_open s l got m (λ (o : Outcome (Unit {0})). o.answer ≡ good tt → (side : Side) × (side_for s l ≡ good side) × (HasStart s l side → Finds))
           (λ k e z. absurd (good≢refused (sym z)))
-          (λ side e h z. (side, e, λ t. absurd (none-ne-some _ (sym h ∙ t.1))))
+          (λ side e h z. (side, e, λ t. absurd (none-some _ (sym h ∙ t.1))))
           (λ side t e h z. absurd (good≢refused (sym z)))
           (λ side t e h b z. (side, e, λ u. (b.headed, b.room))),
       λ x. by_start x.0 x.1 x.2 (start_at (composition_of s l x.0)) refl,
@@ -143,12 +144,12 @@ module _ (s : Settings) (l : Lent) (got : Session) (m : Memory) where
       λ x.
           by_open s l got m (λ (o : Outcome (Unit {0})). o.answer ≡ refused 13)
           (λ k e. absurd (good≢refused (sym x.1 ∙ e)))
-          (λ side e h. absurd (none-ne-some _ (sym h ∙ subst (λ (y : Side). start_at (composition_of s l y) ≡ some x.2.0) (good_is (sym x.1 ∙ e)) x.2.1)))
+          (λ side e h. absurd (none-some _ (sym h ∙ subst (λ (y : Side). start_at (composition_of s l y) ≡ Some x.2.0) (good_is (sym x.1 ∙ e)) x.2.1)))
           (λ side t e h. refl)
           (λ side t e h b. absurd (⊎_elim (λ z. omega (arith, z, b.headed)) (λ z. omega (arith, z, b.room)) x.3)),
     );
   }
     where
       by_start : (side : Side) → side_for s l ≡ good side → (HasStart s l side → Finds) → (o : Option Triple) → start_at (composition_of s l side) ≡ o → (open_of s l got m).answer ≡ good tt
-      by_start side e f none h = ap (λ (o : Outcome (Unit {0})). o.answer) (open_empty s l got m side e h)
-      by_start side e f (some t) h = begins side e (t, h) (f (t, h))
+      by_start side e f None h = ap (λ (o : Outcome (Unit {0})). o.answer) (open_empty s l got m side e h)
+      by_start side e f (Some t) h = begins side e (t, h) (f (t, h))

@@ -2,7 +2,7 @@
 use mathlib.Core.Path.{◌≡◌, refl, sym, ◌∙◌}
 use mathlib.Core.Bool.{true≢false}
 use mathlib.Core.Logic.{⊎_elim}
-use mathlib.Core.Option.{Option, none, some}
+use Rattle.std.specs.Prelude.{Option, None, Some}
 use Prim.Native.Nat.{ℕ, ◌<◌}
 use borrow.Author.Tests.{lt-leb}
 use Rattle.papers.specs.Machine.{Machine}
@@ -38,12 +38,12 @@ no_end k M q h d = ⊎_elim (λ f. true≢false (sym h.0 ∙ f)) (λ z. h.1 z) d
 
 -- state n ends a path: with the weight x that is answered
 pub record IsEnd (l : Lent) (c : Composition) (w : World) (n x : ℕ) : Type 0 where
-  pub answer : (final_weight_of l w.session w.memory n).answer ≡ good (some x)
+  pub answer : (final_weight_of l w.session w.memory n).answer ≡ good (Some x)
   pub both : EndsBoth (semiring c.kind) (exact c.kind) (composed_of c) (state_at w n).s1 (state_at w n).s2
   pub product : exact c.kind x ≡ productAt (semiring c.kind) (exact c.kind) (composed_of c) (state_at w n).s1 (state_at w n).s2
 
 module _ (l : Lent) (c : Composition) (w : World) (enters : entered l w.session w.memory ≡ good c) (n : ℕ) (u : n < w.session.used.states) where
-  pub answered_end : (x : ℕ) → (final_weight_of l w.session w.memory n).answer ≡ good (some x) → IsEnd l c w n x
+  pub answered_end : (x : ℕ) → (final_weight_of l w.session w.memory n).answer ≡ good (Some x) → IsEnd l c w n x
   answered_end x e =
       let r = ((final_as_papers c (state_at w n)).some_where x).0 (sym (final_answer l c w enters n u) ∙ e) in
       record { answer = e; both = r.0; product = r.1 }
@@ -51,8 +51,8 @@ module _ (l : Lent) (c : Composition) (w : World) (enters : entered l w.session 
   -- where the answer is no refusal
   pub end_answered : (x : Option ℕ) → (final_weight_of l w.session w.memory n).answer ≡ good x
       → EndsBoth (semiring c.kind) (exact c.kind) (composed_of c) (state_at w n).s1 (state_at w n).s2 → (y : ℕ) × IsEnd l c w n y
-  end_answered (some x) e h = (x, answered_end x e)
-  end_answered none e h =
+  end_answered (Some x) e h = (x, answered_end x e)
+  end_answered None e h =
       let d = (final_as_papers c (state_at w n)).none_where.0 (sym (final_answer l c w enters n u) ∙ e) in
       let b = (ends_both (semiring c.kind) (semiring_laws c.kind) (exact c.kind) (composed_of c) (state_at w n).s1 (state_at w n).s2).0 h in
       absurd (⊎_elim (no_end c.kind c.operand1.machine (state_at w n).s1 b.0) (no_end c.kind c.operand2.machine (state_at w n).s2 b.1) d)

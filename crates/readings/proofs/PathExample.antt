@@ -5,7 +5,7 @@ use mathlib.Core.Path.{◌≡◌, refl, sym, ◌∙◌, subst}
 use mathlib.Core.List.Memᴰ.{head as here}
 use mathlib.Core.List.{List, [], ◌∷◌, map, Memᴰ as In}
 use mathlib.Core.Logic.{◌↔◌}
-use mathlib.Core.Option.{some}
+use Rattle.std.specs.Prelude.{Some}
 use Prim.Native.Nat.{ℕ}
 use lib.ListN.{replicate}
 use Rattle.papers.specs.Weight.{finite, infinite, semiring}
@@ -176,7 +176,7 @@ c3 = composition_of (settings_of (plain 0 2)) (lend words1max words2marked) both
 first3 : AcceptingRecords (lend words1max words2marked) left3 (1 ∷ 5 ∷ [])
 first3 = (costs_by_match.just_these (1 ∷ 5 ∷ [])).1 (here refl)
 
-start3 : start_at c3 ≡ some (triple 0 0 0)
+start3 : start_at c3 ≡ Some (triple 0 0 0)
 unfolding Holds
 start3 = refl
 

@@ -1,7 +1,7 @@
 -- One record and its move: in a store all of whose states are expanded, the records of a state and the papers' kept moves there are linked one to one, and both lead to one state.
 use mathlib.Core.Path.{◌≡◌, ◌∙◌, ap, subst}
 use mathlib.Core.List.{List, ◌∷◌, Memᴰ as In}
-use mathlib.Core.Option.{Option}
+use Rattle.std.specs.Prelude.{Option}
 use Prim.Native.Nat.{ℕ, ◌+◌, ◌-◌, ◌<◌}
 use native.Mathlib.Omega.{arith}
 use Rattle.lists.specs.Lists.{At}

@@ -3,7 +3,8 @@
 use mathlib.Core.Path.{◌≡◌, refl, sym, ◌∙◌, ap, subst}
 use mathlib.Core.Bool.{Bool, true, false, cond, false≢true}
 use mathlib.Core.List.{List, [], ◌∷◌}
-use mathlib.Core.Option.{some, none-ne-some, some-injective}
+use Rattle.std.specs.Prelude.{Some}
+use Rattle.std.proofs.lemmas.Option.{none-some, same_Some}
 use Prim.Native.Nat.{ℕ, zero, suc}
 use native.Mathlib.Omega.{arith}
 use lib.Dec.{eqb}
@@ -39,7 +40,7 @@ kind_is C q1 q2 k m en =
 pub one_next : (C : Composed) (s : Triple) (m : Edges) (g h : ℕ) → KeptMove C s m g → KeptMove C s m h → g ≡ h
 one_next C s m g h a b =
     let e : a.0 ≡ b.0 = kind_is C s.s1 s.s2 a.0 m a.1 ∙ sym (kind_is C s.s1 s.s2 b.0 m b.1) in
-    some-injective _ _ (sym a.2 ∙ (ap (λ k. C.filter k (facts_of C.first C.second s.s1 s.s2) s.f) e ∙ b.2))
+    same_Some _ _ (sym a.2 ∙ (ap (λ k. C.filter k (facts_of C.first C.second s.s1 s.s2) s.f) e ∙ b.2))
 
 same_edge_lem : (e : Edge) → same_edge e e ≡ true
 same_edge_lem rest = refl
@@ -61,25 +62,25 @@ move_same m n h =
     λ i. record { first = a i; second = b i }
 
 -- a move that stands at one place alone is found there
-place_found : (l : List (Edges × ℕ)) (m : Edges) (g k : ℕ) → ((j h : ℕ) → At l j (m, h) → j ≡ k) → At l k (m, g) → place_among m l ≡ some (k, g)
+place_found : (l : List (Edges × ℕ)) (m : Edges) (g k : ℕ) → ((j h : ℕ) → At l j (m, h) → j ≡ k) → At l k (m, g) → place_among m l ≡ Some (k, g)
 unfolding place_among
-place_found [] m g k only a = absurd (none-ne-some _ a)
+place_found [] m g k only a = absurd (none-some _ a)
 place_found (e ∷ es) m g zero only a =
-    let d : e ≡ (m, g) = some-injective _ _ a in
+    let d : e ≡ (m, g) = same_Some _ _ a in
     ap (λ (z : Edges × ℕ). place_or (same_move m z.0) z.1 (place_among m es)) d ∙ ap (λ b. place_or b g (place_among m es)) (same_move_lem m)
 place_found (e ∷ es) m g (suc k) only a =
     other (same_move m e.0) refl (place_found es m g k (λ j h i. let q : suc j ≡ suc k = only (suc j) h i in omega arith) a)
   where
-    other : (b : Bool) → same_move m e.0 ≡ b → place_among m es ≡ some (k, g) → place_or (same_move m e.0) e.1 (place_among m es) ≡ some (suc k, g)
+    other : (b : Bool) → same_move m e.0 ≡ b → place_among m es ≡ Some (k, g) → place_or (same_move m e.0) e.1 (place_among m es) ≡ Some (suc k, g)
     other true h r =
         let d : m ≡ e.0 = move_same m e.0 h in
-        let z : 0 ≡ suc k = only 0 e.1 (ap (λ (n : Edges). some (n, e.1)) (sym d)) in
+        let z : 0 ≡ suc k = only 0 e.1 (ap (λ (n : Edges). Some (n, e.1)) (sym d)) in
         absurd (omega arith)
     other false h r = rw (h, r)
 
 -- so is each move of a list that holds the kept moves, each once
 pub place_of : (C : Composed) (s : Triple) (l : List (Edges × ℕ)) → Enumerates l (λ e. KeptMove C s e.0 e.1) → (k : ℕ) (m : Edges) (g : ℕ) → At l k (m, g)
-    → place_among m l ≡ some (k, g)
+    → place_among m l ≡ Some (k, g)
 place_of C s l E k m g a =
     place_found l m g k
     (λ j h i.
@@ -91,7 +92,7 @@ module _ (C : Composed) (Found : Triple → Type 0) (listed : MoveLists) (L : Li
   found_at : (s : Triple) → Found s → (k : ℕ) (m : Edges) (g : ℕ) → At (listed s) k (m, g) → KeptMove C s m g
   found_at s f k m g a = (L.exactly s f m g).0 (at_in (listed s) k a)
 
-  place_is : (s : Triple) → Found s → (k : ℕ) (m : Edges) (g : ℕ) → At (listed s) k (m, g) → place_among m (listed s) ≡ some (k, g)
+  place_is : (s : Triple) → Found s → (k : ℕ) (m : Edges) (g : ℕ) → At (listed s) k (m, g) → place_among m (listed s) ≡ Some (k, g)
   place_is s f = place_of C s (listed s) (record { once = L.once s f; exactly = λ e. L.exactly s f e.0 e.1 })
 
   pub moves_step : (s : Triple) (k : ℕ) (ks : List ℕ) (m : Edges) (g : ℕ) → At (listed s) k (m, g) → moves_at C listed s (k ∷ ks) ≡ m ∷ moves_at C listed (reached C s m g) ks

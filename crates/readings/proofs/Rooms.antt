@@ -6,7 +6,7 @@ use mathlib.Core.List.Memᴰ.{head as here}
 use mathlib.Core.List.Memᴰ.{tail as there}
 use mathlib.Core.List.{List, [], ◌∷◌, ◌++◌, map, Memᴰ as In}
 use mathlib.Core.Logic.{◌⊎◌, inl, inr, ⊎_elim}
-use mathlib.Core.Option.{Option, none, some}
+use Rattle.std.specs.Prelude.{Option, None, Some}
 use Prim.Native.Nat.{ℕ, zero, suc, ◌+◌, ◌≤◌, ◌<◌}
 use native.Mathlib.Omega.{arith}
 use native.Mathlib.Decide.{dec_lt}
@@ -30,16 +30,16 @@ use Rattle.calls.proofs.StepsMade.{led_new, led_old, step_made}
 use Rattle.readings.specs.Answers.{among, newOnes, targets}
 
 abbrev is_found : Option ℕ → Bool
-is_found none = false
-is_found (some n) = true
+is_found None = false
+is_found (Some n) = true
 
-found_is : (o : Option ℕ) → is_found o ≡ true → (n : ℕ) × (o ≡ some n)
-found_is none e = absurd (false≢true e)
-found_is (some n) e = (n, refl)
+found_is : (o : Option ℕ) → is_found o ≡ true → (n : ℕ) × (o ≡ Some n)
+found_is None e = absurd (false≢true e)
+found_is (Some n) e = (n, refl)
 
-none_is : (o : Option ℕ) → is_found o ≡ false → o ≡ none
-none_is none e = refl
-none_is (some n) e = absurd (true≢false e)
+none_is : (o : Option ℕ) → is_found o ≡ false → o ≡ None
+none_is None e = refl
+none_is (Some n) e = absurd (true≢false e)
 
 -- the table finds a triple just where it is known
 abbrev pub Knows : List Triple → Store → Type 0
@@ -79,11 +79,11 @@ pub known_first : {S1 S2 last : ℕ} (d : Store) → Form S1 S2 d last → Whole
 known_first d form whole t = go (find d t) (among (triples_of d) t) refl refl
   where
     go : (o : Option ℕ) (b : Bool) → find d t ≡ o → among (triples_of d) t ≡ b → among (triples_of d) t ≡ is_found (find d t)
-    go none true f e =
+    go None true f e =
         let r = among_triples d.memory.states 0 d.used.states t e in
         absurd (true≢false (ap is_found (sym (ap (find d) (sym r.3) ∙ whole r.0 (omega (arith, r.2))) ∙ f)))
-    go none false f e = e ∙ sym (ap is_found f)
-    go (some n) b f e =
+    go None false f e = e ∙ sym (ap is_found f)
+    go (Some n) b f e =
         let r = find_sound d form t n f in
         subst (λ u. among (triples_of d) u ≡ true) r.1 (triples_among d.memory.states 0 d.used.states n (omega arith) (omega (arith, r.0)))
         ∙ sym (ap is_found f)
@@ -121,7 +121,7 @@ module _ {S1 S2 : ℕ} (last : ℕ) where
 
     module _ (more : d.used.trs < tr_room d.memory) where
       -- a state found before
-      old_at_lem : (n : ℕ) → find d t ≡ some n → among known t ≡ true → Goes S1 S2 last (t ∷ known) d 0 (store_step d next st)
+      old_at_lem : (n : ℕ) → find d t ≡ Some n → among known t ≡ true → Goes S1 S2 last (t ∷ known) d 0 (store_step d next st)
       unfolding store_step_with reach_with append find_with chain_with among
       old_at_lem n f e =
           let k = step_made d last next st d n link more (led_old d last t n w.form w.whole f) in
@@ -145,7 +145,7 @@ module _ {S1 S2 : ℕ} (last : ℕ) where
       goes_old e = let f = found_is (find d t) (sym (w.knows t) ∙ e) in old_at_lem f.0 f.1 e
 
       module _ (e : among known t ≡ false) where
-        missing : find d t ≡ none
+        missing : find d t ≡ None
         missing = none_is (find d t) (sym (w.knows t) ∙ e)
 
         -- no state record

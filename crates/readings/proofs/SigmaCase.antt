@@ -4,7 +4,7 @@ use mathlib.Core.Path.{◌≡◌, refl, sym, ◌∙◌, ap, subst}
 use mathlib.Core.List.Memᴰ.{head as here}
 use mathlib.Core.List.{List, [], ◌∷◌}
 use mathlib.Core.Logic.{◌⊎◌}
-use mathlib.Core.Option.{none, some}
+use Rattle.std.specs.Prelude.{None, Some}
 use Prim.Native.Nat.{ℕ, zero, suc, ◌<◌, ◌≤◌}
 use native.Mathlib.Omega.{arith}
 use lib.ListN.{length, replicate}
@@ -157,7 +157,7 @@ no_end = (second_claim.finals 0 (omega arith)).none_where.0 refl
 -- the accepting path by sigma, in the store and in the papers' composition, with 01's filter and with the papers' own
 all_read : AllRead lent left
 unfolding Holds
-all_read = record { expanded = below_two _ (omega arith, refl) (omega arith, refl); weighed = below_two _ (none, refl) (some 1, refl) }
+all_read = record { expanded = below_two _ (omega arith, refl) (omega arith, refl); weighed = below_two _ (None, refl) (Some 1, refl) }
 
 accepting : AcceptingRecords lent left (1 ∷ [])
 unfolding Holds

@@ -5,7 +5,8 @@ use mathlib.Core.Path.{◌≡◌, refl, sym, ◌∙◌, ap, ap₂, subst}
 use mathlib.Core.Bool.{Bool}
 use mathlib.Core.List.{List, [], ◌∷◌, map, Memᴰ as In}
 use mathlib.Core.Logic.{◌≢◌, ◌↔◌}
-use mathlib.Core.Option.{Option, none, some, none-ne-some}
+use Rattle.std.specs.Prelude.{Option, None, Some}
+use Rattle.std.proofs.lemmas.Option.{none-some}
 use Prim.Native.Nat.{ℕ, ◌<◌, ◌≤◌}
 use native.Mathlib.Omega.{arith}
 use Rattle.papers.specs.Weight.{semiring}
@@ -44,12 +45,12 @@ whole s l side rule w S R =
     record { links = sound_of s l side z.formed1 z.formed2 z.rule; sound = S; expanded = R.expanded; weighed = R.weighed }
 
 -- what is found goes back to the start
-begun : (c : Composition) (w : World) (n : ℕ) → Found c w n → (t : Triple) × (start_at c ≡ some t)
+begun : (c : Composition) (w : World) (n : ℕ) → Found c w n → (t : Triple) × (start_at c ≡ Some t)
 begun c w n (at_start _ t e z) = (t, e)
 begun c w n (as_target _ k r f x i e) = begun c w k f
 
 -- so where a state is used, both machines have a start
-pub begins : (l : Lent) (c : Composition) (w : World) → Sound l c w → 0 < w.session.used.states → (t : Triple) × (start_at c ≡ some t)
+pub begins : (l : Lent) (c : Composition) (w : World) → Sound l c w → 0 < w.session.used.states → (t : Triple) × (start_at c ≡ Some t)
 begins l c w S h = begun c w 0 ((S.found 0).0 h)
 
 -- there the weights of its paths are those of the pairs, from the machines' own starts
@@ -64,7 +65,7 @@ pair_weighs l c w S B rs h =
 
 module _ (l : Lent) (c : Composition) (w : World) (W : Whole l c w) where
   -- where the start is t, state 0 is used and has its triple
-  from_start : (t : Triple) → start_at c ≡ some t → (0 < w.session.used.states) × (state_at w 0 ≡ t)
+  from_start : (t : Triple) → start_at c ≡ Some t → (0 < w.session.used.states) × (state_at w 0 ≡ t)
   from_start t e = ((W.sound.found 0).1 (at_start 0 t e refl), W.sound.start t e)
 
   start_records : OneToOne (AcceptingRecords l w) (AcceptingRun (semiring c.kind) (exact c.kind) (composed_of c)) (moves_of_records c w 0) (records_of_moves c w 0)
@@ -175,9 +176,9 @@ module _ (s : Settings) (l : Lent) (side : Side) (w : World) (N : Settled s l w)
       exchanged (plain_runs c W.links N.sigma1 N.sigma2) (start_records l c w W)
 
 -- a machine without a start: the store has no accepting path, and there is no pair
-pub none_without_start : (l : Lent) (c : Composition) (pick : Bool → Bool → MoveKind) (w : World) → Sound l c w → Paths l c pick w → start_at c ≡ none
+pub none_without_start : (l : Lent) (c : Composition) (pick : Bool → Bool → MoveKind) (w : World) → Sound l c w → Paths l c pick w → start_at c ≡ None
     → ((rs : List ℕ) → AcceptingRecords l w rs → ⊥) × ((p : List ℕ × List ℕ) → AgreeingPair c p → ⊥)
 none_without_start l c pick w S P e = (no_records, λ p h. no_records (records_of_pair c pick w p) (P.paths.comes p h))
   where
     no_records : (rs : List ℕ) → AcceptingRecords l w rs → ⊥
-    no_records rs h = none-ne-some _ (sym e ∙ (begins l c w S h.0).1)
+    no_records rs h = none-some _ (sym e ∙ (begins l c w S h.0).1)

@@ -5,7 +5,7 @@ use mathlib.Core.List.Memᴰ
 use mathlib.Core.List.Memᴰ.{head as here}
 use mathlib.Core.List.{List, [], ◌∷◌, ◌++◌, map, flat_map, Memᴰ as In}
 use mathlib.Core.Logic.{◌↔◌, ◌⊎◌, inl, inr, ⊎_elim}
-use mathlib.Core.Option.{Option, none, some}
+use Rattle.std.specs.Prelude.{Option, None, Some}
 use Prim.Native.Nat.{ℕ, zero, suc}
 use native.Mathlib.Omega.{arith}
 use lib.Dec.{eqb, ltb, leb}
@@ -25,8 +25,8 @@ use Rattle.words.proofs.ListLaws.{list_member}
 use Rattle.readings.specs.StorePaths.{AllRead, Settled, sigma2, SigmaOn2AtMost, Finished, AcceptingFrom, AcceptingRecords}
 
 abbrev is_end : Checked (Option ℕ) → Bool
-is_end (good (some x)) = true
-is_end (good none) = false
+is_end (good (Some x)) = true
+is_end (good None) = false
 is_end (refused k) = false
 
 abbrev is_good : Checked (Option ℕ) → Bool
@@ -38,9 +38,9 @@ abbrev ends_here : Bool → List (List ℕ)
 ends_here true = [] ∷ []
 ends_here false = []
 
-end_is : (o : Checked (Option ℕ)) → is_end o ≡ true → (x : ℕ) × (o ≡ good (some x))
-end_is (good (some x)) e = (x, refl)
-end_is (good none) e = absurd (false≢true e)
+end_is : (o : Checked (Option ℕ)) → is_end o ≡ true → (x : ℕ) × (o ≡ good (Some x))
+end_is (good (Some x)) e = (x, refl)
+end_is (good None) e = absurd (false≢true e)
 end_is (refused k) e = absurd (false≢true e)
 
 good_is : (o : Checked (Option ℕ)) → is_good o ≡ true → (x : Option ℕ) × (o ≡ good x)

@@ -3,7 +3,7 @@
 use mathlib.Core.Path.{◌≡◌, refl, sym, ◌∙◌, subst}
 use mathlib.Core.Bool.{Bool, true}
 use mathlib.Core.List.{List, [], ◌∷◌, flat_map}
-use mathlib.Core.Option.{some}
+use Rattle.std.specs.Prelude.{Some}
 use Prim.Native.Nat.{ℕ}
 use Rattle.papers.specs.Weight.{Semiring, CommutativeSemiring}
 use Rattle.papers.specs.Filter.{MoveKind, Filter, facts_of}
@@ -31,7 +31,7 @@ module _ (K : Semiring) (laws : CommutativeSemiring K) (value : ℕ → K.Elemen
       let w = LG.forwards φ f x y
       (path_fits K value C.first.output C.first s.s1 (path1 (m ∷ ms)) (accepting1 K laws value D s (m ∷ ms) h))
       (path_fits K value C.second.input C.second s.s2 (path2 (m ∷ ms)) (accepting2 K laws value D s (m ∷ ms) h)) v in
-      let kept : G h.1.0 φ f ≡ some w.0 = subst (λ z. G z φ f ≡ some w.0) e w.1 in
+      let kept : G h.1.0 φ f ≡ Some w.0 = subst (λ z. G z φ f ≡ Some w.0) e w.1 in
       let lv = subst (λ z. liveG w.0 (then1 z x (b1 (filtered_by G C) liveG pick (path1 ms))) (then2 z y (b2 (filtered_by G C) liveG pick (path2 ms))) ≡ true) e (w.2 _ _) in
       (w.0, (h.1.0, h.1.1, kept), swapped F G liveF liveG LF LG (reached D s m h.0) w.0 ms h.2 (sym (o.1 w.0) ∙ lv))
 

@@ -3,7 +3,8 @@
 use mathlib.Core.Path.{◌≡◌, refl, sym, ◌∙◌, subst}
 use mathlib.Core.Bool.{Bool}
 use mathlib.Core.List.{List}
-use mathlib.Core.Option.{none, none-ne-some}
+use Rattle.std.specs.Prelude.{None}
+use Rattle.std.proofs.lemmas.Option.{none-some}
 use Prim.Native.Nat.{ℕ, ◌+◌}
 use native.Mathlib.Omega.{arith}
 use lib.ListN.{length}
@@ -63,8 +64,8 @@ module _ (K : Semiring) (value : ℕ → K.Element) (R : ℕ → ℕ → Type 0)
   abbrev Nothing : Type 0
   Nothing = ((ms : List Edges) → AcceptingRun K value C ms → ⊥) × ((p : List ℕ × List ℕ) → Pair K value R C p → ⊥)
 
-  pub no_start1 : C.first.start ≡ none → Nothing
-  no_start1 e = (λ ms h. none-ne-some _ (sym e ∙ h.1.0), λ p h. none-ne-some _ (sym e ∙ h.0.1))
+  pub no_start1 : C.first.start ≡ None → Nothing
+  no_start1 e = (λ ms h. none-some _ (sym e ∙ h.1.0), λ p h. none-some _ (sym e ∙ h.0.1))
 
-  pub no_start2 : C.second.start ≡ none → Nothing
-  no_start2 e = (λ ms h. none-ne-some _ (sym e ∙ h.1.1), λ p h. none-ne-some _ (sym e ∙ h.1.1))
+  pub no_start2 : C.second.start ≡ None → Nothing
+  no_start2 e = (λ ms h. none-some _ (sym e ∙ h.1.1), λ p h. none-some _ (sym e ∙ h.1.1))

@@ -6,7 +6,8 @@ use mathlib.Core.List.Memᴰ.{head as here}
 use mathlib.Core.List.Memᴰ.{tail as there}
 use mathlib.Core.List.{List, [], ◌∷◌, Memᴰ as In}
 use mathlib.Core.Logic.{⊎_elim}
-use mathlib.Core.Option.{none, some, none-ne-some}
+use Rattle.std.specs.Prelude.{None, Some}
+use Rattle.std.proofs.lemmas.Option.{none-some}
 use Prim.Native.Nat.{ℕ}
 use native.Mathlib.Omega.{arith}
 use lib.ListN.{replicate}
@@ -88,7 +89,7 @@ claimed2 =
 
 settled : Settled set lent left
 unfolding Holds
-settled = record { sigma1 = refl; sigma2 = refl; read = record { expanded = below_two _ (omega arith, refl) (omega arith, refl); weighed = below_two _ (none, refl) (some 1, refl) } }
+settled = record { sigma1 = refl; sigma2 = refl; read = record { expanded = below_two _ (omega arith, refl) (omega arith, refl); weighed = below_two _ (None, refl) (Some 1, refl) } }
 
 -- the paths 1:9, and no others
 abbrev four : List (List ℕ)
@@ -104,7 +105,7 @@ from1 (r ∷ rs) h = absurd (Memᴰ.not-nil h.1)
 
 from0 : (rs : List ℕ) → AcceptingFrom lent left 0 rs → In rs four
 unfolding Holds
-from0 [] h = absurd (none-ne-some _ (good_is h.1))
+from0 [] h = absurd (none-some _ (good_is h.1))
 from0 (r ∷ rs) h =
     ⊎_elim (λ e. at 1 e refl (here refl))
     (λ i. ⊎_elim (λ e. at 2 e refl (there (here refl)))

@@ -1,6 +1,5 @@
 -- Demand 3a: "No reading is lost, doubled or altered: an expanded state's list, or a final weight, once given is given again by every later call for it."
-use Rattle.std.specs.Prelude.{◌≡◌, List, [], ◌∷◌, ℕ}
-use Rattle.std.proofs.Math.Option.{Option}
+use Rattle.std.specs.Prelude.{◌≡◌, List, [], ◌∷◌, ℕ, Option}
 use Rattle.words.specs.Labels.{good}
 use Rattle.words.specs.Settings.{Lent}
 use Rattle.calls.specs.Checks.{Session}

@@ -1,6 +1,5 @@
 -- Demand 3, scope: what the next call answers in each world of a list, and which states are expanded, by the calls made.
-use Rattle.std.specs.Prelude.{◌≡◌, Bool, false, not, ◌||◌, List, [], ◌∷◌, ◌++◌, map, ◌≢◌, ◌⊎◌, ◌↔◌, ℕ, ◌+◌, ◌≤◌, ◌<◌, length}
-use Rattle.std.proofs.Math.Option.{some}
+use Rattle.std.specs.Prelude.{◌≡◌, Bool, false, not, ◌||◌, List, [], ◌∷◌, ◌++◌, map, ◌≢◌, ◌⊎◌, ◌↔◌, ℕ, ◌+◌, ◌≤◌, ◌<◌, length, Some}
 use Rattle.lists.specs.Lists.{interval, put_if}
 use Rattle.papers.specs.Composition.{Triple}
 use Rattle.words.specs.Labels.{Checked, good, refused}
@@ -15,7 +14,7 @@ use Rattle.readings.specs.Worlds.{world_of, expand_in, final_in, run_in, handed_
 
 -- "Opening checks 1 to 7" with 18 (02, 2.7), "then 13 (not if a machine lacks a start: then no state is found)", where 13 is "a record or, at opening, a head is lacking"
 abbrev pub HasStart : Settings → Lent → Side → Type 0
-HasStart s l side = (t : Triple) × (start_at (composition_of s l side) ≡ some t)
+HasStart s l side = (t : Triple) × (start_at (composition_of s l side) ≡ Some t)
 
 pub record Opens (s : Settings) (l : Lent) (got : Session) (m : Memory) : Type 0 where
   -- accepted just where the checks 1 to 7 and 18 give a side, and a composition with a start finds a head and a state record

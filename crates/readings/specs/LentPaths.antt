@@ -1,7 +1,6 @@
 -- 02, 2.7, of demand 3c: "Readings agree when their inner labels do after replacement", said of the paths, labels and weights of the two machines as they are lent. And a list of
 -- calls with ignored labels answers as with the words replaced.
-use Rattle.std.specs.Prelude.{◌≡◌, Bool, false, List, map, ◌⊎◌, ℕ}
-use Rattle.std.proofs.Math.Option.{some}
+use Rattle.std.specs.Prelude.{◌≡◌, Bool, false, List, map, ◌⊎◌, ℕ, Some}
 use Rattle.papers.specs.Weight.{semiring}
 use Rattle.papers.specs.Filter.{MoveKind}
 use Rattle.papers.specs.Machine.{Machine}
@@ -48,7 +47,7 @@ pub record LentPaths (s : Settings) (l : Lent) (c : Composition) (pick : Bool �
   -- "accepting paths .. correspond one to one .. with all pairs of accepting paths whose inner labels .. agree" after replacement
   pub paths : OneToOne (AcceptingRecords l w) (AgreeingLent s l c) (pair_of_records c w) (records_of_pair c pick w)
   -- "and weigh the product of both"
-  pub weights : (t : Triple) → start_at c ≡ some t → (rs : List ℕ) → AcceptingRecords l w rs
+  pub weights : (t : Triple) → start_at c ≡ Some t → (rs : List ℕ) → AcceptingRecords l w rs
       → records_weight c.kind l w 0 rs
       ≡ (semiring c.kind).times (weight_from c (lent1 l) t.s1 (pair_of_records c w rs).0) (weight_from c (lent2 l) t.s2 (pair_of_records c w rs).1)
   -- outer labels are those that were lent: the inputs of machine 1, listed or not

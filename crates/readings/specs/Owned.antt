@@ -1,7 +1,6 @@
 -- A caller that owns its memory: calls that do not check, runs in pieces and copies into longer slices lead from a world of demand 3 to such a world again, so that both demands speak
 -- of all that such a caller meets.
-use Rattle.std.specs.Prelude.{◌≡◌, List, map, ◌⊎◌, ℕ, ◌+◌, ◌-◌, ◌≤◌, ◌<◌, length}
-use Rattle.std.proofs.Math.Option.{Option}
+use Rattle.std.specs.Prelude.{◌≡◌, List, map, ◌⊎◌, ℕ, ◌+◌, ◌-◌, ◌≤◌, ◌<◌, length, Option}
 use Rattle.lists.specs.Lists.{At, interval}
 use Rattle.words.specs.Labels.{good, refused}
 use Rattle.words.specs.Sides.{Side}

@@ -1,9 +1,7 @@
 -- Composed paths as document 01 has them: "An expanded state's k-th transition record is its k-th kept move". A path is then a list of places: in the list of the state where it
 -- begins, in the list of the state reached, and so on. Places count from 0.
-use Rattle.std.specs.Prelude.{Bool, true, false, ◌&&◌, ◌↔◌, ℕ, suc, eqb}
+use Rattle.std.specs.Prelude.{Bool, true, false, ◌&&◌, ◌↔◌, ℕ, suc, eqb, Option, None, Some, slice_get}
 use mathlib.Core.List.{List, [], ◌∷◌, Memᴰ}
-use Rattle.std.proofs.Math.Option.{Option, none, some}
-use Rattle.std.proofs.Math.ListN.{get_elem?}
 use Rattle.lists.specs.Lists.{At, Distinct}
 use Rattle.papers.specs.Weight.{Semiring}
 use Rattle.papers.specs.Composition.{Edge, rest, along, Composed, Triple, Edges, KeptMove, reached}
@@ -21,8 +19,8 @@ pub record Lists (C : Composed) (Found : Triple → Type 0) (listed : MoveLists)
 
 -- the move of an entry, and what comes after it; without an entry nothing
 abbrev pub then_moves : Option (Edges × ℕ) → (Edges → ℕ → List Edges) → List Edges
-then_moves none go = []
-then_moves (some e) go = e.0 ∷ go e.0 e.1
+then_moves None go = []
+then_moves (Some e) go = e.0 ∷ go e.0 e.1
 
 abbrev pub same_edge : Edge → Edge → Bool
 same_edge rest rest = true
@@ -35,24 +33,24 @@ same_move m n = same_edge m.first n.first && same_edge m.second n.second
 
 -- the entry at hand is the one that is sought, with next filter state g, or another of those behind it is
 abbrev pub place_or : Bool → ℕ → Option (ℕ × ℕ) → Option (ℕ × ℕ)
-place_or true g found = some (0, g)
-place_or false g none = none
-place_or false g (some r) = some (suc r.0, r.1)
+place_or true g found = Some (0, g)
+place_or false g None = None
+place_or false g (Some r) = Some (suc r.0, r.1)
 
 -- the place of the first entry with this move, and its next filter state
 unfoldable pub place_among : Edges → List (Edges × ℕ) → Option (ℕ × ℕ)
-place_among m [] = none
+place_among m [] = None
 place_among m (e ∷ es) = place_or (same_move m e.0) e.1 (place_among m es)
 
 abbrev pub then_places : Option (ℕ × ℕ) → (ℕ → List ℕ) → List ℕ
-then_places none go = []
-then_places (some r) go = r.0 ∷ go r.1
+then_places None go = []
+then_places (Some r) go = r.0 ∷ go r.1
 
 module _ (C : Composed) (listed : MoveLists) where
   -- the moves at these places, from the state s on
   unfoldable pub moves_at : Triple → List ℕ → List Edges
   moves_at s [] = []
-  moves_at s (k ∷ ks) = then_moves (get_elem? (listed s) k) (λ m g. moves_at (reached C s m g) ks)
+  moves_at s (k ∷ ks) = then_moves (slice_get (listed s) k) (λ m g. moves_at (reached C s m g) ks)
 
   -- the places of these moves, from the state s on
   unfoldable pub places_of : Triple → List Edges → List ℕ

@@ -1,10 +1,8 @@
 -- Demand 3c: "After the list, with no sigma label set, once all found states are expanded and no found state's final weight would be refused: accepting paths
 -- (final weight not zero) correspond one to one, paired as in document 01, with all pairs of accepting paths whose inner labels (outputs of the first, inputs of
 -- the second) agree, epsilons left out, and weigh the product of both." 02, 2.4: it "widens to sigma on machine 2 alone".
-use Rattle.std.specs.Prelude.{◌≡◌, Bool, true, ◌&&◌, cond, ◌≢◌, ◌⊎◌, ℕ, ◌+◌, ◌-◌, ◌≤◌, eqb}
+use Rattle.std.specs.Prelude.{◌≡◌, Bool, true, ◌&&◌, cond, ◌≢◌, ◌⊎◌, ℕ, ◌+◌, ◌-◌, ◌≤◌, eqb, Option, None, Some, slice_get}
 use mathlib.Core.List.{List, [], ◌∷◌, map, Memᴰ}
-use Rattle.std.proofs.Math.Option.{Option, none, some}
-use Rattle.std.proofs.Math.ListN.{get_elem?}
 use Rattle.papers.specs.Weight.{Kind, semiring}
 use Rattle.papers.specs.Filter.{MoveKind}
 use Rattle.papers.specs.Machine.{ε, Machine}
@@ -63,7 +61,7 @@ pub record Finished (s : Settings) (l : Lent) (c : Composition) (w : World) : Ty
 
 -- "accepting paths (final weight not zero)" of the store, as lists of record numbers from state n on
 abbrev pub AcceptingFrom : Lent → World → ℕ → List ℕ → Type 0
-AcceptingFrom l w n [] = (x : ℕ) × ((final_in l w n).answer ≡ good (some x))
+AcceptingFrom l w n [] = (x : ℕ) × ((final_in l w n).answer ≡ good (Some x))
 AcceptingFrom l w n (r ∷ rs) = Expanded w n × Memᴰ r (records_in w n) × AcceptingFrom l w (target_of w r) rs
 
 -- from state 0, if it is found
@@ -95,12 +93,12 @@ moves_in c w n = listed_at c (state_at w n)
 -- "An expanded state's k-th transition record is its k-th kept move": the moves of a list of records from state n on
 unfoldable pub moves_of_records : Composition → World → ℕ → List ℕ → List Edges
 moves_of_records c w n [] = []
-moves_of_records c w n (r ∷ rs) = then_moves (get_elem? (moves_in c w n) (r - (part_in w n).first)) (λ m g. moves_of_records c w (target_of w r) rs)
+moves_of_records c w n (r ∷ rs) = then_moves (slice_get (moves_in c w n) (r - (part_in w n).first)) (λ m g. moves_of_records c w (target_of w r) rs)
 
 -- and the records of a list of moves: the place of each among the kept moves of its state
 abbrev pub then_record : Option (ℕ × ℕ) → (ℕ → List ℕ) → List ℕ
-then_record none go = []
-then_record (some p) go = go p.0
+then_record None go = []
+then_record (Some p) go = go p.0
 
 unfoldable pub records_of_moves : Composition → World → ℕ → List Edges → List ℕ
 records_of_moves c w n [] = []
@@ -117,8 +115,8 @@ records_of_pair c pick w p = records_of_moves c w 0 (merge pick (machine1 c) (ma
 
 -- the weight that final weight answers, where it does; else the kind's zero
 abbrev pub answered_weight : ℕ → Checked (Option ℕ) → ℕ
-answered_weight z (good (some x)) = x
-answered_weight z (good none) = z
+answered_weight z (good (Some x)) = x
+answered_weight z (good None) = z
 answered_weight z (refused n) = z
 
 -- the exact weight of a list of records from state n on: the product of the stored weights, and of the final weight at its end
@@ -128,7 +126,7 @@ records_weight k l w n (r ∷ rs) = (semiring k).times (exact k (weight_of w r))
 
 -- "and weigh the product of both": the accepting paths of the store; the paths of the pair begin in the machines' starts
 abbrev pub WeighBoth : Lent → Composition → World → Type 0
-WeighBoth l c w = (t : Triple) → start_at c ≡ some t → (rs : List ℕ) → AcceptingRecords l w rs
+WeighBoth l c w = (t : Triple) → start_at c ≡ Some t → (rs : List ℕ) → AcceptingRecords l w rs
     → records_weight c.kind l w 0 rs
     ≡ (semiring c.kind).times (weight_from c (machine1 c) t.s1 (pair_of_records c w rs).0) (weight_from c (machine2 c) t.s2 (pair_of_records c w rs).1)
 

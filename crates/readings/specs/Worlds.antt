@@ -1,7 +1,6 @@
 -- Demand 3, scope: the worlds that a list of calls leads to, what their records say, and what holds in each of them.
-use Rattle.std.specs.Prelude.{◌≡◌, ◌↔◌, ℕ, ◌+◌, ◌-◌, ◌≤◌, ◌<◌, length}
+use Rattle.std.specs.Prelude.{◌≡◌, ◌↔◌, ℕ, ◌+◌, ◌-◌, ◌≤◌, ◌<◌, length, Option, Some}
 use mathlib.Core.List.{List, [], ◌∷◌, map, Memᴰ}
-use Rattle.std.proofs.Math.Option.{Option, some}
 use Rattle.lists.specs.Lists.{At, interval}
 use Rattle.papers.specs.Composition.{Triple}
 use Rattle.words.specs.Labels.{Checked, good, refused}
@@ -89,7 +88,7 @@ target_of w r = target_at w.memory.trs (r - 1)
 
 -- "Found are state 0, if both machines have a start, and every target of an expanded state": the least such set, so that no states find one another alone
 pub data Found (c : Composition) (w : World) : ℕ → Type 0 where
-  at_start : (n : ℕ) (t : Triple) → start_at c ≡ some t → n ≡ 0 → Found c w n
+  at_start : (n : ℕ) (t : Triple) → start_at c ≡ Some t → n ≡ 0 → Found c w n
   as_target : (n k r : ℕ) → Found c w k → Expanded w k → Memᴰ r (records_in w k) → target_of w r ≡ n → Found c w n
 
 -- "An expanded state's k-th transition record is its k-th kept move: machine 1's input, machine 2's output (both after any rewriting), the product of their
@@ -118,7 +117,7 @@ pub record Sound (l : Lent) (c : Composition) (w : World) : Type 0 where
   pub alone : (r j k : ℕ) → Expanded w j → Expanded w k → Memᴰ r (records_in w j) → Memᴰ r (records_in w k) → j ≡ k
   -- a composed state has one number, and the start has number 0
   pub distinct : (i j : ℕ) → UsedState w i → UsedState w j → state_at w i ≡ state_at w j → i ≡ j
-  pub start : (t : Triple) → start_at c ≡ some t → state_at w 0 ≡ t
+  pub start : (t : Triple) → start_at c ≡ Some t → state_at w 0 ≡ t
   -- "numbers from 0 in order of first finding": before a record leads to a state, every smaller number but 0 is the target of an earlier record
   pub order : (r n : ℕ) → 0 < r → r ≤ w.session.used.trs → 0 < n → n < target_of w r → (q : ℕ) × (0 < q) × (q < r) × (target_of w q ≡ n)
   -- every expanded state's list is that of its kept moves

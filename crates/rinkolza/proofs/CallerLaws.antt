@@ -2,7 +2,7 @@
 use mathlib.Core.Path.{◌≡◌, refl, sym, ap, ◌∙◌}
 use mathlib.Core.Bool.{Bool, true, false, cond}
 use mathlib.Core.List.{List, [], ◌∷◌, map}
-use mathlib.Core.Option.{Option, none, some}
+use Rattle.std.specs.Prelude.{Option, None, Some}
 use Prim.Native.Nat.{ℕ, zero, suc, ◌+◌, ◌-◌, ◌*◌, ◌≤◌}
 use native.Mathlib.Omega.{arith}
 use lib.Dec.{eqb}
@@ -71,8 +71,8 @@ said_part old (refused zero) h = absurd (omega (arith, h.0))
 said_part old (refused (suc k)) h = refl
 
 said_weight : (old : List ℕ) (x : Checked (Option ℕ)) → Numbered x → let said = said_of weight x in said_by (number_of said) (weight (weight_heard (answer_of old said))) ≡ said
-said_weight old (good none) h = refl
-said_weight old (good (some w)) h = refl
+said_weight old (good None) h = refl
+said_weight old (good (Some w)) h = refl
 said_weight old (refused zero) h = absurd (omega (arith, h.0))
 said_weight old (refused (suc k)) h = refl
 

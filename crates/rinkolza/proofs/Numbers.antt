@@ -1,7 +1,7 @@
 -- The number of a refusal is from 1 to 13, or 18: so 0 says that a call is accepted.
 use mathlib.Core.Path.{◌≡◌, refl}
 use mathlib.Core.Bool.{Bool, true, false, not, ◌&&◌, ◌||◌}
-use mathlib.Core.Option.{Option, none, some}
+use Rattle.std.specs.Prelude.{Option, None, Some}
 use Prim.Native.Nat.{ℕ, zero, suc, ◌≤◌}
 use native.Mathlib.Omega.{arith}
 use lib.Dec.{eqb, leb}
@@ -84,8 +84,8 @@ open_numbered s l got m =
     (λ side e. and_then_lem (begun m (start_at (composition_of s l side))) (λ d. good (opened s side d)) (began (start_at (composition_of s l side))) (λ d x. tt)))
   where
     began : (o : Option Triple) → Numbered (begun m o)
-    began none = tt
-    began (some t) = checked (eqb (state_room m) 0 || not (non_empty m.heads)) 13 _ (omega arith, omega arith) tt
+    began None = tt
+    began (Some t) = checked (eqb (state_room m) 0 || not (non_empty m.heads)) 13 _ (omega arith, omega arith) tt
 
 pub expand_numbered : (l : Lent) (s : Session) (m : Memory) (n : ℕ) → Numbered (expand_of l s m n).answer
 unfolding expand_with expansion_with

@@ -1,7 +1,7 @@
 -- What the calls that do not check leave in words: of a piece of a run, of all final weights, and in the memos.
 use mathlib.Core.Path.{◌≡◌, refl, sym, ◌∙◌, ap, subst}
 use mathlib.Core.List.{List, [], ◌∷◌}
-use mathlib.Core.Option.{Option}
+use Rattle.std.specs.Prelude.{Option}
 use Prim.Native.Nat.{ℕ, ◌-◌}
 use lib.ListN.{get_or}
 use Rattle.words.specs.Labels.{Checked, good, refused}

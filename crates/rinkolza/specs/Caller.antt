@@ -1,6 +1,5 @@
 -- Lists of exported calls, and what their caller makes of the words. 01, "Session and memory": "Each call gets the session last returned, at first the opening's, and memory as last left".
-use Rattle.std.specs.Prelude.{cond, List, [], ◌∷◌, ℕ, zero, suc, eqb, get_or}
-use Rattle.std.proofs.Math.Option.{Option, none, some}
+use Rattle.std.specs.Prelude.{cond, List, [], ◌∷◌, ℕ, zero, suc, eqb, get_or, Option, None, Some}
 use Rattle.words.specs.Settings.{Lent}
 use Rattle.calls.specs.Store.{Memory, Part}
 use Rattle.calls.specs.Calls.{words_of_part}
@@ -20,7 +19,7 @@ abbrev pub part_of : List ℕ → Part
 part_of a = record { first = get_or a 0 0; count = get_or a 1 0 }
 
 abbrev pub weight_heard : List ℕ → Option ℕ
-weight_heard a = cond (eqb (get_or a 0 0) 0) none (some (get_or a 1 0))
+weight_heard a = cond (eqb (get_or a 0 0) 0) None (Some (get_or a 1 0))
 
 -- 0 says that the call is accepted, any other number is a refusal's
 abbrev pub said_by : ℕ → Said → Said

@@ -3,7 +3,8 @@ use mathlib.Core.Path.{◌≡◌, refl, sym, ◌∙◌, ap, subst}
 use mathlib.Core.Bool.{Bool, true, false, ◌&&◌, not, cond, false≢true}
 use mathlib.Core.List.{List, [], ◌∷◌, Memᴰ as In}
 use mathlib.Core.Logic.{◌⊎◌, inl, inr, ⊎_elim}
-use mathlib.Core.Option.{some, some-injective}
+use Rattle.std.specs.Prelude.{Some}
+use Rattle.std.proofs.lemmas.Option.{same_Some}
 use Prim.Native.Nat.{ℕ, zero, suc, ◌+◌, ◌-◌, ◌*◌, ◌≤◌, ◌<◌}
 use native.Mathlib.Omega.{arith}
 use lib.Dec.{eqb, ltb, leb}
@@ -134,7 +135,7 @@ store_marked : (c : Composition) (d : Store) (S1 S2 : ℕ) → form_ok S1 S2 d �
 store_marked c d S1 S2 ok ls lt pos w long marks = useful_marked (links_of d) (store_machine c d).is_final d.used.states d.used.trs (next_rises d) (first_within d)
     (λ r p q. (form_tr S1 S2 d ok (r - 1) (omega (arith, p, q))).target) (omega arith) (omega arith) pos w long marks
 
-starts : (u : ℕ) → 0 < u → first_state u ≡ some 0
+starts : (u : ℕ) → 0 < u → first_state u ≡ Some 0
 starts zero h = absurd (omega arith)
 starts (suc u) h = refl
 
@@ -159,7 +160,7 @@ search_useful c d S1 S2 ok ls lt pos w long marks x l = same_test _ _
       final = z.1.2;
     }))
     (λ e. let u = (useful_is M B x).0 e in
-    let zero-start : 0 ≡ u.start = some-injective 0 u.start (sym (starts d.used.states pos) ∙ u.starts) in
+    let zero-start : 0 ≡ u.start = same_Some 0 u.start (sym (starts d.used.states pos) ∙ u.starts) in
     eq-eqb _ _ ((m.1 x l).1
     (walk_reach c d S1 S2 ok 0 x u.reached.0 pos (subst (λ a. Walk M a u.reached.0 x) (sym zero-start) u.reached.1))
     (u.end, walk_reach c d S1 S2 ok x u.end u.leads.0 l u.leads.1, u.final)))

@@ -1,6 +1,5 @@
 -- What the code's types stand for in the definitions of `words` and `calls`, and what the checks before a call give.
-use Rattle.std.specs.Prelude.{List, ℕ, zero, suc}
-use Rattle.std.proofs.Math.Option.{Option}
+use Rattle.std.specs.Prelude.{List, ℕ, zero, suc, Option}
 use Rattle.words.specs.Labels.{Checked, good, refused}
 use Rattle.words.specs.Matches.{inputs, outputs}
 use Rattle.words.specs.Sides.{Side, only, both}

@@ -1,8 +1,7 @@
 // The six settings, and the one order of checks 1 to 8 before a call.
 #![tactic(auto)]
 
-ghost use Rattle.std.specs.Prelude.{◌≡◌, List, ℕ};
-ghost use Rattle.std.proofs.Math.Option.{Option};
+ghost use Rattle.std.specs.Prelude.{◌≡◌, List, ℕ, Option};
 ghost use Rattle.words.specs.Ignored.{ignored_ok};
 ghost use Rattle.words.specs.Settings.{Settings as Six, settings_ok};
 ghost use Rattle.calls.specs.Listing.{settings_of};

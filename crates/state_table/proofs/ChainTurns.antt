@@ -2,7 +2,7 @@
 use mathlib.Core.Path.{◌≡◌, refl, ◌∙◌, ap}
 use mathlib.Core.Bool.{Bool}
 use mathlib.Core.List.{List}
-use mathlib.Core.Option.{some}
+use Rattle.std.specs.Prelude.{Some}
 use Prim.Native.Nat.{ℕ, zero, suc, ◌-◌, ◌≤◌, ◌<◌}
 use native.Mathlib.Omega.{arith}
 use Rattle.lists.specs.Lists.{first_if, first, linked}
@@ -23,6 +23,6 @@ falling_turn P next link e f =
     ∙ ap (λ (l : List ℕ). first_if (P (link - 1)) (link - 1) (first P l)) (linked_same next next (link - 1) (link - 1) (next (link - 1)) (next (link - 1)) (λ n h. f n (omega arith)) (λ n h. refl) low low (omega arith))
 
 -- a link that is not 0 leads to the state before its number
-pub link_some : (link : ℕ) → (link ≡ 0 → ⊥) → link_means link ≡ some (link - 1)
+pub link_some : (link : ℕ) → (link ≡ 0 → ⊥) → link_means link ≡ Some (link - 1)
 link_some zero e = absurd (e refl)
 link_some (suc n) e = let z : suc n - 1 ≡ n = omega arith in rw z

@@ -1,6 +1,5 @@
 -- What a look-up in the table stands for in `find` of `calls`, and what finding or adding stands for.
-use Rattle.std.specs.Prelude.{List, ℕ, zero, suc, ◌+◌}
-use Rattle.std.proofs.Math.Option.{Option, none, some}
+use Rattle.std.specs.Prelude.{List, ℕ, zero, suc, ◌+◌, Option, None, Some}
 use Rattle.calls.specs.Calls.{Reached as Place}
 use Rattle.store_records.specs.Meaning.{stored}
 use Rattle.state_table.specs.declared.FoundState.{FoundState}
@@ -9,13 +8,13 @@ use Rattle.state_table.specs.declared.Reached.{Reached}
 
 -- the state with a triple; none: it is not in the table
 abbrev pub found_means : FoundState → Option ℕ
-found_means (At s) = some s.0
-found_means Missing = none
+found_means (At s) = Some s.0
+found_means Missing = None
 
 -- the state to which a link leads; 0 leads to none
 abbrev pub link_means : ℕ → Option ℕ
-link_means zero = none
-link_means (suc n) = some n
+link_means zero = None
+link_means (suc n) = Some n
 
 -- a state of the table, and the table, in these slices
 abbrev pub reached_means : (heads states trs : List ℕ) (k : ℕ) → Reached → Place

@@ -1,6 +1,5 @@
 // The state of a triple, found or new, in memory whose chains are known to stay within the used records: the place of its head is computed once, and along the chain nothing is tested.
-ghost use Rattle.std.specs.Prelude.{◌≡◌, List, ℕ, ◌≤◌, ◌<◌};
-ghost use Rattle.std.proofs.Math.Option.{none};
+ghost use Rattle.std.specs.Prelude.{◌≡◌, List, ℕ, ◌≤◌, ◌<◌, None};
 ghost use Rattle.lists.specs.Lists.{first, linked};
 ghost use Rattle.calls.specs.Store.{room_of, state_size, triple_at, next_at, same_triple, find};
 ghost use Rattle.stored_steps.specs.Storing.{place};
@@ -39,7 +38,7 @@ pub fn find_or_add(
 ) -> u32
     requires { (trs : List ℕ) (k : ℕ) →
         let d = stored heads.old states.old trs used k in
-        Chained d × (find d (tuple_means tuple) ≡ none → used < room_of state_size states.old) }
+        Chained d × (find d (tuple_means tuple) ≡ None → used < room_of state_size states.old) }
     ensures { (trs : List ℕ) (k : ℕ) →
         let d = stored heads.old states.old trs used k in
         placed_by heads.new states.new trs used k result ≡ place d (tuple_means tuple) }

@@ -1,7 +1,7 @@
 -- Memory in form is chained, and steps that fit keep it so. So the state of a triple is found along links that fall.
 use mathlib.Core.Path.{◌≡◌, refl, ap}
 use mathlib.Core.List.{List, [], ◌∷◌}
-use mathlib.Core.Option.{Option, none, some}
+use Rattle.std.specs.Prelude.{Option, None, Some}
 use Prim.Native.Nat.{ℕ, suc, ◌+◌, ◌*◌, ◌≤◌, ◌<◌}
 use native.Mathlib.Omega.{arith}
 use native.Mathlib.Decide.{ℕ_discrete, dec_lt}
@@ -52,13 +52,13 @@ module _ (d : Store) (c : Chained d) where
       next = λ n h. next_new n h (dec_lt n U);
     }
 
-  pub place_chained : (t : Triple) → (find d t ≡ none → U < state_room d.memory) → Chained (place d t).store
+  pub place_chained : (t : Triple) → (find d t ≡ None → U < state_room d.memory) → Chained (place d t).store
   unfolding place
   place_chained t room = go (find d t) refl
     where
       go : (o : Option ℕ) → find d t ≡ o → Chained (found_or d t o).store
-      go (some n) e = c
-      go none e = add_chained t (room e)
+      go (Some n) e = c
+      go None e = add_chained t (room e)
 
   pub one_chained : (st : Step) → Room d st → Chained (store_one d st)
   unfolding store_one append state_room_with

@@ -2,7 +2,7 @@
 use mathlib.Core.Path.{◌≡◌, refl, ◌∙◌, ap}
 use mathlib.Core.Bool.{Bool, true, false}
 use mathlib.Core.List.{List, [], ◌∷◌}
-use mathlib.Core.Option.{Option, none, some}
+use Rattle.std.specs.Prelude.{Option, None, Some}
 use Prim.Native.Nat.{ℕ, suc, ◌+◌, ◌-◌, ◌*◌, ◌<◌}
 use native.Mathlib.Omega.{arith}
 use lib.Dec.{leb}
@@ -27,7 +27,7 @@ accepted_then (good a) g h = tt
 accepted_then (refused n) g h = absurd h
 
 -- a new state has a record
-pub new_room : (d : Store) (t : Triple) → find d t ≡ none → Accepted (reach d t) → d.used.states < state_room d.memory
+pub new_room : (d : Store) (t : Triple) → find d t ≡ None → Accepted (reach d t) → d.used.states < state_room d.memory
 unfolding reach_with
 new_room d t e h = leb-false _ _ (accepted_past (leb (state_room d.memory) d.used.states) 13 (good (record { store = add d t; state = d.used.states })) (rw e at h)).0
 
@@ -43,20 +43,20 @@ pub accepted_room : (d : Store) (st : Step) (next : ℕ) → Accepted (store_ste
 accepted_room d st next h = let p = step_room d next st h in record { tr = p.0; state = λ e. new_room d st.to e p.1 }
 
 -- a state of the table: found, or new where there is a record
-reached : (d : Store) (t : Triple) → (find d t ≡ none → d.used.states < state_room d.memory) → reach d t ≡ good (place d t)
+reached : (d : Store) (t : Triple) → (find d t ≡ None → d.used.states < state_room d.memory) → reach d t ≡ good (place d t)
 unfolding reach_with place
 reached d t h = go (find d t) refl
   where
     go : (o : Option ℕ) → find d t ≡ o → reached_by d t o ≡ good (found_or d t o)
-    go (some n) e = refl
-    go none e = rw (lt-leb (state_room d.memory) d.used.states (h e))
+    go (Some n) e = refl
+    go None e = rw (lt-leb (state_room d.memory) d.used.states (h e))
 
 -- the two ways of a place
-pub place_found : (d : Store) (t : Triple) (n : ℕ) → find d t ≡ some n → place d t ≡ record { store = d; state = n }
+pub place_found : (d : Store) (t : Triple) (n : ℕ) → find d t ≡ Some n → place d t ≡ record { store = d; state = n }
 unfolding place
 place_found d t n e = rw e
 
-pub place_new : (d : Store) (t : Triple) → find d t ≡ none → place d t ≡ record { store = add d t; state = d.used.states }
+pub place_new : (d : Store) (t : Triple) → find d t ≡ None → place d t ≡ record { store = add d t; state = d.used.states }
 unfolding place
 place_new d t e = rw e
 

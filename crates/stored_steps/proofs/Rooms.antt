@@ -2,7 +2,7 @@
 use mathlib.Core.Path.{◌≡◌, refl, ◌∙◌, ap}
 use mathlib.Core.Bool.{true}
 use mathlib.Core.List.{List, [], ◌∷◌}
-use mathlib.Core.Option.{Option, none, some}
+use Rattle.std.specs.Prelude.{Option, None, Some}
 use Prim.Native.Nat.{ℕ, ◌+◌, ◌-◌, ◌*◌, ◌≤◌}
 use native.Mathlib.Omega.{arith}
 use lib.ListN.{length}
@@ -35,8 +35,8 @@ unfolding place
 placed d t = go (find d t)
   where
     go : (o : Option ℕ) → Grown d (found_or d t o).store
-    go (some n) = record { states = omega arith; trs = refl; state_room_lem = refl; tr_room_lem = refl }
-    go none = added d t
+    go (Some n) = record { states = omega arith; trs = refl; state_room_lem = refl; tr_room_lem = refl }
+    go None = added d t
 
 pub one_trs : (d : Store) (st : Step) → (store_one d st).used.trs ≡ d.used.trs + 1
 unfolding store_one append

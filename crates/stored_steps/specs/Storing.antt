@@ -1,6 +1,5 @@
 -- Steps stored one by one, each linked to a next one, and the last link ended after them. No check stands between: `Fits` says that none would refuse.
-use Rattle.std.specs.Prelude.{◌≡◌, true, cond, List, [], ◌∷◌, ℕ, ◌-◌, ◌*◌, ◌<◌, eqb}
-use Rattle.std.proofs.Math.Option.{Option, none, some}
+use Rattle.std.specs.Prelude.{◌≡◌, true, cond, List, [], ◌∷◌, ℕ, ◌-◌, ◌*◌, ◌<◌, eqb, Option, None, Some}
 use Rattle.lists.specs.Lists.{put}
 use Rattle.words.specs.Labels.{Checked, good, refused}
 use Rattle.words.specs.Steps.{Triple, Step}
@@ -24,8 +23,8 @@ AllGood steps = All (λ st. Unit {0}) steps
 
 -- the state found, or a new one
 abbrev pub found_or : Store → Triple → Option ℕ → Reached
-found_or d t (some n) = record { store = d; state = n }
-found_or d t none = record { store = add d t; state = d.used.states }
+found_or d t (Some n) = record { store = d; state = n }
+found_or d t None = record { store = add d t; state = d.used.states }
 
 -- the state of a triple, found or new
 unfoldable pub place : Store → Triple → Reached
@@ -63,7 +62,7 @@ end_from before d = cond (eqb d.used.trs before) d (end_link d)
 -- there is a record for each thing that a step writes
 pub record Room (d : Store) (st : Step) : Type 0 where
   pub tr : d.used.trs < tr_room d.memory
-  pub state : find d st.to ≡ none → d.used.states < state_room d.memory
+  pub state : find d st.to ≡ None → d.used.states < state_room d.memory
 
 -- no step is a refusal, and each has its records when it comes
 abbrev pub Fits : Store → List (Checked Step) → Type 0

@@ -2,7 +2,7 @@
 use mathlib.Core.Path.{◌≡◌, refl, sym, ◌∙◌, ap}
 use mathlib.Core.Bool.{Bool, true, false, not, cond}
 use mathlib.Core.List.{List, map, Memᴰ as In}
-use mathlib.Core.Option.{Option, none, some}
+use Rattle.std.specs.Prelude.{Option, None, Some}
 use Prim.Native.Nat.{ℕ, zero, suc, ◌-◌, ◌<◌}
 use native.Mathlib.Omega.{arith}
 use lib.Dec.{eqb}
@@ -30,9 +30,9 @@ unfolding new_number number
 alive_number M w count h x l =
     rw (h x l, keep_same (is_alive w) (useful M) (interval 0 x) (λ a i. h a (let z = (of_interval 0 x i).1 in omega (arith, z, l)))) refl
 
-weight_given : (r : Checked (Option ℕ)) → given_weight r ≡ cond (answered r) (some (weight_in r)) none
-weight_given (good none) = refl
-weight_given (good (some w)) = refl
+weight_given : (r : Checked (Option ℕ)) → given_weight r ≡ cond (answered r) (Some (weight_in r)) None
+weight_given (good None) = refl
+weight_given (good (Some w)) = refl
 weight_given (refused n) = refl
 
 module _ (c : Composition) (d : Store) (S1 S2 : ℕ) (ok : form_ok S1 S2 d ≡ true) (work : List ℕ)
@@ -64,7 +64,7 @@ module _ (c : Composition) (d : Store) (S1 S2 : ℕ) (ok : form_ok S1 S2 d ≡ t
       let e : map (new_tr d work) (kept_from d work (first_in d n)) ≡ map (kept_tr M) (kept_records M n)
       = ap (map (new_tr d work)) (kept_records_lem n l) ∙ map_same (new_tr d work) (kept_tr M) (kept_records M n) (λ r i. new_tr_lem n r l i) in
       ap (λ (o : Option ℕ). record { final = o; list = map (new_tr d work) (kept_from d work (first_in d n)) }) (weight_given (final_at c (triple_at d.memory.states n)))
-      ∙ ap (λ (ts : List Tr). record { final = cond (M.is_final n) (some (M.final_weight n)) none; list = ts }) e
+      ∙ ap (λ (ts : List Tr). record { final = cond (M.is_final n) (Some (M.final_weight n)) None; list = ts }) e
 
   pub rows_are : rows_from c d work 0 ≡ rows_of M
   unfolding rows_from

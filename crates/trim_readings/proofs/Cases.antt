@@ -1,7 +1,7 @@
 -- Closed cases of the maps between old and new paths.
 use mathlib.Core.Path.{◌≡◌, refl}
 use mathlib.Core.List.{[], ◌∷◌}
-use mathlib.Core.Option.{none, some}
+use Rattle.std.specs.Prelude.{None, Some}
 use Rattle.lists.specs.Lists.{keep_if, interval}
 use Rattle.papers.specs.Machine.{Machine}
 use Rattle.graphs.specs.Walks.{exists, leads_within, useful}
@@ -13,7 +13,7 @@ use Rattle.trim_readings.specs.TrimPaths.{place_in, to_new, to_old, new_path, ol
 -- 0 leads to 1, which leads nowhere, and by records 2 and 3 to 2; 2 is final and leads to 1 and to itself
 two_ways : Machine
 two_ways =
-    machine (some 0) 3 (state none (1 ∷ 2 ∷ 3 ∷ []) ∷ state none [] ∷ state (some 7) (4 ∷ 5 ∷ []) ∷ [])
+    machine (Some 0) 3 (state None (1 ∷ 2 ∷ 3 ∷ []) ∷ state None [] ∷ state (Some 7) (4 ∷ 5 ∷ []) ∷ [])
     (tr 10 11 12 1 ∷ tr 20 21 22 2 ∷ tr 30 31 32 2 ∷ tr 40 41 42 1 ∷ tr 50 51 52 2 ∷ [])
 
 -- three records are left: 2 and 3 of state 0, and 5 of state 2

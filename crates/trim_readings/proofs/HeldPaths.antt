@@ -3,7 +3,8 @@ use mathlib.Core.Path.{◌≡◌, refl, sym, ◌∙◌, ap, subst}
 use mathlib.Core.Bool.{true, false≢true}
 use mathlib.Core.List.{List, [], ◌∷◌}
 use mathlib.Core.Logic.{◌↔◌}
-use mathlib.Core.Option.{Option, none, some, none-ne-some}
+use Rattle.std.specs.Prelude.{Option, None, Some}
+use Rattle.std.proofs.lemmas.Option.{none-some}
 use Prim.Native.Nat.{ℕ, zero, suc, ◌<◌}
 use native.Mathlib.Omega.{arith}
 use Rattle.papers.specs.Weight.{semiring}
@@ -28,18 +29,18 @@ use Rattle.trim_readings.specs.TrimClaims.{store_in, held_in, AllExpanded}
 use Rattle.trim_readings.proofs.Right.{first_zero}
 
 -- a final state's weight is answered
-given : (r : Checked (Option ℕ)) → answered r ≡ true → (x : ℕ) × (r ≡ good (some x))
-given (good (some x)) e = (x, refl)
-given (good none) e = absurd (false≢true e)
+given : (r : Checked (Option ℕ)) → answered r ≡ true → (x : ℕ) × (r ≡ good (Some x))
+given (good (Some x)) e = (x, refl)
+given (good None) e = absurd (false≢true e)
 given (refused n) e = absurd (false≢true e)
 
 -- a machine of used states has a start, which is state 0
-first_some : (u : ℕ) → 0 < u → first_state u ≡ some 0
+first_some : (u : ℕ) → 0 < u → first_state u ≡ Some 0
 first_some zero h = absurd (omega arith)
 first_some (suc u) h = refl
 
-first_used : (u a : ℕ) → first_state u ≡ some a → 0 < u
-first_used zero a e = absurd (none-ne-some a e)
+first_used : (u a : ℕ) → first_state u ≡ Some a → 0 < u
+first_used zero a e = absurd (none-some a e)
 first_used (suc u) a e = omega arith
 
 module _ (l : Lent) (c : Composition) (w : World) (enters : entered l w.session w.memory ≡ good c) where
@@ -51,7 +52,7 @@ module _ (l : Lent) (c : Composition) (w : World) (enters : entered l w.session 
   held_bounded = store_bounded c (store_in w) (state_count l.m1) (state_count l.m2) held_form
 
   -- a used state's final weight, answered and as the machine has it
-  answer_is : (n x : ℕ) → UsedState w n → (final_in l w n).answer ≡ good (some x) → final_at c (state_at w n) ≡ good (some x)
+  answer_is : (n x : ℕ) → UsedState w n → (final_in l w n).answer ≡ good (Some x) → final_at c (state_at w n) ≡ good (Some x)
   answer_is n x u e = sym (final_answer l c w enters n u) ∙ e
 
   to_held : (rs : List ℕ) (n : ℕ) → UsedState w n → AcceptingFrom l w n rs → AcceptingAt (semiring c.kind) (exact c.kind) (held_in c w) n rs

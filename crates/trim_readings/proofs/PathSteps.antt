@@ -4,11 +4,10 @@ use mathlib.Core.Bool.{Bool, true, false, cond}
 use mathlib.Core.List.Memᴰ
 use mathlib.Core.List.{List, [], ◌∷◌, map, Memᴰ as In}
 use mathlib.Core.Logic.{◌≢◌, ⊎_elim}
-use mathlib.Core.Option.{Option, some}
+use Rattle.std.specs.Prelude.{Option, Some, slice_get}
 use Prim.Native.Nat.{ℕ, suc, ◌+◌, ◌-◌}
 use native.Mathlib.Omega.{arith}
 use lib.Dec.{eqb}
-use lib.ListN.{get_elem?}
 use borrow.Author.Tests.{eqb-true, eqb-false}
 use Rattle.lists.specs.Lists.{At, Distinct}
 use Rattle.lists.proofs.Members.{of_keep}
@@ -32,7 +31,7 @@ place_at x [] i = absurd (Memᴰ.not-nil i)
 place_at x (y ∷ ys) i = go (eqb x y) refl (λ j. place_at x ys j)
   where
     go : (b : Bool) → eqb x y ≡ b → (In x ys → At ys (place_in x ys) x) → At (y ∷ ys) (cond b 0 (suc (place_in x ys))) x
-    go true e rec = ap some (sym (eqb-true x y e))
+    go true e rec = ap Some (sym (eqb-true x y e))
     go false e rec = rec (⊎_elim (λ d. absurd (eqb-false x y e d)) (λ j. j) (Memᴰ.cases_cons i))
 
 -- and where nothing stands twice at no other
@@ -45,7 +44,7 @@ module _ (M : Machine) where
   unfolding to_old
   old_turn n j r q qs at e =
       let i : q - 1 - records_before M n ≡ j = omega arith in
-      ap (λ (o : Option ℕ). then_records o (λ s. to_old M (M.target s) qs)) (ap (get_elem? (kept_records M n)) i ∙ at)
+      ap (λ (o : Option ℕ). then_records o (λ s. to_old M (M.target s) qs)) (ap (slice_get (kept_records M n)) i ∙ at)
 
   -- an old path is found again
   pub old_new : (n : ℕ) (p : List ℕ) → KeptWalk M n p → to_old M n (to_new M n p) ≡ p

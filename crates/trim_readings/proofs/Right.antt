@@ -2,7 +2,8 @@
 use mathlib.Core.Path.{◌≡◌, refl, sym, ◌∙◌, ap, ap₂, subst}
 use mathlib.Core.Bool.{Bool, true, false}
 use mathlib.Core.List.{List, map}
-use mathlib.Core.Option.{Option, none, some, none-ne-some, some-injective}
+use Rattle.std.specs.Prelude.{Option, None, Some}
+use Rattle.std.proofs.lemmas.Option.{none-some, same_Some}
 use Prim.Native.Nat.{ℕ, zero, suc, ◌+◌, ◌<◌}
 use native.Mathlib.Omega.{arith}
 use lib.ListN.{length}
@@ -100,9 +101,9 @@ module _ (M : Machine) where
         }
 
 -- a store's machine starts at state 0, if it has states
-pub first_zero : (u a : ℕ) → first_state u ≡ some a → a ≡ 0
-first_zero zero a e = absurd (none-ne-some a e)
-first_zero (suc u) a e = sym (some-injective 0 a e)
+pub first_zero : (u a : ℕ) → first_state u ≡ Some a → a ≡ 0
+first_zero zero a e = absurd (none-some a e)
+first_zero (suc u) a e = sym (same_Some 0 a e)
 
 module _ (c : Composition) (d : Store) (S1 S2 : ℕ) (ok : form_ok S1 S2 d ≡ true) where
   abbrev M : Machine
@@ -112,16 +113,16 @@ module _ (c : Composition) (d : Store) (S1 S2 : ℕ) (ok : form_ok S1 S2 d ≡ t
   bound = store_bounded c d S1 S2 ok
 
   -- an accepting path begins at state 0
-  at_zero : (p : List ℕ) → Accepting c M p → M.start ≡ some 0
-  at_zero p h = h.1 ∙ ap some (first_zero d.used.states h.0 h.1)
+  at_zero : (p : List ℕ) → Accepting c M p → M.start ≡ Some 0
+  at_zero p h = h.1 ∙ ap Some (first_zero d.used.states h.0 h.1)
 
   -- and so does the new one
   new_start_lem : (new_machine M).start ≡ first_state (new_machine M).states
   new_start_lem = go (new_machine M).states refl
     where
-      none_left : (o : Option ℕ) → (new_machine M).start ≡ o → (new_machine M).states ≡ 0 → o ≡ none
-      none_left none e z = refl
-      none_left (some a) e z = absurd (omega (arith, (trimmed_bounded M bound).start_below a e, z))
+      none_left : (o : Option ℕ) → (new_machine M).start ≡ o → (new_machine M).states ≡ 0 → o ≡ None
+      none_left None e z = refl
+      none_left (Some a) e z = absurd (omega (arith, (trimmed_bounded M bound).start_below a e, z))
 
       go : (k : ℕ) → (new_machine M).states ≡ k → (new_machine M).start ≡ first_state k
       go zero e = none_left (new_machine M).start refl e
@@ -129,7 +130,7 @@ module _ (c : Composition) (d : Store) (S1 S2 : ℕ) (ok : form_ok S1 S2 d ≡ t
           let u = trimmed_useful M bound 0 (omega (arith, e)) in
           let z = started M u.start u.starts in
           let old : z.old ≡ 0 = first_zero d.used.states z.old z.starts in
-          u.starts ∙ ap some (sym z.is ∙ ap (number M) old ∙ number_zero M)
+          u.starts ∙ ap Some (sym z.is ∙ ap (number M) old ∙ number_zero M)
 
   pub right : TrimmedRight c d
   right = record {

@@ -2,7 +2,8 @@
 use mathlib.Core.Path.{◌≡◌, refl, sym, ◌∙◌, ap, subst}
 use mathlib.Core.Bool.{Bool, true, false, cond}
 use mathlib.Core.List.{List, [], map}
-use mathlib.Core.Option.{Option, none, some, none-ne-some, some-injective}
+use Rattle.std.specs.Prelude.{Option, None, Some}
+use Rattle.std.proofs.lemmas.Option.{none-some, same_Some}
 use Prim.Native.Nat.{ℕ, suc}
 use Rattle.lists.specs.Lists.{Distinct}
 use Rattle.papers.specs.Machine.{Machine}
@@ -21,20 +22,20 @@ use Rattle.trim_readings.proofs.PathSteps.{walk_of, old_new, new_inputs, new_out
 -- where the trimmed machine starts: at the new number of a useful start
 pub record Started (M : Machine) (k : ℕ) : Type 0 where
   pub old : ℕ
-  pub starts : M.start ≡ some old
+  pub starts : M.start ≡ Some old
   pub is_useful : useful M old ≡ true
   pub is : number M old ≡ k
 
-pub started : (M : Machine) (k : ℕ) → (machine_of (trimmed M)).start ≡ some k → Started M k
+pub started : (M : Machine) (k : ℕ) → (machine_of (trimmed M)).start ≡ Some k → Started M k
 started M k e = go M.start refl (sym (trimmed_start M) ∙ e)
   where
-    pick : (s : ℕ) → M.start ≡ some s → (u : Bool) → useful M s ≡ u → less_one (cond u (suc (number M s)) 0) ≡ some k → Started M k
-    pick s st true u d = record { old = s; starts = st; is_useful = u; is = some-injective _ _ d }
-    pick s st false u d = absurd (none-ne-some _ d)
+    pick : (s : ℕ) → M.start ≡ Some s → (u : Bool) → useful M s ≡ u → less_one (cond u (suc (number M s)) 0) ≡ Some k → Started M k
+    pick s st true u d = record { old = s; starts = st; is_useful = u; is = same_Some _ _ d }
+    pick s st false u d = absurd (none-some _ d)
 
-    go : (o : Option ℕ) → M.start ≡ o → less_one (new_start M o) ≡ some k → Started M k
-    go none st d = absurd (none-ne-some _ d)
-    go (some s) st d = pick s st (useful M s) refl d
+    go : (o : Option ℕ) → M.start ≡ o → less_one (new_start M o) ≡ Some k → Started M k
+    go None st d = absurd (none-some _ d)
+    go (Some s) st d = pick s st (useful M s) refl d
 
 module _ (K : Semiring) (value : ℕ → K.Element) (M : Machine) (bound : Bounded M) where
   -- an accepting path keeps to kept states
@@ -42,7 +43,7 @@ module _ (K : Semiring) (value : ℕ → K.Element) (M : Machine) (bound : Bound
     state : Kept M a
     walk : KeptWalk M a p
 
-  over_kept : (a : ℕ) → M.start ≡ some a → (p : List ℕ) → Accepting K value M a p → OverKept a p
+  over_kept : (a : ℕ) → M.start ≡ Some a → (p : List ℕ) → Accepting K value M a p → OverKept a p
   over_kept a st p h =
       let w = walk_of M K value bound a p h in
       let u : Useful M a = record { start = a; starts = st; reached = ([], refl); end = w.0; leads = (p, w.1); final = w.2.0 } in
@@ -72,13 +73,13 @@ module _ (K : Semiring) (value : ℕ → K.Element) (M : Machine) (bound : Bound
           back M K value bound once s.old k q (subst (λ (x : ℕ). Accepting K value (machine_of (trimmed M)) x q) (sym s.is) h.2)
 
   -- a path weighs what it weighed
-  pub trimmed_weights : (a : ℕ) → M.start ≡ some a → (p : List ℕ) → Accepting K value M a p
+  pub trimmed_weights : (a : ℕ) → M.start ≡ Some a → (p : List ℕ) → Accepting K value M a p
       → path_weight K value M a p ≡ path_weight K value (machine_of (trimmed M)) (number M a) (to_new M a p)
   trimmed_weights a st p h = let o = over_kept a st p h in new_weight M K value bound a o.state p o.walk h
 
   -- its labels are what they were
-  pub trimmed_inputs : (a : ℕ) → M.start ≡ some a → (p : List ℕ) → Accepting K value M a p → map M.input p ≡ map (machine_of (trimmed M)).input (to_new M a p)
+  pub trimmed_inputs : (a : ℕ) → M.start ≡ Some a → (p : List ℕ) → Accepting K value M a p → map M.input p ≡ map (machine_of (trimmed M)).input (to_new M a p)
   trimmed_inputs a st p h = let o = over_kept a st p h in new_inputs M bound a o.state p o.walk
 
-  pub trimmed_outputs : (a : ℕ) → M.start ≡ some a → (p : List ℕ) → Accepting K value M a p → map M.output p ≡ map (machine_of (trimmed M)).output (to_new M a p)
+  pub trimmed_outputs : (a : ℕ) → M.start ≡ Some a → (p : List ℕ) → Accepting K value M a p → map M.output p ≡ map (machine_of (trimmed M)).output (to_new M a p)
   trimmed_outputs a st p h = let o = over_kept a st p h in new_outputs M bound a o.state p o.walk

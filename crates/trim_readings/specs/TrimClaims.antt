@@ -1,7 +1,6 @@
 -- What trimming promises: 02, 2.2, "Trimming". Of every accepted call, and of the calls after a list as in demand 3.
-use Rattle.std.specs.Prelude.{◌≡◌, Bool, true, ◌⊎◌, ◌↔◌, ℕ, ◌≤◌, ◌<◌, length, take}
+use Rattle.std.specs.Prelude.{◌≡◌, Bool, true, ◌⊎◌, ◌↔◌, ℕ, ◌≤◌, ◌<◌, length, take, Some}
 use mathlib.Core.List.{List, map, Memᴰ}
-use Rattle.std.proofs.Math.Option.{some}
 use Rattle.lists.specs.Lists.{At, put}
 use Rattle.papers.specs.Machine.{Machine}
 use Rattle.papers.specs.Weight.{semiring}
@@ -106,7 +105,7 @@ new_of_pair c pick w p = new_path (held_in c w) (records_of_pair c pick w p)
 pub record PairsTrimmed (c : Composition) (pick : Bool → Bool → MoveKind) (w : World) : Type 0 where
   pub paths : OneToOne (Accepting c (new_machine (held_in c w))) (AgreeingPair c) (pair_of_new c w) (new_of_pair c pick w)
   -- "and weigh the product of both"
-  pub weights : (t : Triple) → start_at c ≡ some t → (q : List ℕ) → Accepting c (new_machine (held_in c w)) q
+  pub weights : (t : Triple) → start_at c ≡ Some t → (q : List ℕ) → Accepting c (new_machine (held_in c w)) q
       → weight_from c (new_machine (held_in c w)) 0 q
       ≡ (semiring c.kind).times (weight_from c (machine1 c) t.s1 (pair_of_new c w q).0) (weight_from c (machine2 c) t.s2 (pair_of_new c w q).1)
   -- machine 1's inputs, and machine 2's outputs after any rewriting

@@ -1,7 +1,5 @@
 -- The paths of the trimmed machine and the old ones, as maps both ways. Paths are lists of record numbers.
-use Rattle.std.specs.Prelude.{cond, List, [], ◌∷◌, ℕ, suc, ◌+◌, ◌-◌, eqb}
-use Rattle.std.proofs.Math.Option.{Option, none, some}
-use Rattle.std.proofs.Math.ListN.{get_elem?}
+use Rattle.std.specs.Prelude.{cond, List, [], ◌∷◌, ℕ, suc, ◌+◌, ◌-◌, eqb, Option, None, Some, slice_get}
 use Rattle.papers.specs.Machine.{Machine}
 use Rattle.machine_words.specs.MachineWords.{before}
 use Rattle.trims.specs.Trims.{number, kept_records, rows_of}
@@ -13,13 +11,13 @@ place_in x (y ∷ ys) = cond (eqb x y) 0 (suc (place_in x ys))
 
 -- the record at hand and what comes after it; without one nothing
 abbrev pub then_records : Option ℕ → (ℕ → List ℕ) → List ℕ
-then_records none go = []
-then_records (some r) go = r ∷ go r
+then_records None go = []
+then_records (Some r) go = r ∷ go r
 
 -- the start, or 0 where there is none
 abbrev pub start_or : Option ℕ → ℕ
-start_or none = 0
-start_or (some a) = a
+start_or None = 0
+start_or (Some a) = a
 
 module _ (M : Machine) where
   -- how many new records stand before those of the old state n
@@ -34,7 +32,7 @@ module _ (M : Machine) where
   -- a new path from the new number of the old state n as an old one: each record is the kept one at its place
   unfoldable pub to_old : ℕ → List ℕ → List ℕ
   to_old n [] = []
-  to_old n (q ∷ qs) = then_records (get_elem? (kept_records M n) (q - 1 - records_before n)) (λ r. to_old (M.target r) qs)
+  to_old n (q ∷ qs) = then_records (slice_get (kept_records M n) (q - 1 - records_before n)) (λ r. to_old (M.target r) qs)
 
   -- from the start on
   abbrev pub new_path : List ℕ → List ℕ

@@ -3,7 +3,7 @@ use mathlib.Core.Path.{◌≡◌, refl, sym, ◌∙◌, ap}
 use mathlib.Core.Bool.{Bool, cond}
 use mathlib.Core.List.{List, [], ◌∷◌, ◌++◌, map}
 use mathlib.Core.Logic.{◌≢◌}
-use mathlib.Core.Option.{Option, none, some}
+use Rattle.std.specs.Prelude.{Option, None, Some}
 use Prim.Native.Nat.{ℕ, suc, ◌+◌, ◌*◌, ◌≤◌, ◌<◌}
 use native.Mathlib.Omega.{arith}
 use lib.Dec.{ltb}
@@ -31,8 +31,8 @@ use Rattle.trim_passes.proofs.RowLaws.{rows_turn}
 use Rattle.trim_rows.specs.Rows.{Counts, nothing, counted, state_place, list_place, filled, Fits}
 
 three : (o : Option ℕ) → length (final_words o) ≡ 2
-three none = refl
-three (some w) = refl
+three None = refl
+three (Some w) = refl
 
 -- a row, and those that are left behind it
 pub row_filled : (states : ℕ) (k : Counts) (row : Row) (rest : List Row) (out : List ℕ) → k.rows + suc (length rest) ≡ states

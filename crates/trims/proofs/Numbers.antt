@@ -1,7 +1,7 @@
 -- The new number of a useful state is its place among the useful states.
 use mathlib.Core.Path.{◌≡◌, ◌∙◌, ap, subst}
 use mathlib.Core.Bool.{Bool, true, false}
-use mathlib.Core.Option.{some}
+use Rattle.std.specs.Prelude.{Some}
 use Prim.Native.Nat.{ℕ, zero, suc, ◌+◌, ◌<◌, ◌≤◌}
 use native.Mathlib.Omega.{arith}
 use lib.ListN.{length}
@@ -21,7 +21,7 @@ kept_place P s zero k e h = absurd (omega arith)
 kept_place P s (suc n) zero e h =
     let z : P s ≡ true = ap P (omega arith) ∙ e in
     let i : s ≡ s + 0 = omega arith in
-    rw z (ap some i)
+    rw z (ap Some i)
 kept_place P s (suc n) (suc k) e h =
     let i : suc s + k ≡ s + suc k = omega arith in
     go (P s) (subst (λ (x : ℕ). At (keep_if P (interval (suc s) n)) (length (keep_if P (interval (suc s) k))) x) i (kept_place P (suc s) n k (ap P i ∙ e) (omega arith)))

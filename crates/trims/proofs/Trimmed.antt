@@ -3,7 +3,8 @@ use mathlib.Core.Path.{◌≡◌, refl, sym, ◌∙◌, ap, subst}
 use mathlib.Core.Bool.{Bool, true, false, cond}
 use mathlib.Core.List.Memᴰ
 use mathlib.Core.List.{Memᴰ as In}
-use mathlib.Core.Option.{Option, none, some, none-ne-some}
+use Rattle.std.specs.Prelude.{Option, None, Some}
+use Rattle.std.proofs.lemmas.Option.{none-some}
 use Prim.Native.Nat.{ℕ, suc, ◌+◌, ◌-◌, ◌*◌, ◌<◌, ◌≤◌}
 use native.Mathlib.Omega.{arith}
 use lib.Dec.{eqb}
@@ -51,7 +52,7 @@ module _ (M : Machine) where
     unfolding trimmed
     trimmed_final = ap (λ (w : ℕ). eqb w 1) (words_final (new_start M M.start) (rows_of M) (number M n) row_at) ∙ go (M.is_final n)
       where
-        go : (b : Bool) → eqb (get_or (final_words (cond b (some (M.final_weight n)) none)) 0 0) 1 ≡ b
+        go : (b : Bool) → eqb (get_or (final_words (cond b (Some (M.final_weight n)) None)) 0 0) 1 ≡ b
         go true = refl
         go false = refl
 
@@ -59,7 +60,7 @@ module _ (M : Machine) where
     unfolding trimmed
     trimmed_final_weight e =
         words_final_weight (new_start M M.start) (rows_of M) (number M n) row_at
-        ∙ ap (λ (b : Bool). get_or (final_words (cond b (some (M.final_weight n)) none)) 1 0) e
+        ∙ ap (λ (b : Bool). get_or (final_words (cond b (Some (M.final_weight n)) None)) 1 0) e
 
     -- the kept record at place j of a kept state
     module _ (j r : ℕ) (at : At (kept_records M n) j r) where
@@ -115,16 +116,16 @@ module _ (M : Machine) where
         omega (arith, t, below, trimmed_states);
   }
     where
-      pick : (s a : ℕ) → M.start ≡ some s → (u : Bool) → useful M s ≡ u → less_one (cond u (suc (number M s)) 0) ≡ some a → a < (machine_of (trimmed M)).states
+      pick : (s a : ℕ) → M.start ≡ Some s → (u : Bool) → useful M s ≡ u → less_one (cond u (suc (number M s)) 0) ≡ Some a → a < (machine_of (trimmed M)).states
       pick s a st true u e =
           let below = number_below M s (record { is_useful = u; is_state = b.start_below s st }) in
           let z : number M s ≡ a = cc in
           omega (arith, below, trimmed_states, z)
-      pick s a st false u e = absurd (none-ne-some _ e)
+      pick s a st false u e = absurd (none-some _ e)
 
-      go : (o : Option ℕ) → M.start ≡ o → (a : ℕ) → less_one (new_start M o) ≡ some a → a < (machine_of (trimmed M)).states
-      go none st a e = absurd (none-ne-some _ e)
-      go (some s) st a e = pick s a st (useful M s) refl e
+      go : (o : Option ℕ) → M.start ≡ o → (a : ℕ) → less_one (new_start M o) ≡ Some a → a < (machine_of (trimmed M)).states
+      go None st a e = absurd (none-some _ e)
+      go (Some s) st a e = pick s a st (useful M s) refl e
 
   -- a transition of a row is a kept record of a kept state
   pub of_row : (row : Row) (t : Tr) → In row (rows_of M) → In t row.list → (n r : ℕ) × Kept M n × In r (kept_records M n) × (t ≡ kept_tr M r)
@@ -138,13 +139,13 @@ module _ (M : Machine) where
   start_within : Bounded M → new_start M M.start ≤ length (useful_states M)
   start_within b = go M.start refl
     where
-      pick : (s : ℕ) → M.start ≡ some s → (u : Bool) → useful M s ≡ u → cond u (suc (number M s)) 0 ≤ length (useful_states M)
+      pick : (s : ℕ) → M.start ≡ Some s → (u : Bool) → useful M s ≡ u → cond u (suc (number M s)) 0 ≤ length (useful_states M)
       pick s st true u = number_below M s (record { is_useful = u; is_state = b.start_below s st })
       pick s st false u = omega arith
 
       go : (o : Option ℕ) → M.start ≡ o → new_start M o ≤ length (useful_states M)
-      go none st = omega arith
-      go (some s) st = pick s st (useful M s) refl
+      go None st = omega arith
+      go (Some s) st = pick s st (useful M s) refl
 
   -- Labels and counts that a machine in words may have: then the trimmed machine is well formed.
   pub trimmed_formed : Bounded M → length (useful_states M) ≤ limit → trs_in (rows_of M) ≤ limit

@@ -2,7 +2,7 @@
 use mathlib.Core.Path.{◌≡◌, refl, sym, ◌∙◌, ap, subst}
 use mathlib.Core.Bool.{Bool, true, cond}
 use mathlib.Core.List.{List, [], ◌∷◌, Memᴰ as In}
-use mathlib.Core.Option.{Option, some}
+use Rattle.std.specs.Prelude.{Option, Some}
 use Prim.Native.Nat.{ℕ, suc, ◌+◌, ◌<◌}
 use native.Mathlib.Omega.{arith}
 use Rattle.lists.proofs.Members.{in_keep}
@@ -39,7 +39,7 @@ module _ (M : Machine) where
   kept_end bound n k (r ∷ rs) b kw w = kept_end bound (M.target r) (kept_on M bound n r k kw.0) rs b kw.1 w.1
 
   -- the trimmed machine starts at the start's new number, if the start is kept
-  pub start_new : (a : ℕ) → M.start ≡ some a → useful M a ≡ true → (machine_of (trimmed M)).start ≡ some (number M a)
+  pub start_new : (a : ℕ) → M.start ≡ Some a → useful M a ≡ true → (machine_of (trimmed M)).start ≡ Some (number M a)
   start_new a st u = trimmed_start M ∙ ap (λ (o : Option ℕ). less_one (new_start M o)) st ∙ ap (λ (b : Bool). less_one (cond b (suc (number M a)) 0)) u
 
   -- every new state is the number of one kept state
@@ -56,7 +56,7 @@ module _ (M : Machine) where
 
   module _ (bound : Bounded M) where
     -- what lies on a walk from the start to a final state is kept
-    pub kept_walk : (s : ℕ) → M.start ≡ some s → (n : ℕ) → Reach M s n → (rs : List ℕ) (b : ℕ) → Walk M n rs b → (e : ℕ) → Reach M b e → M.is_final e ≡ true → KeptWalk M n rs
+    pub kept_walk : (s : ℕ) → M.start ≡ Some s → (n : ℕ) → Reach M s n → (rs : List ℕ) (b : ℕ) → Walk M n rs b → (e : ℕ) → Reach M b e → M.is_final e ≡ true → KeptWalk M n rs
     kept_walk s st n back [] b w e l f = tt
     kept_walk s st n back (r ∷ rs) b w e l f =
         let on : Reach M s (M.target r) = reach_on M s n (M.target r) back (r ∷ [], (w.0, refl)) in

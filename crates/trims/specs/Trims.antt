@@ -1,6 +1,5 @@
 -- 02, 2.2, "Trimming".
-use Rattle.std.specs.Prelude.{Bool, true, false, not, ◌||◌, cond, List, map, ℕ, suc, ◌*◌, eqb, ltb, length, replicate}
-use Rattle.std.proofs.Math.Option.{Option, none, some}
+use Rattle.std.specs.Prelude.{Bool, true, false, not, ◌||◌, cond, List, map, ℕ, suc, ◌*◌, eqb, ltb, length, replicate, Option, None, Some}
 use Rattle.lists.specs.Lists.{keep_if, every, interval, put}
 use Rattle.papers.specs.Machine.{Machine}
 use Rattle.words.specs.Labels.{Checked, good, refused, refuse_if}
@@ -30,15 +29,15 @@ abbrev pub kept_tr : Machine → ℕ → Tr
 kept_tr M r = record { input = M.input r; output = M.output r; weight = M.weight r; target = number M (M.target r) }
 
 abbrev pub row_of : Machine → ℕ → Row
-row_of M n = record { final = cond (M.is_final n) (some (M.final_weight n)) none; list = map (kept_tr M) (kept_records M n) }
+row_of M n = record { final = cond (M.is_final n) (Some (M.final_weight n)) None; list = map (kept_tr M) (kept_records M n) }
 
 abbrev pub rows_of : Machine → List Row
 rows_of M = map (row_of M) (useful_states M)
 
 -- start plus one; "If no state remains the machine has no start."
 abbrev pub new_start : Machine → Option ℕ → ℕ
-new_start M none = 0
-new_start M (some a) = cond (useful M a) (suc (number M a)) 0
+new_start M None = 0
+new_start M (Some a) = cond (useful M a) (suc (number M a)) 0
 
 -- the trimmed machine "in the word form", "consecutive", "All marks are 0."
 unfoldable pub trimmed : Machine → List ℕ

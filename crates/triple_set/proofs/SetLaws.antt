@@ -3,7 +3,7 @@ use mathlib.Core.Path.{◌≡◌, refl, sym, ◌∙◌, ap}
 use mathlib.Core.Bool.{Bool, true, false, ◌||◌}
 use mathlib.Core.List.{List, ◌∷◌, Memᴰ as In}
 use mathlib.Core.Logic.{◌≢◌}
-use mathlib.Core.Option.{some}
+use Rattle.std.specs.Prelude.{Some}
 use Prim.Native.Nat.{ℕ, suc, ◌+◌, ◌*◌, ◌≤◌, ◌<◌}
 use native.Mathlib.Numerals.{add-one}
 use native.Mathlib.Omega.{arith}
@@ -42,7 +42,7 @@ module _ (d : Store) (form : Headed d) where
   chain_below t i = let r = linked_below (next_at d.memory.states) U U (head_of d.memory.heads t) falls (head_low t) i in omega (arith, r, head_low t)
 
   -- a record found is a used one, with that triple
-  pub set_sound : (t : Triple) (n : ℕ) → find d t ≡ some n → (n < U) × (triple_at d.memory.states n ≡ t)
+  pub set_sound : (t : Triple) (n : ℕ) → find d t ≡ Some n → (n < U) × (triple_at d.memory.states n ≡ t)
   unfolding find_with
   set_sound t n e =
       let r = first_sound (λ k. same_triple (triple_at d.memory.states k) t) (chain_of d t) n e in
@@ -115,7 +115,7 @@ module _ (d : Store) (form : Headed d) where
         ap (linked (next_at ss) (U + 1)) hd ∙ linked_same (next_at d.memory.states) (next_at ss) U (U + 1) U (head_of hs u) falls old_next low (omega (arith, low)) low
 
     -- what was added is found
-    set_added : find (add d t) t ≡ some U
+    set_added : find (add d t) t ≡ Some U
     unfolding find_with first
     set_added = rw (chain_same t refl, new_triple, same_self)
 

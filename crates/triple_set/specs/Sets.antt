@@ -1,6 +1,5 @@
 -- A set of triples is a table of states of its own, of which only the chains are used.
-use Rattle.std.specs.Prelude.{Bool, true, false, not, ◌&&◌, List, [], ℕ, ◌<◌, eqb, leb, length, get_or, set}
-use Rattle.std.proofs.Math.Option.{Option, none, some}
+use Rattle.std.specs.Prelude.{Bool, true, false, not, ◌&&◌, List, [], ℕ, ◌<◌, eqb, leb, length, get_or, set, Option, None, Some}
 use Rattle.words.specs.Steps.{Triple}
 use Rattle.calls.specs.Store.{Store, state_room, find, add}
 use Rattle.stored_steps.specs.Chains.{Chained}
@@ -18,8 +17,8 @@ pub record Headed (d : Store) : Type 0 where
 
 -- a record was found
 abbrev pub is_found : Option ℕ → Bool
-is_found none = false
-is_found (some n) = true
+is_found None = false
+is_found (Some n) = true
 
 -- t is held
 unfoldable pub holds : Store → Triple → Bool
@@ -50,8 +49,8 @@ mark_if false marks n = (0, marks)
 
 -- the mark of a record that was found; none: nothing is marked
 abbrev pub mark_at : Option ℕ → List ℕ → ℕ × List ℕ
-mark_at none marks = (0, marks)
-mark_at (some n) marks = mark_if (eqb (get_or marks n 0) 0) marks n
+mark_at None marks = (0, marks)
+mark_at (Some n) marks = mark_if (eqb (get_or marks n 0) 0) marks n
 
 -- the marks after that of t, and 1 where it is new
 unfoldable pub mark_of : Store → List ℕ → Triple → ℕ × List ℕ

@@ -1,7 +1,7 @@
 -- The form of a closed case: the side, the start, and the final weight and the list of one composed state, as words.
 use mathlib.Core.Bool.{Bool, ◌&&◌}
 use mathlib.Core.List.{List, [], ◌∷◌, ◌++◌, flat_map}
-use mathlib.Core.Option.{Option, none, some}
+use Rattle.std.specs.Prelude.{Option, None, Some}
 use Prim.Native.Nat.{ℕ}
 use lib.ListN.{get_or}
 use Rattle.lists.specs.Lists.{keep_if, every, interval}
@@ -44,8 +44,8 @@ list_words (good ts) = 1 ∷ flat_map step_words ts
 -- 2 and the weight, 1 and 0 where the state is not final, or 0 and the refusal
 abbrev final_words : Checked (Option ℕ) → List ℕ
 final_words (refused n) = 0 ∷ n ∷ []
-final_words (good none) = 1 ∷ 0 ∷ []
-final_words (good (some w)) = 2 ∷ w ∷ []
+final_words (good None) = 1 ∷ 0 ∷ []
+final_words (good (Some w)) = 2 ∷ w ∷ []
 
 abbrev side_number : Side → ℕ
 side_number (only inputs) = 1
@@ -54,8 +54,8 @@ side_number both = 3
 
 -- 1 and the triple, or 0 where there is no start
 abbrev start_words : Option Triple → List ℕ
-start_words none = 0 ∷ []
-start_words (some t) = 1 ∷ t.s1 ∷ t.s2 ∷ t.f ∷ []
+start_words None = 0 ∷ []
+start_words (Some t) = 1 ∷ t.s1 ∷ t.s2 ∷ t.f ∷ []
 
 abbrev state_words : Composition → Triple → List ℕ
 state_words c t = start_words (start_at c) ++ (final_words (final_at c t) ++ list_words (collect (steps_at c t)))

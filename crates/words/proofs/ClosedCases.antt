@@ -3,7 +3,7 @@
 use mathlib.Core.Path.{◌≡◌, refl}
 use mathlib.Core.Bool.{true, false, not}
 use mathlib.Core.List.{List, [], ◌∷◌, ◌++◌, Memᴰ as In}
-use mathlib.Core.Option.{Option, none, some}
+use Rattle.std.specs.Prelude.{Option, None, Some}
 use Prim.Native.Nat.{ℕ}
 use lib.ListN.{set, take}
 use borrow.Author.Tests.{not-true}
@@ -99,14 +99,14 @@ malformed_ones_lem m i = not-true (well_formed m) (every_in (λ n. not (well_for
 
 -- a cost reaches MAX only as zero; a count may be MAX
 pub products :
-    (times cost 2147483647 2147483647 ≡ some 4294967294)
-    × (times cost 2147483648 2147483647 ≡ none)
-    × (times cost MAX 4294967294 ≡ some MAX)
-    × (times cost 1 MAX ≡ some MAX)
-    × (times cost 4294967294 0 ≡ some 4294967294)
-    × (times count 65535 65537 ≡ some MAX)
-    × (times count 65536 65536 ≡ none)
-    × (times count 0 MAX ≡ some 0)
+    (times cost 2147483647 2147483647 ≡ Some 4294967294)
+    × (times cost 2147483648 2147483647 ≡ None)
+    × (times cost MAX 4294967294 ≡ Some MAX)
+    × (times cost 1 MAX ≡ Some MAX)
+    × (times cost 4294967294 0 ≡ Some 4294967294)
+    × (times count 65535 65537 ≡ Some MAX)
+    × (times count 65536 65536 ≡ None)
+    × (times count 0 MAX ≡ Some 0)
 unfolding times
 products = (refl, refl, refl, refl, refl, refl, refl, refl)
 
@@ -125,11 +125,11 @@ ranges = (refl, refl, refl, refl, refl)
 
 -- "in the allowed list (no list: all; empty list: none)", "any words in any order"
 pub allowed_lists :
-    (is_allowed none 5 ≡ true)
-    × (is_allowed (some []) 5 ≡ false)
-    × (is_allowed (some (4 ∷ [])) 5 ≡ false)
-    × (is_allowed (some (6 ∷ [])) 5 ≡ false)
-    × (is_allowed (some (6 ∷ 5 ∷ 4 ∷ [])) 5 ≡ true)
+    (is_allowed None 5 ≡ true)
+    × (is_allowed (Some []) 5 ≡ false)
+    × (is_allowed (Some (4 ∷ [])) 5 ≡ false)
+    × (is_allowed (Some (6 ∷ [])) 5 ≡ false)
+    × (is_allowed (Some (6 ∷ 5 ∷ 4 ∷ [])) 5 ≡ true)
 unfolding has
 allowed_lists = (refl, refl, refl, refl, refl)
 
@@ -139,7 +139,7 @@ falling = 1 ∷ 2 ∷ 1 ∷ 0 ∷ 0 ∷ 0 ∷ 1 ∷ 0 ∷ 0 ∷ 3 ∷ 3 ∷ 0 �
 
 -- the side for two machines with these sigma labels
 abbrev side_of_words : ℕ → ℕ → List ℕ → List ℕ → Checked Side
-side_of_words sigma1 sigma2 m1 m2 = side_of (operand_of outputs m1 sigma1 0 none) (operand_of inputs m2 sigma2 0 none)
+side_of_words sigma1 sigma2 m1 m2 = side_of (operand_of outputs m1 sigma1 0 None) (operand_of inputs m2 sigma2 0 None)
 
 -- refusals 4 to 7 in their order, each with all the later ones that it can come with
 pub side_refusals :
@@ -158,7 +158,7 @@ second = 2 ∷ 1 ∷ 1 ∷ 0 ∷ 0 ∷ 0 ∷ 0 ∷ 0 ∷ 0 ∷ 1 ∷ 0 ∷ 0 ∷
 
 -- the direction under "both" at a pair of states of two machines with these sigma labels
 abbrev direction_of_words : ℕ → ℕ → List ℕ → List ℕ → ℕ → ℕ → Checked MatchType
-direction_of_words sigma1 sigma2 m1 m2 s1 s2 = direction_at both (operand_of outputs m1 sigma1 0 none) (operand_of inputs m2 sigma2 0 none) s1 s2
+direction_of_words sigma1 sigma2 m1 m2 s1 s2 = direction_at both (operand_of outputs m1 sigma1 0 None) (operand_of inputs m2 sigma2 0 None) s1 s2
 
 -- "length 1 at most length 2 gives input", each at its own state; the state with a sigma transition decides before that; "two such are refusal 10"
 pub directions :
@@ -175,12 +175,12 @@ directions = (refl, refl, refl, refl, refl, refl, refl, refl)
 
 -- the start of the composition of two machines
 abbrev start_of_words : List ℕ → List ℕ → Option Triple
-start_of_words m1 m2 = start_at (composition_of (settings 0 0 0 0) (record { m1 = m1; m2 = m2; allowed1 = none; allowed2 = none; ignored = [] }) both)
+start_of_words m1 m2 = start_at (composition_of (settings 0 0 0 0) (record { m1 = m1; m2 = m2; allowed1 = None; allowed2 = None; ignored = [] }) both)
 
 -- start plus one: the pair of starts with f = 0, or none where a machine has no start
 pub starts :
-    (start_of_words (set sound 2 2) sound ≡ some (record { s1 = 1; s2 = 0; f = 0 }))
-    × (start_of_words (set sound 2 0) sound ≡ none)
-    × (start_of_words sound (set sound 2 0) ≡ none)
+    (start_of_words (set sound 2 2) sound ≡ Some (record { s1 = 1; s2 = 0; f = 0 }))
+    × (start_of_words (set sound 2 0) sound ≡ None)
+    × (start_of_words sound (set sound 2 0) ≡ None)
 unfolding start_at start_word
 starts = (refl, refl, refl)

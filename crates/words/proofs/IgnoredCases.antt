@@ -2,7 +2,7 @@
 use mathlib.Core.Path.{◌≡◌, refl}
 use mathlib.Core.Bool.{true, false}
 use mathlib.Core.List.{List, [], ◌∷◌, Memᴰ as In}
-use mathlib.Core.Option.{none}
+use Rattle.std.specs.Prelude.{None}
 use Prim.Native.Nat.{ℕ}
 use lib.ListN.{get_or, set}
 use Rattle.lists.specs.Lists.{every, keep_if, interval}
@@ -34,7 +34,7 @@ set6 w = record { kind = get_or w 0 0; filter = get_or w 1 0; sigma1 = get_or w 
 abbrev ignoring : List ℕ → List ℕ → List ℕ → List ℕ → List ℕ → Case
 ignoring w m1 m2 xs wants = record {
   settings = set6 w;
-  lent = record { m1 = m1; m2 = m2; allowed1 = none; allowed2 = none; ignored = xs };
+  lent = record { m1 = m1; m2 = m2; allowed1 = None; allowed2 = None; ignored = xs };
   at = record { s1 = 0; s2 = 0; f = 0 };
   wants = wants;
 }
@@ -157,10 +157,10 @@ exempt_answers = in_table exempt_cases exempt_hold
 
 -- the matches of label x at state 0 of machine 1, and of machine 2, with a list
 abbrev found1 : List ℕ → List ℕ → List ℕ → ℕ → Checked (List Match)
-found1 w m xs x = lookup (operand1 (set6 w) (record { m1 = m; m2 = second; allowed1 = none; allowed2 = none; ignored = xs })) 0 x
+found1 w m xs x = lookup (operand1 (set6 w) (record { m1 = m; m2 = second; allowed1 = None; allowed2 = None; ignored = xs })) 0 x
 
 abbrev found2 : List ℕ → List ℕ → List ℕ → ℕ → Checked (List Match)
-found2 w m xs x = lookup (operand2 (set6 w) (record { m1 = first; m2 = m; allowed1 = none; allowed2 = none; ignored = xs })) 0 x
+found2 w m xs x = lookup (operand2 (set6 w) (record { m1 = first; m2 = m; allowed1 = None; allowed2 = None; ignored = xs })) 0 x
 
 -- an ignored label that is looked up directly has no own matches, though a record has it: asked for 0 that record is given; sigma matches stay
 pub looked_up_lem :

@@ -5,7 +5,7 @@ use mathlib.Core.List.Memᴰ.{head as here}
 use mathlib.Core.List.Memᴰ.{tail as there}
 use mathlib.Core.List.{List, [], ◌∷◌}
 use mathlib.Core.Logic.{◌≢◌, ◌⊎◌, inl, inr, ⊎_elim}
-use mathlib.Core.Option.{none}
+use Rattle.std.specs.Prelude.{None}
 use Prim.Native.Nat.{ℕ}
 use native.Mathlib.Omega.{arith}
 use Rattle.lists.specs.Lists.{every, interval}
@@ -33,7 +33,7 @@ abbrev settings : ℕ → Settings
 settings sigma2 = record { kind = 0; filter = 0; sigma1 = MAX; mode1 = 0; sigma2 = sigma2; mode2 = 0 }
 
 abbrev lent : List ℕ → List ℕ → Lent
-lent m1 m2 = record { m1 = m1; m2 = m2; allowed1 = none; allowed2 = none; ignored = [] }
+lent m1 m2 = record { m1 = m1; m2 = m2; allowed1 = None; allowed2 = None; ignored = [] }
 
 abbrev pair : Edge → Edge → Edges
 pair e d = record { first = e; second = d }

@@ -4,7 +4,7 @@ use mathlib.Core.List.Memᴰ
 use mathlib.Core.List.Memᴰ.{head as here}
 use mathlib.Core.List.{List, [], ◌∷◌, Memᴰ as In}
 use mathlib.Core.Logic.{⊎_elim}
-use mathlib.Core.Option.{Option, none, some}
+use Rattle.std.specs.Prelude.{Option, None, Some}
 use Prim.Native.Nat.{ℕ}
 use Rattle.lists.specs.Lists.{Distinct}
 use Rattle.lists.proofs.Places.{at_in}
@@ -41,22 +41,22 @@ module _ (c : Composition) (s : Triple) where
   abbrev pub kept1 : Checked Move → List (Checked Kept)
   kept1 x = keep c.filter A facts s.f x
 
-  pub of_kept1 : (x : Checked Move) (v : Kept) → In (good v) (kept1 x) → (x ≡ good v.move) × (c.filter (move_kind A v.move.first v.move.second) facts s.f ≡ some v.next)
+  pub of_kept1 : (x : Checked Move) (v : Kept) → In (good v) (kept1 x) → (x ≡ good v.move) × (c.filter (move_kind A v.move.first v.move.second) facts s.f ≡ Some v.next)
   of_kept1 (refused n) v i = absurd (⊎_elim good≢refused Memᴰ.not-nil (Memᴰ.cases_cons i))
   of_kept1 (good u) v i = go (c.filter (move_kind A u.first u.second) facts s.f) refl i
     where
       go : (o : Option ℕ) → c.filter (move_kind A u.first u.second) facts s.f ≡ o → In (good v) (kept_by u o)
-          → (good u ≡ good v.move) × (c.filter (move_kind A v.move.first v.move.second) facts s.f ≡ some v.next)
-      go none e j = absurd (Memᴰ.not-nil j)
-      go (some g) e j =
+          → (good u ≡ good v.move) × (c.filter (move_kind A v.move.first v.move.second) facts s.f ≡ Some v.next)
+      go None e j = absurd (Memᴰ.not-nil j)
+      go (Some g) e j =
           ⊎_elim
           (λ h.
           let k : v ≡ record { move = u; next = g } = good_is h in
-          (ap good (sym (ap (λ (z : Kept). z.move) k)), subst (λ (z : Kept). c.filter (move_kind A z.move.first z.move.second) facts s.f ≡ some z.next) (sym k) e))
+          (ap good (sym (ap (λ (z : Kept). z.move) k)), subst (λ (z : Kept). c.filter (move_kind A z.move.first z.move.second) facts s.f ≡ Some z.next) (sym k) e))
           (λ z. absurd (Memᴰ.not-nil z))
           (Memᴰ.cases_cons j)
 
-  pub in_kept1 : (u : Move) (g : ℕ) → c.filter (move_kind A u.first u.second) facts s.f ≡ some g → In (good (record { move = u; next = g })) (kept1 (good u))
+  pub in_kept1 : (u : Move) (g : ℕ) → c.filter (move_kind A u.first u.second) facts s.f ≡ Some g → In (good (record { move = u; next = g })) (kept1 (good u))
   in_kept1 u g e = rw e (here refl)
 
   once1 : (x : Checked Move) → Apart (Alike (λ (v : Kept). edges_of v.move)) (kept1 x)
@@ -64,8 +64,8 @@ module _ (c : Composition) (s : Triple) where
   once1 (good u) = go (c.filter (move_kind A u.first u.second) facts s.f)
     where
       go : (o : Option ℕ) → Apart (Alike (λ (v : Kept). edges_of v.move)) (kept_by u o)
-      go none = tt
-      go (some g) = (λ y i r. Memᴰ.not-nil i, tt)
+      go None = tt
+      go (Some g) = (λ y i r. Memᴰ.not-nil i, tt)
 
   same_move_lem : (a b : Checked Move) (x y : Checked Kept) → In x (kept1 a) → In y (kept1 b) → Alike (λ (v : Kept). edges_of v.move) x y → Alike edges_of a b
   same_move_lem a b (good v) (good w) i j e = rw ((of_kept1 a v i).0, (of_kept1 b w j).0) e
@@ -77,8 +77,8 @@ module _ (c : Composition) (s : Triple) where
   refused1 (good u) n i = go (c.filter (move_kind A u.first u.second) facts s.f) i
     where
       go : (o : Option ℕ) → In (refused n) (kept_by u o) → good u ≡ refused n
-      go none j = absurd (Memᴰ.not-nil j)
-      go (some g) j = ⊎_elim (λ e. absurd (good≢refused (sym e))) (λ z. absurd (Memᴰ.not-nil z)) (Memᴰ.cases_cons j)
+      go None j = absurd (Memᴰ.not-nil j)
+      go (Some g) j = ⊎_elim (λ e. absurd (good≢refused (sym e))) (λ z. absurd (Memᴰ.not-nil z)) (Memᴰ.cases_cons j)
 
   module _ (distinct1 : (q : ℕ) → Distinct (A.machine.list q)) (distinct2 : (q : ℕ) → Distinct (B.machine.list q)) where
     moves_once : (d : MatchType) → Apart (Alike edges_of) (moves d)

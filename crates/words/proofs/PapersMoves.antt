@@ -4,7 +4,7 @@ use mathlib.Core.Bool.{Bool, true, false, cond}
 use mathlib.Core.List.Memᴰ.{head as here}
 use mathlib.Core.List.{flat_map, Memᴰ as In}
 use mathlib.Core.Logic.{◌↔◌}
-use mathlib.Core.Option.{some}
+use Rattle.std.specs.Prelude.{Some}
 use Prim.Native.Nat.{ℕ}
 use lib.Dec.{eqb}
 use Rattle.lists.proofs.Members.{in_flat, of_flat}
@@ -97,7 +97,7 @@ module _ (c : Composition) (S : Composable c) (s : Triple) where
       × Meeting A.machine B.machine la lb (meets_in d A B) s.s1 s.s2 k m.first m.second
       × (c.filter k
       (record { none1 = no_epsilon la A.machine s.s1; all1 = only_epsilons la A.machine s.s1; none2 = no_epsilon lb B.machine s.s2; all2 = only_epsilons lb B.machine s.s2 })
-      s.f ≡ some g)
+      s.f ≡ Some g)
 
   pub outputs1 : inner A ≡ A.machine.output
   outputs1 = λ i t. label_on (S.on1 i) A.machine t
@@ -132,6 +132,6 @@ module _ (c : Composition) (S : Composable c) (s : Triple) where
           let e = of_kept1 c s r.0 v r.2 in
           let p = of_moves d v.move (subst (λ x. In x (moves c s d)) e.0 r.1) in
           let same : p.1 ≡ edges_of v.move = sym (edges_matches d A B p.1) ∙ ap edges_of p.3 in (
-            (p.0, subst (Pairs d p.0) same p.2, subst (λ k. c.filter k (facts c s) s.f ≡ some v.next) p.4 e.1),
+            (p.0, subst (Pairs d p.0) same p.2, subst (λ k. c.filter k (facts c s) s.f ≡ Some v.next) p.4 e.1),
             ap (matches_of d A B) (sym same) ∙ p.3,
           )

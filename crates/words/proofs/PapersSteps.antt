@@ -4,7 +4,8 @@ use mathlib.Core.Path.{◌≡◌, refl, sym, ◌∙◌, ap, ap₂, subst}
 use mathlib.Core.Bool.{Bool, true, false, cond}
 use mathlib.Core.List.{List, [], ◌∷◌, map}
 use mathlib.Core.Logic.{◌↔◌, ◌⊎◌, inl, inr}
-use mathlib.Core.Option.{Option, none, some, none-ne-some, some-injective}
+use Rattle.std.specs.Prelude.{Option, None, Some}
+use Rattle.std.proofs.lemmas.Option.{none-some, same_Some}
 use Prim.Native.Nat.{ℕ}
 use Rattle.lists.specs.Lists.{At}
 use Rattle.lists.proofs.Places.{at_map, of_at_map, at_in, in_at}
@@ -78,7 +79,7 @@ module _ (c : Composition) (S : Composable c) (s : Triple) (v : Kept) where
   weights : product c.kind a.weight b.weight ≡ weight_by c (edges_of v.move)
   weights = ap₂ (semiring c.kind).times (given_weight_lem c.kind c.operand1 s.s1 _ v.move.first) (given_weight_lem c.kind c.operand2 s.s2 _ v.move.second)
 
-  made : (w : ℕ) → times c.kind a.weight b.weight ≡ some w → (t : Step) → weighed a b v.next (some w) ≡ good t → IsStep c s v t
+  made : (w : ℕ) → times c.kind a.weight b.weight ≡ Some w → (t : Step) → weighed a b v.next (Some w) ≡ good t → IsStep c s v t
   made w e t h =
       let q : record { input = a.input; output = b.output; weight = w; to = record { s1 = a.target; s2 = b.target; f = v.next } } ≡ t = good_is h in
       let p = (times_some c.kind a.weight b.weight w).0 e in
@@ -96,8 +97,8 @@ module _ (c : Composition) (S : Composable c) (s : Triple) (v : Kept) where
   step_good t h = go (times c.kind a.weight b.weight) refl h
     where
       go : (o : Option ℕ) → times c.kind a.weight b.weight ≡ o → weighed a b v.next o ≡ good t → IsStep c s v t
-      go none e h = absurd (good≢refused (sym h))
-      go (some w) e h = made w e t h
+      go None e h = absurd (good≢refused (sym h))
+      go (Some w) e h = made w e t h
 
   -- 12, just where the exact weight is too large
   pub step_refused : (n : ℕ) → (step_of c s v ≡ refused n) ↔ ((n ≡ 12) × TooLarge c.kind (weight_by c (edges_of v.move)))
@@ -108,8 +109,8 @@ module _ (c : Composition) (S : Composable c) (s : Triple) (v : Kept) where
   )
     where
       go : (o : Option ℕ) → times c.kind a.weight b.weight ≡ o → weighed a b v.next o ≡ refused n → (n ≡ 12) × TooLarge c.kind (weight_by c (edges_of v.move))
-      go none e h = (cc, rw (← weights) ((times_none c.kind a.weight b.weight).0 e))
-      go (some w) e h = absurd (good≢refused h)
+      go None e h = (cc, rw (← weights) ((times_none c.kind a.weight b.weight).0 e))
+      go (Some w) e h = absurd (good≢refused h)
 
 pub steps_as_papers : (c : Composition) → Composable c → (s : Triple) (d : MatchType) → direction_of c s ≡ good d → StepsExactly d c s (steps_at c s)
 unfolding steps_at
@@ -162,16 +163,16 @@ collected {A} (good a ∷ l) xs e = go (collect l) refl e (λ ys h. collected l 
     go (good ys) h d rec = ap (λ z. good a ∷ z) (rec ys h) ∙ ap (map good) (good_is d)
 
 -- the start
-pub start_as_papers : (c : Composition) (s : Triple) → (start_at c ≡ some s) ↔ Start (composed_of c) s
+pub start_as_papers : (c : Composition) (s : Triple) → (start_at c ≡ Some s) ↔ Start (composed_of c) s
 unfolding start_at
 start_as_papers c s = (
   λ e. go c.operand1.machine.start c.operand2.machine.start refl refl e,
-  λ h. rw (h.0, h.1) (ap some (λ i. record { s1 = s.s1; s2 = s.s2; f = sym h.2 i })),
+  λ h. rw (h.0, h.1) (ap Some (λ i. record { s1 = s.s1; s2 = s.s2; f = sym h.2 i })),
 )
   where
-    go : (a b : Option ℕ) → c.operand1.machine.start ≡ a → c.operand2.machine.start ≡ b → start_of a b ≡ some s → Start (composed_of c) s
-    go none b x y e = absurd (none-ne-some _ e)
-    go (some q) none x y e = absurd (none-ne-some _ e)
-    go (some q) (some r) x y e =
-        let h : record { s1 = q; s2 = r; f = 0 } ≡ s = some-injective _ _ e in
-        (x ∙ ap (λ (z : Triple). some z.s1) h, y ∙ ap (λ (z : Triple). some z.s2) h, sym (ap (λ (z : Triple). z.f) h))
+    go : (a b : Option ℕ) → c.operand1.machine.start ≡ a → c.operand2.machine.start ≡ b → start_of a b ≡ Some s → Start (composed_of c) s
+    go None b x y e = absurd (none-some _ e)
+    go (Some q) None x y e = absurd (none-some _ e)
+    go (Some q) (Some r) x y e =
+        let h : record { s1 = q; s2 = r; f = 0 } ≡ s = same_Some _ _ e in
+        (x ∙ ap (λ (z : Triple). Some z.s1) h, y ∙ ap (λ (z : Triple). Some z.s2) h, sym (ap (λ (z : Triple). z.f) h))

@@ -2,7 +2,7 @@
 use mathlib.Core.Path.{◌≡◌, refl, sym, ◌∙◌, ap}
 use mathlib.Core.Bool.{Bool, true, false, ◌||◌, cond}
 use mathlib.Core.Logic.{◌↔◌}
-use mathlib.Core.Option.{Option, none, some}
+use Rattle.std.specs.Prelude.{Option, None, Some}
 use Prim.Native.Nat.{ℕ, ◌+◌, ◌*◌, ◌≤◌}
 use native.Mathlib.Omega.{arith}
 use lib.Dec.{eqb, ltb, leb}
@@ -18,15 +18,15 @@ product k a b = (semiring k).times (exact k a) (exact k b)
 
 -- what a product is: the word that stands for the exact product, or none where that is too large
 abbrev Right : (k : Kind) → (semiring k).Element → Option ℕ → Type 0
-Right k e none = TooLarge k e
-Right k e (some w) = (exact k w ≡ e) × (w ≤ MAX)
+Right k e None = TooLarge k e
+Right k e (Some w) = (exact k w ≡ e) × (w ≤ MAX)
 
-right_count : (a b : ℕ) (l : Bool) → leb (a * b) MAX ≡ l → Right count (a * b) (cond l (some (a * b)) none)
+right_count : (a b : ℕ) (l : Bool) → leb (a * b) MAX ≡ l → Right count (a * b) (cond l (Some (a * b)) None)
 right_count a b true e = (refl, leb-true _ _ e)
 right_count a b false e = leb-false _ _ e
 
 right_cost : (a b : ℕ) (p q l : Bool) → eqb a MAX ≡ p → eqb b MAX ≡ q → ltb (a + b) MAX ≡ l
-    → Right cost (sum (cond p infinite (finite a)) (cond q infinite (finite b))) (cond (p || q) (some MAX) (cond l (some (a + b)) none))
+    → Right cost (sum (cond p infinite (finite a)) (cond q infinite (finite b))) (cond (p || q) (Some MAX) (cond l (Some (a + b)) None))
 right_cost a b true q l x y z = (refl, omega arith)
 right_cost a b false true l x y z = (refl, omega arith)
 right_cost a b false false true x y z = let h = ltb-true (a + b) MAX z in (rw (ne_eqb (a + b) MAX (λ e. omega arith)), omega arith)
@@ -57,19 +57,19 @@ exact_word cost v w e = go (eqb v MAX) (eqb w MAX) refl refl e
     go false false x y e = cc
 exact_word count v w e = e
 
-pub times_some : (k : Kind) (a b w : ℕ) → (times k a b ≡ some w) ↔ ((exact k w ≡ product k a b) × (w ≤ MAX))
+pub times_some : (k : Kind) (a b w : ℕ) → (times k a b ≡ Some w) ↔ ((exact k w ≡ product k a b) × (w ≤ MAX))
 times_some k a b w = (λ e. rw e at (right k a b), λ h. go (times k a b) (right k a b) h)
   where
-    go : (o : Option ℕ) → Right k (product k a b) o → (exact k w ≡ product k a b) × (w ≤ MAX) → o ≡ some w
-    go none r h = absurd (too_large_for_words k w h.1 (rw h.0 r))
-    go (some v) r h = ap some (exact_word k v w (r.0 ∙ sym h.0))
+    go : (o : Option ℕ) → Right k (product k a b) o → (exact k w ≡ product k a b) × (w ≤ MAX) → o ≡ Some w
+    go None r h = absurd (too_large_for_words k w h.1 (rw h.0 r))
+    go (Some v) r h = ap Some (exact_word k v w (r.0 ∙ sym h.0))
 
-pub times_none : (k : Kind) (a b : ℕ) → (times k a b ≡ none) ↔ TooLarge k (product k a b)
+pub times_none : (k : Kind) (a b : ℕ) → (times k a b ≡ None) ↔ TooLarge k (product k a b)
 times_none k a b = (λ e. rw e at (right k a b), λ h. go (times k a b) (right k a b) h)
   where
-    go : (o : Option ℕ) → Right k (product k a b) o → TooLarge k (product k a b) → o ≡ none
-    go none r h = refl
-    go (some w) r h = absurd (too_large_for_words k w r.1 (rw r.0 h))
+    go : (o : Option ℕ) → Right k (product k a b) o → TooLarge k (product k a b) → o ≡ None
+    go None r h = refl
+    go (Some w) r h = absurd (too_large_for_words k w r.1 (rw r.0 h))
 
 -- one and zero
 pub exact_one : (k : Kind) → exact k (one k) ≡ (semiring k).one

@@ -4,7 +4,7 @@ use mathlib.Core.Bool.{Bool, true, false}
 use mathlib.Core.List.Memᴰ
 use mathlib.Core.List.{List, Memᴰ as In}
 use mathlib.Core.Logic.{⊎_elim}
-use mathlib.Core.Option.{Option, none, some}
+use Rattle.std.specs.Prelude.{Option, None, Some}
 use Prim.Native.Nat.{ℕ, zero, suc, ◌≤◌, ◌<◌}
 use native.Mathlib.Omega.{arith}
 use Rattle.lists.proofs.Places.{in_at}
@@ -33,8 +33,8 @@ pub record InRange (S1 S2 : ℕ) (t : Triple) : Type 0 where
 
 -- "f at most 2": every cell of the table gives such a one
 abbrev Low : Option ℕ → Type 0
-Low none = Unit {0}
-Low (some g) = g ≤ 2
+Low None = Unit {0}
+Low (Some g) = g ≤ 2
 
 all_low : (a n : Bool) (g : ℕ) → g ≤ 2 → Low (all_first a n g)
 all_low true n g h = tt

@@ -3,7 +3,7 @@
 -- All six keep a label.
 use mathlib.Core.Path.{◌≡◌, refl}
 use mathlib.Core.Bool.{true}
-use mathlib.Core.Option.{some}
+use Rattle.std.specs.Prelude.{Some}
 use Prim.Native.Nat.{ℕ, zero, suc, ◌≤◌}
 use native.Mathlib.Omega.{arith}
 use Rattle.lists.specs.Finite.{both, implies, all_b}
@@ -95,7 +95,7 @@ papers_bare (suc (suc (suc (suc zero)))) k φ f h = trivial_cells k neither f
 papers_bare (suc (suc (suc (suc (suc n))))) k φ f h = no_match_cells k neither f
 
 -- "a label": each filter keeps it, with f = 0
-pub label_kept : (n : ℕ) (φ : Facts) (f : ℕ) → filter_of n aLabel φ f ≡ some 0
+pub label_kept : (n : ℕ) (φ : Facts) (f : ℕ) → filter_of n aLabel φ f ≡ Some 0
 label_kept zero φ f = refl
 label_kept (suc zero) φ f = refl
 label_kept (suc (suc zero)) φ f = refl

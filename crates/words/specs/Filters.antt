@@ -1,6 +1,5 @@
 -- 01, "Filters", and 02, 2.1: the table, cell by cell.
-use Rattle.std.specs.Prelude.{Bool, true, false, not, ℕ, zero, suc}
-use Rattle.std.proofs.Math.Option.{Option, none, some}
+use Rattle.std.specs.Prelude.{Bool, true, false, not, ℕ, zero, suc, Option, None, Some}
 use Rattle.papers.specs.Filter.{lone1, lone2, bothEpsilon, aLabel, Facts, Filter, no_epsilon, only_epsilons, epsilon_sequencing, epsilon_sequencing_mirrored, epsilon_matching, null_filter, trivial_filter, no_match_filter}
 use Rattle.words.specs.Sigmas.{Operand, inner}
 
@@ -20,62 +19,62 @@ facts_at A B s1 s2 = record { none1 = none_at A s1; all1 = all_at A s1; none2 = 
 
 -- "Order within a cell counts." "all1 drop; none1 0; else 1", "all2 drop; none2 0; else 1": g is that 1
 abbrev pub all_first : Bool → Bool → ℕ → Option ℕ
-all_first true none? g = none
-all_first false true g = some 0
-all_first false false g = some g
+all_first true None? g = None
+all_first false true g = Some 0
+all_first false false g = Some g
 
 -- "none2 0, all2 drop, else 1", "none1 0, all1 drop, else 2": g is that 1 or 2
 abbrev pub none_first : Bool → Bool → ℕ → Option ℕ
-none_first true all? g = some 0
-none_first false true g = none
-none_first false false g = some g
+none_first true all? g = Some 0
+none_first false true g = None
+none_first false false g = Some g
 
 -- Each cell: the next f, or none where the move is dropped. f is at most 2 wherever a call looks ("f at most 2"); a larger one is read as 2.
 abbrev pub sequence : Filter
-sequence lone1 φ zero = some 0
-sequence lone1 φ (suc f) = none
+sequence lone1 φ zero = Some 0
+sequence lone1 φ (suc f) = None
 sequence lone2 φ f = all_first φ.all1 φ.none1 1
-sequence bothEpsilon φ f = none
-sequence aLabel φ f = some 0
+sequence bothEpsilon φ f = None
+sequence aLabel φ f = Some 0
 
 abbrev pub alternate : Filter
 alternate lone1 φ f = all_first φ.all2 φ.none2 1
-alternate lone2 φ zero = some 0
-alternate lone2 φ (suc zero) = none
-alternate lone2 φ (suc (suc f)) = some 0
-alternate bothEpsilon φ f = none
-alternate aLabel φ f = some 0
+alternate lone2 φ zero = Some 0
+alternate lone2 φ (suc zero) = None
+alternate lone2 φ (suc (suc f)) = Some 0
+alternate bothEpsilon φ f = None
+alternate aLabel φ f = Some 0
 
 abbrev pub matching : Filter
 matching lone1 φ zero = none_first φ.none2 φ.all2 1
-matching lone1 φ (suc zero) = some 1
-matching lone1 φ (suc (suc f)) = none
+matching lone1 φ (suc zero) = Some 1
+matching lone1 φ (suc (suc f)) = None
 matching lone2 φ zero = none_first φ.none1 φ.all1 2
-matching lone2 φ (suc zero) = none
-matching lone2 φ (suc (suc f)) = some 2
-matching bothEpsilon φ zero = some 0
-matching bothEpsilon φ (suc f) = none
-matching aLabel φ f = some 0
+matching lone2 φ (suc zero) = None
+matching lone2 φ (suc (suc f)) = Some 2
+matching bothEpsilon φ zero = Some 0
+matching bothEpsilon φ (suc f) = None
+matching aLabel φ f = Some 0
 
 -- 02, 2.1: "null, trivial and no-match filters": "From any f each move is kept with f = 0, save that null drops both lone moves"
 abbrev pub null : Filter
-null lone1 φ f = none
-null lone2 φ f = none
-null bothEpsilon φ f = some 0
-null aLabel φ f = some 0
+null lone1 φ f = None
+null lone2 φ f = None
+null bothEpsilon φ f = Some 0
+null aLabel φ f = Some 0
 
 abbrev pub trivial : Filter
-trivial lone1 φ f = some 0
-trivial lone2 φ f = some 0
-trivial bothEpsilon φ f = some 0
-trivial aLabel φ f = some 0
+trivial lone1 φ f = Some 0
+trivial lone2 φ f = Some 0
+trivial bothEpsilon φ f = Some 0
+trivial aLabel φ f = Some 0
 
 -- "and no-match drops "both epsilon""
 abbrev pub no_match : Filter
-no_match lone1 φ f = some 0
-no_match lone2 φ f = some 0
-no_match bothEpsilon φ f = none
-no_match aLabel φ f = some 0
+no_match lone1 φ f = Some 0
+no_match lone2 φ f = Some 0
+no_match bothEpsilon φ f = None
+no_match aLabel φ f = Some 0
 
 -- "0 sequence", "1 alternate", "2 match"; 02, 2.1: null, trivial and no-match "become filter values 3, 4 and 5". A larger number is refused before it is read.
 abbrev pub filter_of : ℕ → Filter

@@ -1,8 +1,7 @@
 -- What the links between 01's lists and the papers' composition (AsPapers) say: 01's paragraph on moves as written; that the kept moves, and the composed transitions,
 -- of a state are exactly the papers'; that its final weight is. Proved in proofs/Papers*.antt and proofs/WalkLaws.antt.
-use Rattle.std.specs.Prelude.{◌≡◌, false, cond, ◌≢◌, ◌↔◌, ◌⊎◌, ℕ, ◌≤◌, eqb}
+use Rattle.std.specs.Prelude.{◌≡◌, false, cond, ◌≢◌, ◌↔◌, ◌⊎◌, ℕ, ◌≤◌, eqb, Option, None, Some}
 use mathlib.Core.List.{List, ◌∷◌, map, Memᴰ}
-use Rattle.std.proofs.Math.Option.{Option, none, some}
 use Rattle.lists.specs.Lists.{At, Distinct}
 use Rattle.papers.specs.Machine.{Machine}
 use Rattle.papers.specs.Weight.{semiring}
@@ -98,10 +97,10 @@ NoEnd k M q = (M.is_final q ≡ false) ⊎ (exact k (M.final_weight q) ≡ (semi
 -- what the final weight of a composed state is
 pub record FinalExactly (c : Composition) (s : Triple) (r : Checked (Option ℕ)) : Type 0 where
   -- not final, just where one of both states ends no accepting path
-  pub none_where : (r ≡ good none) ↔ (NoEnd c.kind c.operand1.machine s.s1 ⊎ NoEnd c.kind c.operand2.machine s.s2)
+  pub none_where : (r ≡ good None) ↔ (NoEnd c.kind c.operand1.machine s.s1 ⊎ NoEnd c.kind c.operand2.machine s.s2)
   -- w, just where the composed state ends a path and w is its exact weight
   pub some_where : (w : ℕ)
-      → (r ≡ good (some w))
+      → (r ≡ good (Some w))
       ↔ (EndsBoth (semiring c.kind) (exact c.kind) (composed_of c) s.s1 s.s2 × (exact c.kind w ≡ end_weight c s) × (w ≤ MAX))
   -- refused by 12 alone, just where both states are final and the exact weight is too large
   pub refused_where : (n : ℕ) → (r ≡ refused n) ↔ ((n ≡ 12) × BothFinal (composed_of c) s.s1 s.s2 × TooLarge c.kind (end_weight c s))

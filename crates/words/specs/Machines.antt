@@ -1,6 +1,5 @@
 -- 01, "A machine in words".
-use Rattle.std.specs.Prelude.{Bool, true, false, not, ◌&&◌, ◌||◌, cond, List, [], ◌∷◌, map, ℕ, zero, suc, ◌+◌, ◌*◌, eqb, ltb, leb, length, get_or}
-use Rattle.std.proofs.Math.Option.{Option, none, some}
+use Rattle.std.specs.Prelude.{Bool, true, false, not, ◌&&◌, ◌||◌, cond, List, [], ◌∷◌, map, ℕ, zero, suc, ◌+◌, ◌*◌, eqb, ltb, leb, length, get_or, Option, None, Some}
 use Rattle.lists.specs.Lists.{every, interval}
 use Rattle.papers.specs.Machine.{Machine}
 use Rattle.words.specs.Labels.{no_label}
@@ -90,8 +89,8 @@ list_of m s = list_from m (first_of m s)
 
 -- "start plus one (0: no start)"
 abbrev pub less_one : ℕ → Option ℕ
-less_one zero = none
-less_one (suc s) = some s
+less_one zero = None
+less_one (suc s) = Some s
 
 -- the machine that the words hold
 abbrev pub machine_of : List ℕ → Machine

@@ -1,6 +1,5 @@
 -- 01, "Session and memory" and "The listing": the six settings and what else every call is lent.
-use Rattle.std.specs.Prelude.{Bool, not, ◌&&◌, List, ℕ, eqb, leb}
-use Rattle.std.proofs.Math.Option.{Option}
+use Rattle.std.specs.Prelude.{Bool, not, ◌&&◌, List, ℕ, eqb, leb, Option}
 use Rattle.papers.specs.Machine.{Machine}
 use Rattle.words.specs.Labels.{no_label}
 use Rattle.words.specs.Weights.{kind_of}

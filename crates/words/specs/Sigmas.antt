@@ -1,6 +1,5 @@
 -- 01, "Sigma", with 02, 2.4, "Sigma means any letter": the look-up of a label in one machine of the composition.
-use Rattle.std.specs.Prelude.{Bool, true, false, not, ◌&&◌, ◌||◌, cond, List, [], ◌∷◌, ◌++◌, map, ℕ, zero, suc, eqb}
-use Rattle.std.proofs.Math.Option.{Option, none, some}
+use Rattle.std.specs.Prelude.{Bool, true, false, not, ◌&&◌, ◌||◌, cond, List, [], ◌∷◌, ◌++◌, map, ℕ, zero, suc, eqb, Option, None, Some}
 use Rattle.papers.specs.Machine.{Machine}
 use Rattle.words.specs.Labels.{eps_label, no_label, Checked, good, refuse_if}
 use Rattle.words.specs.Weights.{Kind, one}
@@ -37,8 +36,8 @@ has x (y ∷ ys) = eqb y x || has x ys
 
 -- "in the allowed list (no list: all; empty list: none)"
 abbrev pub is_allowed : Option (List ℕ) → ℕ → Bool
-is_allowed none x = true
-is_allowed (some xs) x = has x xs
+is_allowed None x = true
+is_allowed (Some xs) x = has x xs
 
 -- "Sigma label MAX means none."
 abbrev pub is_set : Sigma → Bool

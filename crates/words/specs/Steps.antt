@@ -1,7 +1,6 @@
 -- 01, "Choosing the side", second paragraph: the kept moves of a composed state in their order; and its final weight.
-use Rattle.std.specs.Prelude.{Bool, ◌&&◌, cond, ℕ, eqb}
+use Rattle.std.specs.Prelude.{Bool, ◌&&◌, cond, ℕ, eqb, Option, None, Some}
 use mathlib.Core.List.{List, [], ◌∷◌, map, flat_map}
-use Rattle.std.proofs.Math.Option.{Option, none, some}
 use Rattle.papers.specs.Filter.{MoveKind, lone1, lone2, bothEpsilon, aLabel, Facts, Filter}
 use Rattle.words.specs.Labels.{eps_label, no_label, Checked, good, refused, and_then}
 use Rattle.words.specs.Weights.{Kind, times, is_zero}
@@ -74,8 +73,8 @@ pub record Kept : Type 0 where
 
 -- the cell of the filters' table: a move is kept with the next f, or dropped
 abbrev pub kept_by : Move → Option ℕ → List (Checked Kept)
-kept_by v none = []
-kept_by v (some g) = good (record { move = v; next = g }) ∷ []
+kept_by v None = []
+kept_by v (Some g) = good (record { move = v; next = g }) ∷ []
 
 -- a refusal stays at its place; a dropped move is left out
 abbrev pub keep : Filter → Operand → Facts → ℕ → Checked Move → List (Checked Kept)
@@ -104,8 +103,8 @@ pub record Step : Type 0 where
 
 -- refusal 12: "weight too large"
 abbrev pub weighed : Tr → Tr → ℕ → Option ℕ → Checked Step
-weighed a b g none = refused 12
-weighed a b g (some w) = good (record { input = a.input; output = b.output; weight = w; to = record { s1 = a.target; s2 = b.target; f = g } })
+weighed a b g None = refused 12
+weighed a b g (Some w) = good (record { input = a.input; output = b.output; weight = w; to = record { s1 = a.target; s2 = b.target; f = g } })
 
 -- a sigma match is rewritten for the label that the other machine asked for; no other match looks at that label
 unfoldable pub step_of : Composition → Triple → Kept → Checked Step
@@ -121,9 +120,9 @@ steps_at c s = map (λ k. and_then k (step_of c s)) (kept_at c s)
 
 -- "All start at f = 0."
 abbrev pub start_of : Option ℕ → Option ℕ → Option Triple
-start_of none t = none
-start_of (some s) none = none
-start_of (some s) (some t) = some (record { s1 = s; s2 = t; f = 0 })
+start_of None t = None
+start_of (Some s) None = None
+start_of (Some s) (Some t) = Some (record { s1 = s; s2 = t; f = 0 })
 
 -- the composed start: "state 0, if both machines have a start"
 unfoldable pub start_at : Composition → Option Triple
@@ -131,12 +130,12 @@ start_at c = start_of c.operand1.machine.start c.operand2.machine.start
 
 -- "A final weight equal to zero .. the composed state isn't final."
 abbrev pub unless_zero : Kind → Option ℕ → Checked (Option ℕ)
-unless_zero k none = refused 12
-unless_zero k (some w) = good (cond (is_zero k w) none (some w))
+unless_zero k None = refused 12
+unless_zero k (Some w) = good (cond (is_zero k w) None (Some w))
 
 -- the final weight of a composed state; none: it is not final
 unfoldable pub final_at : Composition → Triple → Checked (Option ℕ)
 final_at c s =
     let A = c.operand1.machine in
     let B = c.operand2.machine in
-    cond (A.is_final s.s1 && B.is_final s.s2) (unless_zero c.kind (times c.kind (A.final_weight s.s1) (B.final_weight s.s2))) (good none)
+    cond (A.is_final s.s1 && B.is_final s.s2) (unless_zero c.kind (times c.kind (A.final_weight s.s1) (B.final_weight s.s2))) (good None)

@@ -1,6 +1,5 @@
 -- 01, "From the leaves upward", semiring.rs: one, times, the test for zero, for the two kinds of weight.
-use Rattle.std.specs.Prelude.{Bool, ◌||◌, cond, ℕ, zero, suc, ◌+◌, ◌*◌, eqb, ltb, leb}
-use Rattle.std.proofs.Math.Option.{Option, none, some}
+use Rattle.std.specs.Prelude.{Bool, ◌||◌, cond, ℕ, zero, suc, ◌+◌, ◌*◌, eqb, ltb, leb, Option, None, Some}
 use Rattle.words.specs.Labels.{MAX}
 -- the two semirings; what 01 adds is the limit
 pub use Rattle.papers.specs.Weight.{Kind, cost, count}
@@ -26,5 +25,5 @@ is_zero k w = eqb w (zero_of k)
 -- Cost: "times is the sum", "zero with anything is zero". Count: "times is the product".
 -- none: "A cost of two finite parts reaching MAX, or a count above MAX, is too large."
 unfoldable pub times : Kind → ℕ → ℕ → Option ℕ
-times cost a b = cond (eqb a MAX || eqb b MAX) (some MAX) (cond (ltb (a + b) MAX) (some (a + b)) none)
-times count a b = cond (leb (a * b) MAX) (some (a * b)) none
+times cost a b = cond (eqb a MAX || eqb b MAX) (Some MAX) (cond (ltb (a + b) MAX) (Some (a + b)) None)
+times count a b = cond (leb (a * b) MAX) (Some (a * b)) None

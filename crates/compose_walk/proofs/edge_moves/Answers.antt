@@ -1,6 +1,6 @@
 -- An epsilon is handed on; of another label, the records from the first found on, or none.
 use mathlib.Core.Path.{sym, ◌∙◌, subst}
-use mathlib.Core.Option.{some}
+use Rattle.std.specs.Prelude.{Some}
 use native.Mathlib.Omega.{arith}
 use Rattle.words.specs.Weights.{kind_of}
 use Rattle.fst.specs.Meaning.{tr_means}
@@ -60,5 +60,5 @@ returns c =
     let v = a.plan in
     let w = tr_means a.edge in
     as_steps (store_in a.heads.now a.states.now a.trs.now a.used) (store_in x.new.heads x.new.states x.new.trs x.result)
-    (with_records (side_by v) (kind_of v.kind) a.mm.now w (some 0) (with_label (side_by v) a.mm.now a.x.0 f.result)) (edge_by v a.mm.now w a.x.0)
+    (with_records (side_by v) (kind_of v.kind) a.mm.now w (Some 0) (with_label (side_by v) a.mm.now a.x.0 f.result)) (edge_by v a.mm.now w a.x.0)
     (sym (edge_from v a.mm.now w a.x.0 f.result c.if-x.false f.ensures)) x.ensures

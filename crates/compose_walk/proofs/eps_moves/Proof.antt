@@ -1,7 +1,7 @@
 -- The epsilon alone is stored where it is kept, and then the pairs.
 use mathlib.Core.Path.{◌≡◌, sym, ◌∙◌, ap, subst}
 use mathlib.Core.List.{◌++◌}
-use mathlib.Core.Option.{some}
+use Rattle.std.specs.Prelude.{Some}
 use mathlib.Core.Logic.{⊎_elim}
 use lib.ListN.{length}
 use Rattle.words.specs.Labels.{eps_label}
@@ -113,7 +113,7 @@ returns c =
     let v = a.plan in
     let w = tr_means a.edge in
     then_stored (store_in a.heads.now a.states.now a.trs.now a.used) e f (alone_by v w) (both_by v a.mm.now w) (alone c.before.before.before.before.before.before.before.before.before.before.before).3
-    (as_steps e f (with_labelled v a.mm.now w (some c.in-Kept-both.fs) eps_label) (both_by v a.mm.now w) (both_is v a.mm.now w c.in-Kept-both.fs c.in-Kept-both.is) x.ensures)
+    (as_steps e f (with_labelled v a.mm.now w (Some c.in-Kept-both.fs) eps_label) (both_by v a.mm.now w) (both_is v a.mm.now w c.in-Kept-both.fs c.in-Kept-both.is) x.ensures)
 
 returns-2 : tie.Need-returns-in-Dropped-both
 returns-2 c =

@@ -1,6 +1,6 @@
 -- No epsilon in the list, or none kept: nothing is stored. Else each epsilon with the rest.
 use mathlib.Core.Path.{sym, ◌∙◌, ap, subst}
-use mathlib.Core.Option.{some}
+use Rattle.std.specs.Prelude.{Some}
 use Rattle.words.specs.Labels.{eps_label}
 use Rattle.fst.specs.Meaning.{tr_means}
 use Rattle.compose_filters.specs.Meaning.{filtered_means}
@@ -29,7 +29,7 @@ returns-in-Kept c =
     let r = c.resting in
     let x = c.with_eps in
     let w = tr_means r.result in
-    as_steps (store_in a.heads.now a.states.now a.trs.now a.used) (store_in x.new.heads x.new.states x.new.trs x.result) (with_labelled a.plan a.mm.now w (some c.in-Kept.fs) eps_label) (rest_by a.plan a.mm.now) (rest_is a.plan a.mm.now w c.in-Kept.fs r.ensures c.in-Kept.is) x.ensures
+    as_steps (store_in a.heads.now a.states.now a.trs.now a.used) (store_in x.new.heads x.new.states x.new.trs x.result) (with_labelled a.plan a.mm.now w (Some c.in-Kept.fs) eps_label) (rest_by a.plan a.mm.now) (rest_is a.plan a.mm.now w c.in-Kept.fs r.ensures c.in-Kept.is) x.ensures
 
 pub returns-in-Dropped : goal.returns-in-Dropped
 returns-in-Dropped c =

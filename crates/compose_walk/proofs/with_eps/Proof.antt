@@ -1,6 +1,6 @@
 -- As many epsilons are left as are counted, so the record in hand is one while any is left.
 use mathlib.Core.Path.{◌≡◌, refl, ◌∙◌, ap}
-use mathlib.Core.Option.{some}
+use Rattle.std.specs.Prelude.{Some}
 use native.Mathlib.Omega.{arith}
 use lib.ListN.{length, drop_of_length-le}
 use Rattle.words.specs.Labels.{eps_label}
@@ -22,7 +22,7 @@ invariant-loop mm heads₀ states₀ trs₀ kind on base edge fs first count gro
     (length heads ≡ length heads₀) × (length states ≡ length states₀) × (length trs ≡ length trs₀)
     × (left ≡ length (with_label (on_of on) mm eps_label u))
     × Stands (on_of on) (kind_of kind) mm (tr_means edge) fs eps_label (store_in heads₀ states₀ trs₀ grown₀)
-    (with_records (on_of on) (kind_of kind) mm (tr_means edge) (some fs) (with_label (on_of on) mm eps_label first))
+    (with_records (on_of on) (kind_of kind) mm (tr_means edge) (Some fs) (with_label (on_of on) mm eps_label first))
     (store_in heads states trs grown) u
 
 abbrev decreases-loop : tie.decreases-loop-left

@@ -1,6 +1,6 @@
 -- What is left to store from the record in hand on leaves what all of it does; at the first other label nothing is left.
 use mathlib.Core.Path.{◌≡◌, refl, sym, ◌∙◌, ap}
-use mathlib.Core.Option.{some}
+use Rattle.std.specs.Prelude.{Some}
 use native.Mathlib.Omega.{arith}
 use lib.ListN.{length}
 use Rattle.words.specs.Weights.{kind_of}
@@ -23,7 +23,7 @@ abbrev invariant-loop : tie.invariant-loop-u
 invariant-loop mm heads₀ states₀ trs₀ kind on base edge x from k grown₀ u₀ heads states trs grown u =
     (length heads ≡ length heads₀) × (length states ≡ length states₀) × (length trs ≡ length trs₀)
     × Stands (on_of on) (kind_of kind) mm (tr_means edge) 0 x.0 (store_in heads₀ states₀ trs₀ grown₀)
-    (with_records (on_of on) (kind_of kind) mm (tr_means edge) (some 0) (with_label (on_of on) mm x.0 from))
+    (with_records (on_of on) (kind_of kind) mm (tr_means edge) (Some 0) (with_label (on_of on) mm x.0 from))
     (store_in heads states trs grown) u
 
 abbrev decreases-loop : tie.decreases-loop-u

@@ -2,7 +2,7 @@
 use mathlib.Core.Path.{◌≡◌, ap, subst, ◌∙◌}
 use mathlib.Core.Bool.{cond}
 use mathlib.Core.List.{List}
-use mathlib.Core.Option.{none}
+use Rattle.std.specs.Prelude.{None}
 use Prim.Native.Nat.{ℕ}
 use lib.ListN.{length}
 use Rattle.words.specs.Labels.{Checked, good, and_then}
@@ -46,7 +46,7 @@ returns-in-At c =
     let e = rw c.in-At.is at c.sigma_iter-found.ensures in
     let o = operand_in (on_of a.on) m a.sigma (allowed_of a.sigma.listed a.allowed.now) in
     let n = c.counted.ensures in
-    let r = held a.ignored.now a.m.now c.in-At.cursor (first_cursor m a.on a.sigmas a.s a.label a.sigma.label (operand_in (on_of a.on) m a.sigma none).sigma.rewrite_both (cond (stands_for a.sigma.label.0 (allowed_of a.sigma.listed a.allowed.now) a.label.0) (first_of m a.s.0) 0)) c.counted.result e.place n.result_value n.first n.place in
+    let r = held a.ignored.now a.m.now c.in-At.cursor (first_cursor m a.on a.sigmas a.s a.label a.sigma.label (operand_in (on_of a.on) m a.sigma None).sigma.rewrite_both (cond (stands_for a.sigma.label.0 (allowed_of a.sigma.listed a.allowed.now) a.label.0) (first_of m a.s.0) 0)) c.counted.result e.place n.result_value n.first n.place in
     record {
       result_value = r.0 ∙ items_counted o a.s.0 a.label.0 m _ e.result_value;
       first = r.1.0 ∙ ap (λ (u : Checked (List Item)). and_then u (λ items. good (asked items))) e.result_value;

@@ -1,6 +1,6 @@
 -- The checks 1 to 7 refuse, or leave machines within the limit.
 use mathlib.Core.Path.{sym}
-use mathlib.Core.Option.{none}
+use Rattle.std.specs.Prelude.{None}
 use Rattle.session_checks.specs.Meaning.{settings_means, lent_slices}
 use Rattle.fan_outs.specs.FanOut.{fan_out_of}
 use Rattle.fan_outs.proofs.Bounds.{within_limit}
@@ -9,7 +9,7 @@ use Rattle.fan_out_call.proofs.fan_out.Goals as goal
 pub fan_out_at-requires : goal.fan_out_at-requires
 fan_out_at-requires c =
     let a = c.args in
-    within_limit (settings_means a.settings) (lent_slices a.m1.now a.m2.now none none a.ignored.now) _ (rw c.in-By.is at (sym (c.side_for-chosen.ensures none none)))
+    within_limit (settings_means a.settings) (lent_slices a.m1.now a.m2.now None None a.ignored.now) _ (rw c.in-By.is at (sym (c.side_for-chosen.ensures None None)))
 
 pub returns-in-Refused : goal.returns-in-Refused
 unfolding fan_out_of

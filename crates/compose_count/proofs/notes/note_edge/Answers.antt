@@ -1,6 +1,6 @@
 -- An epsilon is handed on; of another label, the records from the first found on, or none.
 use mathlib.Core.Path.{refl, sym, subst}
-use mathlib.Core.Option.{some}
+use Rattle.std.specs.Prelude.{Some}
 use Rattle.words.specs.Weights.{kind_of}
 use Rattle.fst.specs.Meaning.{tr_means}
 use Rattle.matchers.specs.Cursors.{with_label}
@@ -45,5 +45,5 @@ returns c =
     let v = a.c.plan in
     λ trs.
     as_noted (wanted_in a.heads.now a.states.now a.c trs) (notes_means a.chains.now a.records.now a.seen) (notes_means x.new.chains x.new.records x.result)
-    (with_records (side_by v) (kind_of v.kind) a.mm.now w (some 0) (with_label (side_by v) a.mm.now a.x.0 f.result)) (edge_by v a.mm.now w a.x.0) (sym e)
+    (with_records (side_by v) (kind_of v.kind) a.mm.now w (Some 0) (with_label (side_by v) a.mm.now a.x.0 f.result)) (edge_by v a.mm.now w a.x.0) (sym e)
     (x.ensures trs (kind_of v.kind) w refl (subst AllGood e c.requires.2))

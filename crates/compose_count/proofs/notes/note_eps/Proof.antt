@@ -1,7 +1,7 @@
 -- The epsilon alone is noted where it is kept, and then the pairs.
 use mathlib.Core.Path.{◌≡◌, sym, ◌∙◌, ap, subst}
 use mathlib.Core.List.{List}
-use mathlib.Core.Option.{some}
+use Rattle.std.specs.Prelude.{Some}
 use mathlib.Core.Logic.{⊎_elim}
 use Prim.Native.Nat.{ℕ}
 use lib.ListN.{length}
@@ -72,7 +72,7 @@ returns c =
     let b = both_is v a.mm.now w c.in-Kept-both.fs c.in-Kept-both.is in
     note_then P (notes_means a.chains.now a.records.now a.seen) o q (alone_by v w) (both_by v a.mm.now w)
     ((alone c.before.before.before.before.before.before.before.before).2 trs w e h.0)
-    (as_noted P o q (with_labelled v a.mm.now w (some c.in-Kept-both.fs) eps_label) (both_by v a.mm.now w) b (x.ensures trs (kind_of v.kind) w e (subst AllGood (sym b) h.1)))
+    (as_noted P o q (with_labelled v a.mm.now w (Some c.in-Kept-both.fs) eps_label) (both_by v a.mm.now w) b (x.ensures trs (kind_of v.kind) w e (subst AllGood (sym b) h.1)))
 
 returns-2 : tie.Need-returns-in-Dropped-both
 returns-2 c =

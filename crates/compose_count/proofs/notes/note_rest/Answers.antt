@@ -1,6 +1,6 @@
 -- Where it is kept, each epsilon with the rest; else nothing is noted.
 use mathlib.Core.Path.{refl, sym, ap, subst}
-use mathlib.Core.Option.{some}
+use Rattle.std.specs.Prelude.{Some}
 use Rattle.words.specs.Labels.{eps_label}
 use Rattle.words.specs.Weights.{kind_of}
 use Rattle.matchers.specs.Meaning.{the_loop}
@@ -22,7 +22,7 @@ returns-in-Kept c =
     let x = c.note_records in
     λ trs.
     as_noted (wanted_in a.heads.now a.states.now a.c trs) (notes_means a.chains.now a.records.now a.seen) (notes_means x.new.chains x.new.records x.result)
-    (with_labelled v a.mm.now w (some c.in-Kept.fs) eps_label) (rest_by v a.mm.now) e (x.ensures trs (kind_of v.kind) w refl (subst AllGood (sym e) c.requires.2))
+    (with_labelled v a.mm.now w (Some c.in-Kept.fs) eps_label) (rest_by v a.mm.now) e (x.ensures trs (kind_of v.kind) w refl (subst AllGood (sym e) c.requires.2))
 
 pub returns-in-Dropped : goal.returns-in-Dropped
 returns-in-Dropped c =

@@ -2,7 +2,7 @@
 use mathlib.Core.Path.{◌≡◌, sym, ◌∙◌, ap}
 use Prim.Native.Nat.{ℕ}
 use mathlib.Core.List.{List}
-use mathlib.Core.Option.{Option}
+use Rattle.std.specs.Prelude.{Option}
 use Rattle.lists.proofs.Members.{and_left}
 use Rattle.fst.proofs.Tests.{fails, holds}
 use Rattle.calls.specs.Calls.{Outcome, final_weight_of}
