@@ -84,17 +84,14 @@ fn word_in(states: &[u32], n: StateId, k: usize) -> u32
 }
 
 // Whether state n has the triple, where there is room for its record. A word is read only where those before it are the same.
+#[tactic(auto, unfolding(words::specs::Steps::same_triple, calls::specs::Store::triple_at))]
 pub fn holds_tuple(states: &[u32], n: StateId, tuple: ComposeStateTuple) -> bool
     requires { n.0 < room_of state_size states.now }
     ensures { result ≡ same_triple (triple_at states.now n.0) (tuple_means tuple) }
 {
-    if word_in(states, n, STATE_S1) != tuple.s1.0 {
-        return false;
-    }
-    if word_in(states, n, STATE_S2) != tuple.s2.0 {
-        return false;
-    }
-    word_in(states, n, STATE_F) == tuple.fs
+    word_in(states, n, STATE_S1) == tuple.s1.0
+        && word_in(states, n, STATE_S2) == tuple.s2.0
+        && word_in(states, n, STATE_F) == tuple.fs
 }
 
 // The record after it in its chain, where there is room for its own; 0: none.
