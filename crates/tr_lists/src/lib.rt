@@ -9,7 +9,7 @@ ghost use Rattle.store_records.specs.Meaning.{stored};
 ghost use Rattle.tr_lists.specs.Meaning.{part_means};
 
 use fst::StateId;
-use store_records::{TR_SIZE, first_of, least, tr_next};
+use store_records::{TR_SIZE, first_of, tr_next};
 
 // The first record and the number of records of a state's list.
 #[derive(Clone, Copy)]
@@ -23,15 +23,13 @@ fn count_links(trs: &[u32], first: u32, most: u32) -> u32
     ensures { result ≡ length (linked (tr_next_at trs.now) most first) }
 {
     let mut link = first;
-    let mut count: u32 = 0;
-    while count < most {
+    for count in 0..most {
         if link == 0 {
             return count;
         }
         link = tr_next(trs, link - 1);
-        count += 1;
     }
-    count
+    most
 }
 
 // The list of state n as stored.
@@ -51,8 +49,8 @@ pub fn tr_part<'a>(trs: &'a [u32], part: Part) -> &'a [u32]
     ensures place { result.ref_ptr ≡ (trs.entry.ref_ptr.0, trs.entry.ref_ptr.1 + 4 * place_of trs.now (part_means part)) }
 {
     let first = part.first as usize;
-    let before = first - least(1, first);
-    let start = least(TR_SIZE * before, trs.len());
-    let count = least(TR_SIZE * (part.count as usize), trs.len() - start);
-    &trs[start..start + count]
+    let before = first.saturating_sub(1);
+    let start = trs.len().min(TR_SIZE * before);
+    let end = trs.len().min(start + TR_SIZE * part.count as usize);
+    &trs[start..end]
 }
