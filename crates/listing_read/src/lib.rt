@@ -5,7 +5,7 @@ mod line;
 
 ghost use Rattle.std.specs.Prelude.{◌≡◌};
 ghost use Rattle.listing_text.specs.Chunks.{read_byte, read_bytes, in_rooms};
-ghost use Rattle.listing_read.specs.Meaning.{read_input, rooms_of, new_reader, reader_of};
+ghost use Rattle.listing_read.specs.Meaning.{read_input, rooms_of, new_reader};
 ghost use Rattle.listing_read.specs.Held.{held, held_byte, held_bytes};
 
 pub use line::{LineReader, line_words, new_line, step_byte};
@@ -30,10 +30,17 @@ pub struct Reader {
 pub fn new_reader() -> Reader
     ensures { result ≡ new_reader }
 {
-    with_lines(0, new_line(), new_line(), new_line(), new_line())
+    Reader {
+        at: 0,
+        settings: new_line(),
+        first: new_line(),
+        second: new_line(),
+        query: new_line(),
+    }
 }
 
 // One byte more.
+#[tactic(auto, unfolding(listing_text::specs::Chunks::read_byte, crate::specs::Held::held_byte), using(crate::proofs::ScanLaws::scan_within))]
 pub fn read_byte(
     r: Reader,
     b: u8,
@@ -49,44 +56,29 @@ pub fn read_byte(
     ensures stored { let words = held r settings.old first.old second.old query.old in
         held result settings.new first.new second.new query.new ≡ held_byte words b }
 {
-    let at = r.at;
-    let s = r.settings;
-    let f = r.first;
-    let g = r.second;
-    let q = r.query;
-    if 3 < at {
+    if 3 < r.at {
         return r;
     }
-    if b == 10 {
-        return with_lines(at + 1, s, f, g, q);
+    if b == b'\n' {
+        return Reader { at: r.at + 1, ..r };
     }
-    if at == 0 {
-        return with_lines(at, step_byte(s, b, settings), f, g, q);
-    }
-    if at == 1 {
-        return with_lines(at, s, step_byte(f, b, first), g, q);
-    }
-    if at == 2 {
-        return with_lines(at, s, f, step_byte(g, b, second), q);
-    }
-    with_lines(at, s, f, g, step_byte(q, b, query))
-}
-
-fn with_lines(
-    at: u32,
-    settings: LineReader,
-    first: LineReader,
-    second: LineReader,
-    query: LineReader,
-) -> Reader
-    ensures { result ≡ reader_of at settings first second query }
-{
-    Reader {
-        at: at,
-        settings: settings,
-        first: first,
-        second: second,
-        query: query,
+    match r.at {
+        0 => Reader {
+            settings: step_byte(r.settings, b, settings),
+            ..r
+        },
+        1 => Reader {
+            first: step_byte(r.first, b, first),
+            ..r
+        },
+        2 => Reader {
+            second: step_byte(r.second, b, second),
+            ..r
+        },
+        _ => Reader {
+            query: step_byte(r.query, b, query),
+            ..r
+        },
     }
 }
 
@@ -108,10 +100,8 @@ pub fn read_chunk(
         words' ≡ held_bytes words chunk.now }
 {
     let mut r = start;
-    let mut i = 0;
-    while i < chunk.len() {
-        r = read_byte(r, chunk[i], settings, first, second, query);
-        i += 1;
+    for &b in chunk {
+        r = read_byte(r, b, settings, first, second, query);
     }
     r
 }

@@ -6,8 +6,6 @@ ghost use Rattle.listing_text.specs.Chunks.{within};
 ghost use Rattle.listing_read.specs.Meaning.{scan_of, left_words, new_line, failed_line};
 ghost use Rattle.listing_read.specs.Held.{ended_line, ended_words, stepped_line, stepped_words};
 
-const MAX: u64 = 4294967295;
-
 // How far the reading of a line is: the words stored, the word that is being read, and whether there is one; bad where the line is not of decimal words, or has more than fit.
 #[derive(Clone, Copy)]
 pub struct LineReader {
@@ -43,13 +41,7 @@ fn failed() -> LineReader
 fn is_blank(b: u8) -> bool
     ensures { result ≡ is_blank b }
 {
-    if b == 9 {
-        return true;
-    }
-    if b == 13 {
-        return true;
-    }
-    b == 32
+    b == b'\t' || b == b'\r' || b == b' '
 }
 
 // The word that is being read is stored, if there is one and there is room.
@@ -58,26 +50,23 @@ fn put_word(line: LineReader, words: &mut [u32]) -> LineReader
     ensures fields { result ≡ ended_line (length words.old) line }
     ensures stored { words.new ≡ ended_words line words.old }
 {
-    if line.bad {
+    if line.bad || !line.inside {
         return line;
     }
-    if line.inside {
-        let at = line.count;
-        if at < words.len() {
-            words[at] = line.value;
-            return LineReader {
-                count: at + 1,
-                value: 0,
-                inside: false,
-                bad: false,
-            };
-        }
+    if words.len() <= line.count {
         return failed();
     }
-    line
+    words[line.count] = line.value;
+    LineReader {
+        count: line.count + 1,
+        value: 0,
+        inside: false,
+        ..line
+    }
 }
 
 // One byte more of a line.
+#[tactic(auto, unfolding(listing_text::specs::Reading::step), using(crate::proofs::ScanLaws::scan_within))]
 pub fn step_byte(line: LineReader, b: u8, words: &mut [u32]) -> LineReader
     ensures result_after { scan_of words.new result ≡ within (length words.old) (step (scan_of words.old line) b) }
     ensures fields { result ≡ stepped_line (length words.old) line b }
@@ -89,21 +78,17 @@ pub fn step_byte(line: LineReader, b: u8, words: &mut [u32]) -> LineReader
     if is_blank(b) {
         return put_word(line, words);
     }
-    if b < 48 {
+    if !b.is_ascii_digit() {
         return failed();
     }
-    if 57 < b {
+    let v = u64::from(line.value) * 10 + u64::from(b - b'0');
+    let Ok(value) = u32::try_from(v) else {
         return failed();
-    }
-    let v = (line.value as u64) * 10 + ((b - 48) as u64);
-    if MAX < v {
-        return failed();
-    }
+    };
     LineReader {
-        count: line.count,
-        value: v as u32,
+        value,
         inside: true,
-        bad: false,
+        ..line
     }
 }
 
@@ -117,9 +102,5 @@ pub fn line_words(line: LineReader, words: &mut [u32]) -> usize
     if last.bad {
         return 0;
     }
-    let n = last.count;
-    if words.len() < n {
-        return words.len();
-    }
-    n
+    last.count.min(words.len())
 }
