@@ -4,7 +4,7 @@ use mathlib.Core.Path.{◌≡◌, refl, sym, ap, subst, ◌∙◌}
 use mathlib.Core.Bool.{Bool, cond}
 use mathlib.Core.List.{List, [], ◌∷◌, map}
 use mathlib.Core.Logic.{◌⊎◌, inl, inr}
-use Rattle.std.specs.Prelude.{None, slice_get}
+use Rattle.std.specs.Prelude.{None, Result, Ok, Err, IfOk, slice_get}
 use Prim.Native.Nat.{ℕ, zero, suc, ◌≤◌}
 use native.Mathlib.Omega.{arith}
 use seplogic.Ra.Ura.{Ura}
@@ -34,15 +34,14 @@ use Rattle.fst.specs.declared.MatchType.{MatchType}
 use Rattle.fst.specs.declared.MatchType.TheVariants.{MatchInput, MatchOutput}
 use Rattle.fst.specs.declared.Sigmas.{Sigmas}
 use Rattle.fst.specs.declared.StateId.{StateId}
+use Rattle.fst.specs.declared.refusals.Refusal.{Refusal}
+use Rattle.fst.specs.Refusals.{number_of, checked_by}
 use Rattle.matchers.specs.Meaning.{Item, item_of, sorted_items, lookup_items, allowed_of, operand_in, stands_for}
-use Rattle.matchers.specs.Cursors.{held_words, matches_left, moved_past, cursor_after, items_left, asked, given_by, cursor_of, iter_means, first_cursor, BeginsAt}
+use Rattle.matchers.specs.Cursors.{held_words, matches_left, moved_past, cursor_after, items_left, asked, Step, given_by, cursor_of, first_cursor}
 use Rattle.matchers.specs.Asking.{LookUp, side_in, sorted_look_up, sigma_look_up, Holds, onward, Gives, GivesOrRefuses}
 use Rattle.matchers.specs.declared.Cursor.{Cursor}
 use Rattle.matchers.specs.declared.Matcher.{Matcher}
-use Rattle.matchers.specs.declared.Step.{Step}
 use Rattle.matchers.specs.declared.sigma_matcher.Sigma.{Sigma}
-use Rattle.matchers.specs.declared.sigma_matcher.SigmaIter.{SigmaIter}
-use Rattle.matchers.specs.declared.sigma_matcher.SigmaIter.TheVariants.{At as From, Refused}
 use Rattle.matchers.proofs.Turns.{Answers}
 use Rattle.matchers.proofs.Held.{after_holds, first_holds, place_from}
 use Rattle.matchers.specs.contracts.next as next
@@ -58,7 +57,7 @@ abbrev pub SortedReply : Lfts 2 → (w g : Bor (List ℕ)) → MatchType → Sig
 SortedReply κs w g on labels s x c = sorted-iter.Learnt κs (w, (on, (labels, (g, (s, (x, tt)))))) c (w, (on, (labels, (g, (s, (x, tt))))))
 
 -- i is one that the contract of `sigma_iter` allows, asked with the settings of sigma and the lent allowed list too
-abbrev pub SigmaReply : Lfts 3 → (w g allowed : Bor (List ℕ)) → MatchType → Sigmas → Sigma → StateId → Label → SigmaIter → Type 0
+abbrev pub SigmaReply : Lfts 3 → (w g allowed : Bor (List ℕ)) → MatchType → Sigmas → Sigma → StateId → Label → Result Cursor Refusal → Type 0
 SigmaReply κs w g allowed on labels sigma s x i =
     sigma-iter.Learnt κs (w, (on, (labels, (g, (sigma, (allowed, (s, (x, tt)))))))) i (w, (on, (labels, (g, (sigma, (allowed, (s, (x, tt))))))))
 
@@ -166,7 +165,7 @@ sorted_asked_on κs κt w g on labels s x c (means, place) =
     m = read_as on labels g.now w.now
 
 -- The sigma look-up: on any words, with any list, any settings of sigma and any allowed list, at any state, of any label.
-pub sigma_asked_on : (κs : Lfts 3) (κt : Lfts 2) (w g allowed : Bor (List ℕ)) (on : MatchType) (labels : Sigmas) (sigma : Sigma) (s : StateId) (x : Label) (i : SigmaIter)
+pub sigma_asked_on : (κs : Lfts 3) (κt : Lfts 2) (w g allowed : Bor (List ℕ)) (on : MatchType) (labels : Sigmas) (sigma : Sigma) (s : StateId) (x : Label) (i : Result Cursor Refusal)
     → SigmaReply κs w g allowed on labels sigma s x i
     →
     let m = read_as on labels g.now w.now in
@@ -199,13 +198,13 @@ sigma_asked_on κs κt w g allowed on labels sigma s x i (means, place) = record
     apart : (l : List Match) → lookup operand s.0 x.0 ≡ good l → Apart SameEdge l
     apart l e = found_apart operand s.0 x.0 l (list_distinct m s.0) e
 
-    refused_at : (j : SigmaIter) (n : ℕ) → iter_means m j ≡ refused n → j ≡ Refused n
-    refused_at (From c) n e = absurd (good≢refused e)
-    refused_at (Refused k) n e = ap Refused (refused_is e)
+    refused_at : (j : Result Cursor Refusal) (n : ℕ) → checked_by (items_left m) j ≡ refused n → (k : Refusal) × (number_of k ≡ n) × (j ≡ Err k)
+    refused_at (Ok c) n e = absurd (good≢refused e)
+    refused_at (Err k) n e = (k, refused_is e, refl)
 
     all : (l : List Match) (c : Cursor) → items_left m c ≡ map item l → Apart SameEdge l → Holds m s.0 asks c → Gives (NextReply κt w g) m s.0 asks item l c
     all l c = subst (λ (u : List ℕ). items_left u c ≡ map item l → Apart SameEdge l → Holds u s.0 asks c → Gives (NextReply κt w g) u s.0 asks item l c) (words_of_lem w g on asks refl) (gives κt w g s.0 asks item l c)
 
-    found : (j : SigmaIter) (l : List Match) → iter_means m j ≡ good (map item l) → Apart SameEdge l → BeginsAt j first → (c : Cursor) × (j ≡ From c) × Gives (NextReply κt w g) m s.0 asks item l c
-    found (From c) l e d p = (c, refl, all l c (good_is e) d (first_holds m on labels s x sigma.label both _ c p (place_from m s.0 stands)))
-    found (Refused k) l e d p = absurd (good≢refused (sym e))
+    found : (j : Result Cursor Refusal) (l : List Match) → checked_by (items_left m) j ≡ good (map item l) → Apart SameEdge l → IfOk j (λ c. c ≡ first) → (c : Cursor) × (j ≡ Ok c) × Gives (NextReply κt w g) m s.0 asks item l c
+    found (Ok c) l e d p = (c, refl, all l c (good_is e) d (first_holds m on labels s x sigma.label both _ c p (place_from m s.0 stands)))
+    found (Err k) l e d p = absurd (good≢refused (sym e))

@@ -1,4 +1,3 @@
-pub mod TwoClauses
 pub mod Seeks
 pub mod Turns
 pub mod Starts

@@ -10,11 +10,10 @@ use Rattle.words.specs.Machines.{next_of, machine_of}
 use Rattle.words.specs.Sigmas.{rewrite}
 use Rattle.fst.specs.Meaning.{on_of}
 use Rattle.matchers.specs.Meaning.{Item, the_loop, whole}
-use Rattle.matchers.specs.Cursors.{with_label, head0, looked, moved_to, sigma_left, own_left, in_phase, matches_left, items_of, items_left, Asked, asked, cursor_of, step_means, moved_past, cursor_after}
+use Rattle.matchers.specs.Cursors.{with_label, head0, looked, moved_to, sigma_left, own_left, in_phase, matches_left, items_of, items_left, Asked, asked, Step, cursor_of, step_means, moved_past, cursor_after}
 use Rattle.matchers.specs.declared.Phase.{Phase}
 use Rattle.matchers.specs.declared.Phase.TheVariants.{Own, Sigmas}
 use Rattle.matchers.specs.declared.Cursor.{Cursor}
-use Rattle.matchers.specs.declared.Step.{Step}
 use Rattle.matchers.proofs.Seeks.{with_end, sought_none, sought_first}
 
 -- an asking that gives the transition t and leaves what the cursor d has to give

@@ -1,5 +1,5 @@
 -- 02, 2.5: "Asked on, it is proved to give the definition's matches, each once and in order, then none ever after"; "it walks the list itself and keeps only the present place".
-use Rattle.std.specs.Prelude.{◌≡◌, Bool, false, ◌⊎◌, ℕ, ◌≤◌, length, None, Some}
+use Rattle.std.specs.Prelude.{◌≡◌, Bool, false, ◌⊎◌, ℕ, ◌≤◌, length, None, Some, Result, Ok, Err}
 use mathlib.Core.List.{List, map, Memᴰ as In}
 use Rattle.lists.specs.Lists.{At, Distinct}
 use Rattle.lists.specs.Asking.{AskedOn}
@@ -11,13 +11,12 @@ use Rattle.words.specs.AsPapers.{edge_of}
 use Rattle.fst.specs.declared.MatchType.{MatchType as On}
 use Rattle.fst.specs.declared.MatchType.TheVariants.{MatchInput, MatchOutput}
 use Rattle.fst.specs.declared.Sigmas.{Sigmas}
+use Rattle.fst.specs.declared.refusals.Refusal.{Refusal}
+use Rattle.fst.specs.Refusals.{number_of}
 use Rattle.matchers.specs.Meaning.{Item}
-use Rattle.matchers.specs.Cursors.{given_by, cursor_of}
+use Rattle.matchers.specs.Cursors.{Step, given_by, cursor_of}
 use Rattle.matchers.specs.declared.Phase.{Phase}
 use Rattle.matchers.specs.declared.Cursor.{Cursor}
-use Rattle.matchers.specs.declared.Step.{Step}
-use Rattle.matchers.specs.declared.sigma_matcher.SigmaIter.{SigmaIter}
-use Rattle.matchers.specs.declared.sigma_matcher.SigmaIter.TheVariants.{At as From, Refused}
 
 -- The settings of a look-up: the side on which the machine is matched, the label asked, the sigma label, the sigma labels of both machines, and whether sigma is rewritten on
 -- both sides.
@@ -92,6 +91,6 @@ pub record Gives (Answers : Cursor → Step → Type 0) (m : List ℕ) (s : ℕ)
   pub holds : (k : ℕ) (r : Step) → AskedOn Answers onward c k r → Holds m s q (cursor_of r)
 
 -- The answer i of a look-up that may be refused: the refusal by its number; or a cursor that gives the matches.
-pub record GivesOrRefuses (Answers : Cursor → Step → Type 0) (m : List ℕ) (s : ℕ) (q : LookUp) (item : Match → Item) (ms : Checked (List Match)) (i : SigmaIter) : Type 0 where
-  pub refuses : (n : ℕ) → ms ≡ refused n → i ≡ Refused n
-  pub gives : (l : List Match) → ms ≡ good l → (c : Cursor) × (i ≡ From c) × Gives Answers m s q item l c
+pub record GivesOrRefuses (Answers : Cursor → Step → Type 0) (m : List ℕ) (s : ℕ) (q : LookUp) (item : Match → Item) (ms : Checked (List Match)) (i : Result Cursor Refusal) : Type 0 where
+  pub refuses : (n : ℕ) → ms ≡ refused n → (k : Refusal) × (number_of k ≡ n) × (i ≡ Err k)
+  pub gives : (l : List Match) → ms ≡ good l → (c : Cursor) × (i ≡ Ok c) × Gives Answers m s q item l c

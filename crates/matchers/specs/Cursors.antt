@@ -1,7 +1,7 @@
 -- What a cursor has still to give, and what one asking answers.
-use Rattle.std.specs.Prelude.{◌≡◌, Bool, false, cond, List, [], ◌∷◌, ◌++◌, map, ℕ, eqb, leb, Option, None, Some}
+use Rattle.std.specs.Prelude.{Bool, false, cond, List, [], ◌∷◌, ◌++◌, map, ℕ, eqb, leb, Option, None, Some, option_map}
 use Rattle.lists.specs.Lists.{put_if, keep_if}
-use Rattle.words.specs.Labels.{eps_label, no_label, Checked, good, refused}
+use Rattle.words.specs.Labels.{eps_label, no_label}
 use Rattle.words.specs.Matches.{MatchType, label_on, Match, loop, own, viaSigma}
 use Rattle.words.specs.Machines.{tr_count, first_of, next_of, list_from, machine_of}
 use Rattle.words.specs.Sigmas.{rewrite}
@@ -14,10 +14,7 @@ use Rattle.matchers.specs.Meaning.{Item, match_means, item_of}
 use Rattle.matchers.specs.declared.Phase.{Phase}
 use Rattle.matchers.specs.declared.Phase.TheVariants.{Own, Sigmas as Sigma}
 use Rattle.matchers.specs.declared.Cursor.{Cursor}
-use Rattle.matchers.specs.declared.Step.{Step}
-use Rattle.matchers.specs.declared.Step.TheVariants.{Match as AMatch, End}
-use Rattle.matchers.specs.declared.sigma_matcher.SigmaIter.{SigmaIter}
-use Rattle.matchers.specs.declared.sigma_matcher.SigmaIter.TheVariants.{At as From, Refused}
+use Rattle.matchers.specs.declared.IterItemMatcher.{IterItemMatcher}
 
 -- the records from place t on, in list order; 0 ends the list, and so does a number that is no record's
 unfoldable pub records_from : List ℕ → ℕ → List ℕ
@@ -89,15 +86,17 @@ abbrev pub asked : List Item → Asked
 asked [] = record { given = None; left = [] }
 asked (i ∷ is) = record { given = Some i; left = is }
 
--- what a step of the code gives; none: the end
+-- a step of the code: the next match, none at the end, with the cursor to ask on with
+abbrev pub Step : Type 0
+Step = Option IterItemMatcher × Cursor
+
+-- what it gives; none: the end
 abbrev pub given_by : Step → Option Item
-given_by (AMatch i c) = Some (match_means i)
-given_by (End c) = None
+given_by r = option_map match_means r.0
 
 -- the cursor that it hands back
 abbrev pub cursor_of : Step → Cursor
-cursor_of (AMatch i c) = c
-cursor_of (End c) = c
+cursor_of r = r.1
 
 -- the step of the code
 abbrev pub step_means : List ℕ → Step → Asked
@@ -114,11 +113,6 @@ moved_past m c (viaSigma t ∷ us) = moved_to c Sigma (next_of m t)
 abbrev pub cursor_after : List ℕ → Cursor → Cursor
 cursor_after m c = moved_past m c (matches_left m c)
 
--- the sigma look-up's answer: what the cursor will give, or a refusal by its number in the table of "Answers"
-abbrev pub iter_means : List ℕ → SigmaIter → Checked (List Item)
-iter_means m (From c) = good (items_left m c)
-iter_means m (Refused n) = refused n
-
 -- The first cursor of a look-up of the label x at state s: what is asked, the place of the first transition with the label, and the place from which sigma transitions are sought after it (0: from none).
 abbrev pub first_cursor : List ℕ → On → Sigmas → StateId → Label → Label → Bool → ℕ → Cursor
 first_cursor m on labels s x sigma both from = record {
@@ -132,8 +126,3 @@ first_cursor m on labels s x sigma both from = record {
   tr = head0 (with_label (on_of on) m (looked x.0) (first_of m s.0));
   sigmas = from;
 }
-
--- the sigma look-up's first cursor is c, where it is not refused
-abbrev pub BeginsAt : SigmaIter → Cursor → Type 0
-BeginsAt (From d) c = d ≡ c
-BeginsAt (Refused n) c = Unit {0}

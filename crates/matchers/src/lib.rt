@@ -12,7 +12,7 @@ ghost use Rattle.matchers.specs.Cursors.{looked as lookedFor, held_words, with_l
 use fst::{
     EPS_LABEL, Label, MatchType, NO_LABEL, Sigmas, Tr, get_tr, inner_label, next_tr, num_records,
 };
-pub use sigma_matcher::{Sigma, SigmaIter, has_sigma, sigma_iter};
+pub use sigma_matcher::{Sigma, has_sigma, sigma_iter};
 pub use sorted_matcher::sorted_iter;
 
 // A match: the loop, or one whole transition.
@@ -50,22 +50,14 @@ pub struct Cursor {
     pub sigmas: u32,
 }
 
-// The next match, or the end; with the cursor to ask on with.
-#[derive(Clone, Copy)]
-pub enum Step {
-    Match(IterItemMatcher, Cursor),
-    End(Cursor),
-}
+// The next match, None at the end; with the cursor to ask on with.
+pub type Step = (Option<IterItemMatcher>, Cursor);
 
 // The label that the transitions must have: NO_LABEL asks for the epsilon transitions.
 pub fn looked(label: Label) -> Label
     ensures { result.0 ≡ lookedFor label.0 }
 {
-    if label.0 == NO_LABEL.0 {
-        EPS_LABEL
-    } else {
-        label
-    }
+    if label == NO_LABEL { EPS_LABEL } else { label }
 }
 
 // The first record from t on that has the label on a side; 0: none.
@@ -77,8 +69,7 @@ fn seek(m: &[u32], on: MatchType, sigmas: Sigmas, ignored: &[u32], label: Label,
     }
     let mut at = t;
     while at != 0 {
-        let found = inner_label(m, on, sigmas, ignored, at);
-        if found.0 == label.0 {
+        if inner_label(m, on, sigmas, ignored, at) == label {
             return at;
         }
         at = next_tr(m, at);
@@ -90,40 +81,24 @@ fn seek(m: &[u32], on: MatchType, sigmas: Sigmas, ignored: &[u32], label: Label,
 fn replace(sigma: Label, x: Label, l: Label) -> Label
     ensures { result.0 ≡ replaced sigma.0 x.0 l.0 }
 {
-    if l.0 == sigma.0 { x } else { l }
+    if l == sigma { x } else { l }
 }
 
 // A sigma transition rewritten for the label that the cursor was asked.
 fn rewrite(cursor: Cursor, t: Tr) -> Tr
     ensures { tr_means result ≡ rewritten cursor.both (on_of cursor.on) cursor.sigma.0 cursor.label.0 (tr_means t) }
 {
-    let on = cursor.on;
     let x = cursor.label;
-    let sigma = cursor.sigma;
-    let ilabel = t.ilabel;
-    let olabel = t.olabel;
-    let nextstate = t.nextstate;
     if cursor.both {
         return Tr {
-            ilabel: replace(sigma, x, ilabel),
-            olabel: replace(sigma, x, olabel),
-            weight: t.weight,
-            nextstate,
+            ilabel: replace(cursor.sigma, x, t.ilabel),
+            olabel: replace(cursor.sigma, x, t.olabel),
+            ..t
         };
     }
-    match on {
-        MatchType::MatchInput => Tr {
-            ilabel: x,
-            olabel,
-            weight: t.weight,
-            nextstate,
-        },
-        MatchType::MatchOutput => Tr {
-            ilabel,
-            olabel: x,
-            weight: t.weight,
-            nextstate,
-        },
+    match cursor.on {
+        MatchType::MatchInput => Tr { ilabel: x, ..t },
+        MatchType::MatchOutput => Tr { olabel: x, ..t },
     }
 }
 
@@ -131,20 +106,11 @@ fn rewrite(cursor: Cursor, t: Tr) -> Tr
 fn moved(cursor: Cursor, phase: Phase, tr: u32) -> Cursor
     ensures { result ≡ moved_to cursor phase tr }
 {
-    let on = cursor.on;
-    let label = cursor.label;
-    let sigma = cursor.sigma;
-    let labels = cursor.labels;
     Cursor {
-        on,
-        label,
-        sigma,
-        labels,
-        both: cursor.both,
         phase,
         loops: false,
         tr,
-        sigmas: cursor.sigmas,
+        ..cursor
     }
 }
 
@@ -155,16 +121,14 @@ fn sigma_next(m: &[u32], cursor: Cursor, ignored: &[u32]) -> Step
     ensures place { let words = held_words cursor ignored.now m.now in
         cursor_of result ≡ moved_past words cursor (sigma_left words cursor cursor.tr) }
 {
-    let on = cursor.on;
-    let sigma = cursor.sigma;
-    let labels = cursor.labels;
-    let t = seek(m, on, labels, ignored, sigma, cursor.tr);
+    let Cursor { on, labels, .. } = cursor;
+    let t = seek(m, on, labels, ignored, cursor.sigma, cursor.tr);
     if t == 0 {
-        return Step::End(moved(cursor, Phase::Sigmas, 0));
+        return (None, moved(cursor, Phase::Sigmas, 0));
     }
     let found = rewrite(cursor, get_tr(m, on, labels, ignored, t));
-    Step::Match(
-        IterItemMatcher::Tr(found),
+    (
+        Some(IterItemMatcher::Tr(found)),
         moved(cursor, Phase::Sigmas, next_tr(m, t)),
     )
 }
@@ -176,16 +140,14 @@ fn own_next(m: &[u32], cursor: Cursor, ignored: &[u32]) -> Step
     ensures place { let words = held_words cursor ignored.now m.now in
         cursor_of result ≡ moved_past words cursor (own_left words cursor cursor.tr) }
 {
-    let on = cursor.on;
-    let label = cursor.label;
-    let labels = cursor.labels;
-    let t = seek(m, on, labels, ignored, looked(label), cursor.tr);
+    let Cursor { on, labels, .. } = cursor;
+    let t = seek(m, on, labels, ignored, looked(cursor.label), cursor.tr);
     if t == 0 {
         return sigma_next(m, moved(cursor, Phase::Sigmas, cursor.sigmas), ignored);
     }
     let found = get_tr(m, on, labels, ignored, t);
-    Step::Match(
-        IterItemMatcher::Tr(found),
+    (
+        Some(IterItemMatcher::Tr(found)),
         moved(cursor, Phase::Own, next_tr(m, t)),
     )
 }
@@ -198,7 +160,10 @@ pub fn next_match(m: &[u32], cursor: Cursor, ignored: &[u32]) -> Step
 {
     let phase = cursor.phase;
     if cursor.loops {
-        return Step::Match(IterItemMatcher::EpsLoop, moved(cursor, phase, cursor.tr));
+        return (
+            Some(IterItemMatcher::EpsLoop),
+            moved(cursor, phase, cursor.tr),
+        );
     }
     match phase {
         Phase::Own => own_next(m, cursor, ignored),
@@ -219,7 +184,7 @@ pub fn open<'a>(words: &'a [u32], cursor: Cursor) -> Matcher<'a>
     Matcher { words, cursor }
 }
 
-// `next_match` of what the reader holds. An enum holds no reference, so that the answer has the next cursor and not the next reader. The list of ignored labels is lent beside it.
+// `next_match` of what the reader holds: the answer has the next cursor, and not the next reader. The list of ignored labels is lent beside it.
 pub fn next<'a, 'b>(r: Matcher<'a>, ignored: &'b [u32]) -> Step
     ensures result_value { let words = held_words r.entry.cursor ignored.now r.entry.words.now in
         step_means words result ≡ asked (items_left words r.entry.cursor) }

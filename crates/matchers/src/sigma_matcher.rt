@@ -1,18 +1,17 @@
 // The sigma look-up (sigma_matcher.rs): a label's own matches, and after them each sigma transition, rewritten.
-ghost use Rattle.std.specs.Prelude.{◌≡◌, not, ◌&&◌, cond, eqb, None};
+ghost use Rattle.std.specs.Prelude.{◌≡◌, not, ◌&&◌, cond, eqb, None, IfOk};
 ghost use Rattle.words.specs.Labels.{no_label};
 ghost use Rattle.words.specs.Machines.{first_of};
 ghost use Rattle.words.specs.Sides.{non_empty};
 ghost use Rattle.words.specs.Sigmas.{is_allowed, rewrites_both, sigma_trs};
 ghost use Rattle.words.specs.Settings.{operand_of};
 ghost use Rattle.fst.specs.Meaning.{on_of, read_as};
+ghost use Rattle.fst.specs.Refusals.{checked_by};
 ghost use Rattle.matchers.specs.Meaning.{allowed_of, operand_in, lookup_items, stands_for};
-ghost use Rattle.matchers.specs.Cursors.{iter_means, first_cursor, BeginsAt};
+ghost use Rattle.matchers.specs.Cursors.{items_left, first_cursor};
 
 use crate::{Cursor, Phase, looked, seek};
-use fst::{
-    EPS_LABEL, Label, MatchType, NO_LABEL, REFUSED_WALKED_SIGMA, Sigmas, StateId, first_tr, has,
-};
+use fst::{EPS_LABEL, Label, MatchType, NO_LABEL, Refusal, Sigmas, StateId, first_tr, has};
 
 // The sigma settings of a machine. The allowed list is lent beside them.
 #[derive(Clone, Copy)]
@@ -27,48 +26,29 @@ pub struct Sigma {
     pub acceptor: u32,
 }
 
-// The cursor of a look-up, or the number of the refusal.
-#[derive(Clone, Copy)]
-pub enum SigmaIter {
-    At(Cursor),
-    Refused(u32),
-}
-
 // Sigma is set, and is the label.
 fn is_sigma(sigma: Label, label: Label) -> bool
     ensures { result ≡ (not (eqb sigma.0 no_label) && eqb label.0 sigma.0) }
 {
-    if sigma.0 == NO_LABEL.0 {
-        return false;
-    }
-    label.0 == sigma.0
+    sigma != NO_LABEL && label == sigma
 }
 
 // The list holds the label, or there is no list.
 fn is_match_label_allowed(listed: bool, allowed: &[u32], label: Label) -> bool
     ensures { result ≡ is_allowed (allowed_of listed allowed.now) label.0 }
 {
-    if !listed {
-        return true;
-    }
-    has(allowed, label)
+    !listed || has(allowed, label)
 }
 
 // Sigma is set, and may stand for the label.
+#[tactic(auto, unfolding(crate::specs::Meaning::stands_for))]
 fn stands_for(sigma: Sigma, allowed: &[u32], label: Label) -> bool
     ensures { result ≡ stands_for sigma.label.0 (allowed_of sigma.listed allowed.now) label.0 }
 {
-    let named = sigma.label;
-    if named.0 == NO_LABEL.0 {
-        return false;
-    }
-    if label.0 == EPS_LABEL.0 {
-        return false;
-    }
-    if label.0 == NO_LABEL.0 {
-        return false;
-    }
-    is_match_label_allowed(sigma.listed, allowed, label)
+    sigma.label != NO_LABEL
+        && label != EPS_LABEL
+        && label != NO_LABEL
+        && is_match_label_allowed(sigma.listed, allowed, label)
 }
 
 // Where the sigma matches begin: at the state's first record; 0: there are none.
@@ -86,12 +66,10 @@ fn sigma_from(sigma: Sigma, allowed: &[u32], label: Label, first: u32) -> u32
 fn rewrites_both(sigma: Sigma) -> bool
     ensures { result ≡ (not (eqb sigma.label.0 no_label) && rewrites_both sigma.mode sigma.acceptor) }
 {
-    let named = sigma.label;
-    if named.0 == NO_LABEL.0 {
+    if sigma.label == NO_LABEL {
         return false;
     }
-    let mode = sigma.mode;
-    match mode {
+    match sigma.mode {
         0 => sigma.acceptor == 1,
         1 => true,
         _ => false,
@@ -108,31 +86,30 @@ pub fn sigma_iter(
     allowed: &[u32],
     s: StateId,
     label: Label,
-) -> SigmaIter
+) -> Result<Cursor, Refusal>
     ensures result_value { let words = read_as on sigmas ignored.now m.now in
         let allowed = allowed_of sigma.listed allowed.entry.now in
         let operand = operand_in (on_of on) words sigma allowed in
-        iter_means words result ≡ lookup_items operand s.0 label.0 }
+        checked_by (items_left words) result ≡ lookup_items operand s.0 label.0 }
     ensures place { let words = read_as on sigmas ignored.now m.now in
         let both = (operand_in (on_of on) words sigma None).sigma.rewrite_both in
         let from = cond (stands_for sigma.label.0 (allowed_of sigma.listed allowed.now) label.0) (first_of words s.0) 0 in
-        BeginsAt result (first_cursor words on sigmas s label sigma.label both from) }
+        IfOk result (λ cursor. cursor ≡ first_cursor words on sigmas s label sigma.label both from) }
 {
-    let named = sigma.label;
-    if is_sigma(named, label) {
-        return SigmaIter::Refused(REFUSED_WALKED_SIGMA);
+    if is_sigma(sigma.label, label) {
+        return Err(Refusal::WalkedSigma);
     }
     let first = first_tr(m, s);
     let tr = seek(m, on, sigmas, ignored, looked(label), first);
     let from = sigma_from(sigma, allowed, label, first);
-    SigmaIter::At(Cursor {
+    Ok(Cursor {
         on,
         label,
-        sigma: named,
+        sigma: sigma.label,
         labels: sigmas,
         both: rewrites_both(sigma),
         phase: Phase::Own,
-        loops: label.0 == EPS_LABEL.0,
+        loops: label == EPS_LABEL,
         tr,
         sigmas: from,
     })
@@ -150,8 +127,5 @@ pub fn has_sigma(
     ensures { let words = read_as on sigmas ignored.now m.now in
         result ≡ non_empty (sigma_trs (operand_of (on_of on) words sigma.0 0 None) s.0) }
 {
-    if sigma.0 == NO_LABEL.0 {
-        return false;
-    }
-    seek(m, on, sigmas, ignored, sigma, first_tr(m, s)) != 0
+    sigma != NO_LABEL && seek(m, on, sigmas, ignored, sigma, first_tr(m, s)) != 0
 }

@@ -29,7 +29,7 @@ pub fn sorted_iter(
         labels: sigmas,
         both: false,
         phase: Phase::Own,
-        loops: label.0 == EPS_LABEL.0,
+        loops: label == EPS_LABEL,
         tr,
         sigmas: 0,
     }

@@ -5,10 +5,9 @@ use Prim.Native.Nat.{ℕ}
 use Rattle.words.specs.Machines.{next_of}
 use Rattle.words.proofs.ReplacedLaws.{read_next}
 use Rattle.fst.specs.Meaning.{on_of, ignored_under}
-use Rattle.matchers.specs.Cursors.{held_words, moved_to, sigma_left, items_of, asked, cursor_of, step_means, moved_past}
+use Rattle.matchers.specs.Cursors.{held_words, moved_to, sigma_left, items_of, asked, Step, cursor_of, step_means, moved_past}
 use Rattle.matchers.specs.declared.Cursor.{Cursor}
 use Rattle.matchers.specs.declared.Phase.TheVariants.{Own, Sigmas}
-use Rattle.matchers.specs.declared.Step.{Step}
 use Rattle.matchers.proofs.Turns.{same_gives, own_end, own_end_place, next_own, own_turn, own_turn_place}
 use Rattle.matchers.proofs.own_next.Goals as goal
 

@@ -1,7 +1,6 @@
 use mathlib.Core.Path.{refl, ap}
 use native.Mathlib.Omega.{arith}
 use lib.ListN.{length}
-use borrow.Author.Tests.{eq-eqb, ne_eqb}
 use Rattle.words.proofs.ListLaws.{link, list_turn}
 use Rattle.words.proofs.ReplacedLaws.{read_count, read_next}
 use Rattle.fst.specs.Meaning.{on_of, ignored_under}
@@ -18,10 +17,10 @@ loop-at-init c =
     let a = c.args in
     (rw (read_count (on_of a.on) (ignored_under a.sigmas a.ignored.now) a.m.now, ← c.num_records.ensures) c.if-num_records-t.false, refl)
 
-pub returns-then-found-label : goal.returns-then-found-label
-returns-then-found-label c =
+pub returns-then-eq : goal.returns-then-eq
+returns-then-eq c =
     let l = c.loop-at.invariant in
-    rw (← l.1, with_turn _ _ _ _ c.loop-at-test.true l.0, ← c.inner_label-found.ensures, eq-eqb _ _ c.if-found-label.true)
+    rw (← l.1, with_turn _ _ _ _ c.loop-at-test.true l.0, ← c.inner_label.ensures, ← c.eq.ensures, c.if-eq.true)
 
 pub loop-at-smaller : goal.loop-at-smaller
 loop-at-smaller c =
@@ -33,7 +32,7 @@ pub loop-at-preserved : goal.loop-at-preserved
 loop-at-preserved c =
     let l = c.loop-at.invariant in
     let a = c.args in
-    rw (c.next_tr-at.ensures, ← read_next (on_of a.on) (ignored_under a.sigmas a.ignored.now) a.m.now c.loop-at.at) ((link _ _).inside, rw (with_turn _ _ _ _ c.loop-at-test.true l.0, ← c.inner_label-found.ensures, ne_eqb _ _ c.if-found-label.false) at l.1)
+    rw (c.next_tr-at.ensures, ← read_next (on_of a.on) (ignored_under a.sigmas a.ignored.now) a.m.now c.loop-at.at) ((link _ _).inside, rw (with_turn _ _ _ _ c.loop-at-test.true l.0, ← c.inner_label.ensures, ← c.eq.ensures, c.if-eq.false) at l.1)
 
 pub returns : goal.returns
 returns c = rw (← c.loop-at.invariant.1, with_end _ _ _ _ c.loop-at-test.false)
