@@ -1,5 +1,5 @@
 -- What the code's types stand for in 01's table, and a state's epsilons.
-use Rattle.std.specs.Prelude.{Bool, true, false, not, List, ℕ, eqb, Option, None, Some}
+use Rattle.std.specs.Prelude.{Bool, true, false, not, List, ℕ, eqb}
 use Rattle.lists.specs.Lists.{every}
 use Rattle.papers.specs.Filter.{MoveKind as Row, lone1, lone2, bothEpsilon, aLabel, Facts as Seen}
 use Rattle.words.specs.Labels.{eps_label}
@@ -8,8 +8,6 @@ use Rattle.words.specs.Machines.{machine_of, list_of}
 use Rattle.compose_filters.specs.declared.MoveKind.{MoveKind}
 use Rattle.compose_filters.specs.declared.MoveKind.TheVariants.{Lone1, Lone2, BothEpsilon, ALabel}
 use Rattle.compose_filters.specs.declared.Facts.{Facts}
-use Rattle.compose_filters.specs.declared.Filtered.{Filtered}
-use Rattle.compose_filters.specs.declared.Filtered.TheVariants.{Kept, Dropped}
 
 -- the rows: "1 alone", "2 alone", "both epsilon", "a label"
 abbrev pub move_means : MoveKind → Row
@@ -21,11 +19,6 @@ move_means ALabel = aLabel
 -- "For machine i, "none" .. "all" .." in the present states
 abbrev pub facts_mean : Facts → Seen
 facts_mean φ = record { none1 = φ.none1; all1 = φ.all1; none2 = φ.none2; all2 = φ.all2 }
-
--- a cell: the next f; none: "drop"
-abbrev pub filtered_means : Filtered → Option ℕ
-filtered_means (Kept f) = Some f
-filtered_means Dropped = None
 
 -- whether a label is epsilon where it is wanted, and is not where it is not
 abbrev pub as_wanted : Bool → Bool → Bool

@@ -14,7 +14,7 @@ ghost use Rattle.words.specs.Matches.{inputs, outputs};
 ghost use Rattle.words.specs.Filters.{none_at, all_at, facts_at, all_first, none_first, filter_of};
 ghost use Rattle.fst.specs.Meaning.{on_of, as_operand, read_as};
 ghost use Rattle.fst.specs.declared.MatchType.TheVariants.{MatchInput, MatchOutput};
-ghost use Rattle.compose_filters.specs.Meaning.{move_means, facts_mean, filtered_means, wanted_eps, epsilons_are};
+ghost use Rattle.compose_filters.specs.Meaning.{move_means, facts_mean, wanted_eps, epsilons_are};
 
 use fst::{EPS_LABEL, MatchType, Sigmas, StateId, first_tr, inner_label, is_final, next_tr};
 
@@ -36,20 +36,11 @@ pub struct Facts {
     pub all2: bool,
 }
 
-// A move is kept, with the next filter state, or dropped.
-#[derive(Clone, Copy)]
-pub enum Filtered {
-    Kept(u32),
-    Dropped,
-}
-
 // Whether record t has the inner label epsilon, or, where wanted is false, has not.
 fn eps_is(m: &[u32], on: MatchType, sigmas: Sigmas, ignored: &[u32], t: u32, wanted: bool) -> bool
     ensures { result ≡ wanted_eps wanted (on_of on) (read_as on sigmas ignored.now m.now) t }
 {
-    let label = inner_label(m, on, sigmas, ignored, t);
-    let eps = label.0 == EPS_LABEL.0;
-    if wanted { eps } else { !eps }
+    (inner_label(m, on, sigmas, ignored, t) == EPS_LABEL) == wanted
 }
 
 // Whether the state's list has only epsilons on a side, or, where wanted is false, none. Left at the first record that is otherwise.
@@ -86,10 +77,7 @@ pub fn no_eps(m: &[u32], on: MatchType, sigmas: Sigmas, ignored: &[u32], s: Stat
 pub fn all_eps(m: &[u32], on: MatchType, sigmas: Sigmas, ignored: &[u32], s: StateId) -> bool
     ensures { result ≡ all_at (as_operand (on_of on) (read_as on sigmas ignored.now m.now) no_label) s.0 }
 {
-    if is_final(m, s) {
-        return false;
-    }
-    epsilons_are(m, on, sigmas, ignored, s, true)
+    !is_final(m, s) && epsilons_are(m, on, sigmas, ignored, s, true)
 }
 
 // What a filter sees of a pair of states: machine 1 is matched on outputs, 2 on inputs.
@@ -111,35 +99,35 @@ pub fn facts_at(
     }
 }
 
-// A cell that asks for "all" first.
-fn all_first(all: bool, none: bool, g: u32) -> Filtered
-    ensures { filtered_means result ≡ all_first all none g }
+// A cell of the table: the next filter state; none: the move is dropped. This one asks for "all" first.
+fn all_first(all: bool, none: bool, g: u32) -> Option<u32>
+    ensures { result ≡ all_first all none g }
 {
     if all {
-        return Filtered::Dropped;
+        return None;
     }
     if none {
-        return Filtered::Kept(0);
+        return Some(0);
     }
-    Filtered::Kept(g)
+    Some(g)
 }
 
 // A cell that asks for "none" first.
-fn none_first(none: bool, all: bool, g: u32) -> Filtered
-    ensures { filtered_means result ≡ none_first none all g }
+fn none_first(none: bool, all: bool, g: u32) -> Option<u32>
+    ensures { result ≡ none_first none all g }
 {
     if none {
-        return Filtered::Kept(0);
+        return Some(0);
     }
     if all {
-        return Filtered::Dropped;
+        return None;
     }
-    Filtered::Kept(g)
+    Some(g)
 }
 
 // The table: filter 0 sequence, 1 alternate, 2 match, 3 null, 4 trivial, 5 no-match. A larger number is refused before it comes here.
-pub fn filter_tr(filter: u32, kind: MoveKind, facts: Facts, f: u32) -> Filtered
-    ensures { filtered_means result ≡ filter_of filter (move_means kind) (facts_mean facts) f }
+pub fn filter_tr(filter: u32, kind: MoveKind, facts: Facts, f: u32) -> Option<u32>
+    ensures { result ≡ filter_of filter (move_means kind) (facts_mean facts) f }
 {
     match filter {
         0 => sequence_compose_filter::filter_tr(kind, facts, f),

@@ -2,17 +2,17 @@
 ghost use Rattle.std.specs.Prelude.{◌≡◌, ℕ};
 ghost use Rattle.papers.specs.Filter.{Facts};
 ghost use Rattle.words.specs.Filters.{no_match};
-ghost use Rattle.compose_filters.specs.Meaning.{move_means, filtered_means};
+ghost use Rattle.compose_filters.specs.Meaning.{move_means};
 
-use crate::{Filtered, MoveKind};
+use crate::MoveKind;
 
-pub fn filter_tr(kind: MoveKind) -> Filtered
-    ensures { (φ : Facts) (f : ℕ) → filtered_means result ≡ no_match (move_means kind) φ f }
+pub fn filter_tr(kind: MoveKind) -> Option<u32>
+    ensures { (φ : Facts) (f : ℕ) → result ≡ no_match (move_means kind) φ f }
 {
     match kind {
-        MoveKind::Lone1 => Filtered::Kept(0),
-        MoveKind::Lone2 => Filtered::Kept(0),
-        MoveKind::BothEpsilon => Filtered::Dropped,
-        MoveKind::ALabel => Filtered::Kept(0),
+        MoveKind::Lone1 => Some(0),
+        MoveKind::Lone2 => Some(0),
+        MoveKind::BothEpsilon => None,
+        MoveKind::ALabel => Some(0),
     }
 }

@@ -6,10 +6,10 @@ use mathlib.Core.Bool.{and-false, and-true}
 use Rattle.compose_filters.specs.Meaning.{wanted_eps, epsilons_are}
 use Rattle.compose_filters.proofs.all_eps.Goals as goal
 
-pub returns-then-is_final : goal.returns-then-is_final
+pub returns-else-not-is_final : goal.returns-else-not-is_final
 unfolding all_at
-returns-then-is_final c = rw (read_state _ _ _ _ 1 (omega arith), ← c.is_final.ensures, c.if-is_final.true, and-false)
+returns-else-not-is_final c = rw (read_state _ _ _ _ 1 (omega arith), ← c.is_final.ensures, c.if-not-is_final.false, and-false)
 
-pub returns : goal.returns
+pub returns-then-not-is_final : goal.returns-then-not-is_final
 unfolding all_at epsilons_are wanted_eps
-returns c = rw (read_state _ _ _ _ 1 (omega arith), ← c.is_final.ensures, c.if-is_final.false, and-true) c.epsilons_are.ensures
+returns-then-not-is_final c = rw (read_state _ _ _ _ 1 (omega arith), ← c.is_final.ensures, c.if-not-is_final.true, and-true) c.epsilons_are.ensures
