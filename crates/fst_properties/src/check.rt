@@ -10,12 +10,14 @@ use crate::properties::{acceptor, sorted};
 use fst::{MatchType, NO_SIGMAS, acceptor_mark, side_mark};
 
 // "Malformed is judged on the machines as lent": no label is ignored.
+#[tactic(auto, using(words::proofs::ReplacedLaws::read_none))]
 fn lent_sorted(m: &[u32], on: MatchType) -> bool
     ensures { result ≡ sortedOf (on_of on) (machine_of m.now) }
 {
     sorted(m, on, NO_SIGMAS, &m[0..0])
 }
 
+#[tactic(auto, using(words::proofs::ReplacedLaws::read_none))]
 fn lent_acceptor(m: &[u32]) -> bool
     ensures { result ≡ acceptorOf m.now }
 {
@@ -27,15 +29,9 @@ fn side_mark_ok(m: &[u32], on: MatchType, rising: bool) -> bool
     requires { rising ≡ true → side_mark (on_of on) m.now ≡ 1 → sortedOf (on_of on) (machine_of m.now) ≡ true }
     ensures { result ≡ side_mark_ok (side_mark (on_of on) m.now) (sortedOf (on_of on) (machine_of m.now)) }
 {
-    let mark = side_mark(m, on);
-    match mark {
+    match side_mark(m, on) {
         0 => true,
-        1 => {
-            if rising {
-                return true;
-            }
-            lent_sorted(m, on)
-        }
+        1 => rising || lent_sorted(m, on),
         2 => !lent_sorted(m, on),
         _ => false,
     }
@@ -44,25 +40,21 @@ fn side_mark_ok(m: &[u32], on: MatchType, rising: bool) -> bool
 fn acceptor_mark_ok(m: &[u32]) -> bool
     ensures { result ≡ acceptor_mark_ok (acceptor_mark m.now) (acceptorOf m.now) }
 {
-    let mark = acceptor_mark(m);
-    match mark {
+    match acceptor_mark(m) {
         0 => true,
         1 => lent_acceptor(m),
         _ => false,
     }
 }
 
+#[tactic(auto, unfolding(words::specs::Machines::marks_ok))]
 fn marks_ok(m: &[u32], rising: bool) -> bool
     requires { rising ≡ true → (on : Side) → side_mark on m.now ≡ 1 → sortedOf on (machine_of m.now) ≡ true }
     ensures { result ≡ marks_ok m.now }
 {
-    if !side_mark_ok(m, MatchType::MatchInput, rising) {
-        return false;
-    }
-    if !side_mark_ok(m, MatchType::MatchOutput, rising) {
-        return false;
-    }
-    acceptor_mark_ok(m)
+    side_mark_ok(m, MatchType::MatchInput, rising)
+        && side_mark_ok(m, MatchType::MatchOutput, rising)
+        && acceptor_mark_ok(m)
 }
 
 // Whether the form is good, and no label falls from a record to its next on a side whose mark is 1.
@@ -75,14 +67,12 @@ fn formed_and_rising(m: &[u32]) -> bool
 }
 
 // The form, then the marks. Where a label falls, the record may be in no list: then the form is looked at by itself, and sortedness is asked for on a side whose mark is 1.
+#[tactic(auto, using(crate::proofs::Fits::marked_sorted, crate::proofs::Fits::marks_left, crate::proofs::Fits::form_broken))]
 pub fn well_formed(m: &[u32]) -> bool
     ensures { result ≡ well_formed m.now }
 {
     if formed_and_rising(m) {
         return marks_ok(m, true);
     }
-    if !form_fits(m, false, false) {
-        return false;
-    }
-    marks_ok(m, false)
+    form_fits(m, false, false) && marks_ok(m, false)
 }

@@ -28,18 +28,15 @@ struct Asked {
     outputs: bool,
 }
 
+#[tactic(auto, unfolding(words::specs::Machines::size_up_to))]
 fn size_ok(m: &[u32]) -> bool
     ensures { result ≡ size_ok m.now }
 {
     let s = num_states(m);
-    if LIMIT < s {
-        return false;
-    }
     let t = num_records(m);
-    if LIMIT < t {
-        return false;
-    }
-    m.len() == HEADER_WORDS + STATE_WORDS * (s as usize) + TR_WORDS * (t as usize)
+    s <= LIMIT
+        && t <= LIMIT
+        && m.len() == HEADER_WORDS + STATE_WORDS * (s as usize) + TR_WORDS * (t as usize)
 }
 
 fn start_ok(m: &[u32]) -> bool
@@ -49,35 +46,31 @@ fn start_ok(m: &[u32]) -> bool
 }
 
 // A first at most T; final 0 or 1, and 0 with the weight 0.
+#[tactic(auto, unfolding(words::specs::Machines::state_ok, words::specs::Machines::first_ok))]
 fn state_ok(m: &[u32], s: StateId) -> bool
     requires { (size_ok m.now ≡ true) × (s.0 < state_count m.now) }
     ensures { result ≡ state_ok m.now s.0 }
 {
-    if num_records(m) < sized_state_word(m, s, FIRST) {
-        return false;
-    }
-    let is_final = sized_state_word(m, s, FINAL);
-    match is_final {
-        0 => sized_state_word(m, s, FINAL_WEIGHT) == 0,
-        1 => true,
-        _ => false,
-    }
+    sized_state_word(m, s, FIRST) <= num_records(m)
+        && match sized_state_word(m, s, FINAL) {
+            0 => sized_state_word(m, s, FINAL_WEIGHT) == 0,
+            1 => true,
+            _ => false,
+        }
 }
 
 // Left by the label at the first bad record of a state.
+#[tactic(auto, using(lists::proofs::Runs::run_turn, lists::proofs::Runs::run_end))]
 fn states_ok(m: &[u32]) -> bool
     requires { size_ok m.now ≡ true }
     ensures { result ≡ every (state_ok m.now) (interval 0 (state_count m.now)) }
 {
-    let n = num_states(m);
     let mut ok = true;
-    let mut s: u32 = 0;
-    'states: while s < n {
+    'states: for s in 0..num_states(m) {
         if !state_ok(m, StateId(s)) {
             ok = false;
             break 'states;
         }
-        s += 1;
     }
     ok
 }
@@ -87,55 +80,43 @@ fn ends_ok(m: &[u32], asked: Asked, t: u32) -> bool
     requires { (size_ok m.now ≡ true) × AskedOf m.now asked × IsRecord m.now t }
     ensures { result ≡ (ltb (tr_word m.now t 0) no_label && (ltb (tr_word m.now t 1) no_label && ltb (tr_word m.now t 3) (state_count m.now))) }
 {
-    if NO_LABEL.0 <= sized_word(m, asked.base, t, INPUT) {
-        return false;
-    }
-    if NO_LABEL.0 <= sized_word(m, asked.base, t, OUTPUT) {
-        return false;
-    }
-    sized_word(m, asked.base, t, TARGET) < asked.states
+    sized_word(m, asked.base, t, INPUT) < NO_LABEL.0
+        && sized_word(m, asked.base, t, OUTPUT) < NO_LABEL.0
+        && sized_word(m, asked.base, t, TARGET) < asked.states
 }
 
 // Where it is asked: the label of t on a side is not above that of its next.
+#[tactic(auto, unfolding(crate::specs::RecordTests::rises), using(crate::proofs::Fits::word_small, crate::proofs::Fits::rises_words, words::proofs::ListLaws::link))]
 fn rises_if(m: &[u32], base: usize, asked: bool, on: MatchType, t: u32, next: u32) -> bool
     requires { (size_ok m.now ≡ true) × (base ≡ record_base m.now) × IsRecord m.now t × (0 < next) × (next ≡ next_of m.now t) }
     ensures { result ≡ rises_if asked (on_of on) m.now t }
 {
-    if !asked {
-        return true;
-    }
     let k = word_on(on);
-    let low = sized_word(m, base, t, k);
-    let high = sized_word(m, base, next, k);
-    low <= high
+    !asked || sized_word(m, base, t, k) <= sized_word(m, base, next, k)
 }
 
 // The next of t, which is not 0, is up to T and above t, and no label falls to it on the sides that are asked for. A record is above another if it begins after it, which costs less to ask than
 // their numbers.
+#[tactic(auto, using(crate::proofs::Fits::next_low, crate::proofs::Fits::next_high, crate::proofs::Fits::next_good, crate::proofs::Fits::next_word))]
 fn link_ok(m: &[u32], asked: Asked, t: u32, place: usize, next: u32) -> bool
     requires { (size_ok m.now ≡ true) × AskedOf m.now asked × IsRecord m.now t × (place ≡ record_base m.now + tr_words * t) × (0 < next) × (next ≡ tr_word m.now t 4) }
     ensures { result ≡ (next_ok m.now t && (rises_if asked.inputs onInputs m.now t && rises_if asked.outputs onOutputs m.now t)) }
 {
-    if asked.records < next {
-        return false;
-    }
-    if asked.base + TR_WORDS * (next as usize) <= place {
-        return false;
-    }
-    if !rises_if(m, asked.base, asked.inputs, MatchType::MatchInput, t, next) {
-        return false;
-    }
-    rises_if(
-        m,
-        asked.base,
-        asked.outputs,
-        MatchType::MatchOutput,
-        t,
-        next,
-    )
+    next <= asked.records
+        && place < asked.base + TR_WORDS * (next as usize)
+        && rises_if(m, asked.base, asked.inputs, MatchType::MatchInput, t, next)
+        && rises_if(
+            m,
+            asked.base,
+            asked.outputs,
+            MatchType::MatchOutput,
+            t,
+            next,
+        )
 }
 
 // Record t, which begins at `place`, has a good form, and no label falls from it on the sides that are asked for.
+#[tactic(auto, using(crate::proofs::Fits::fits_parts, crate::proofs::Fits::fits_last))]
 fn fits(m: &[u32], asked: Asked, t: u32, place: usize) -> bool
     requires { (size_ok m.now ≡ true) × AskedOf m.now asked × IsRecord m.now t × (place ≡ record_base m.now + tr_words * t) }
     ensures { result ≡ fits_of asked.inputs asked.outputs m.now t }
@@ -144,53 +125,38 @@ fn fits(m: &[u32], asked: Asked, t: u32, place: usize) -> bool
         return false;
     }
     let next = sized_word(m, asked.base, t, NEXT);
-    if next == 0 {
-        return true;
-    }
-    link_ok(m, asked, t, place, next)
+    next == 0 || link_ok(m, asked, t, place, next)
 }
 
 // Whether all records fit. Left by the label at the first that does not.
+#[tactic(auto, using(lists::proofs::Runs::run_turn, lists::proofs::Runs::run_end, fst_reads::proofs::Inside::sized))]
 fn all_fit(m: &[u32], inputs: bool, outputs: bool) -> bool
     requires { size_ok m.now ≡ true }
     ensures { result ≡ every (fits_of inputs outputs m.now) (interval 1 (tr_count m.now)) }
 {
-    let base = record_base(m);
-    let states = num_states(m);
-    let records = num_records(m);
     let asked = Asked {
-        base,
-        states,
-        records,
+        base: record_base(m),
+        states: num_states(m),
+        records: num_records(m),
         inputs,
         outputs,
     };
     let mut ok = true;
-    let mut done: u32 = 0;
-    let mut place = base + TR_WORDS;
-    'records: while done < records {
+    let mut place = asked.base + TR_WORDS;
+    'records: for done in 0..asked.records {
         if !fits(m, asked, done + 1, place) {
             ok = false;
             break 'records;
         }
-        done += 1;
         place += TR_WORDS;
     }
     ok
 }
 
 // Whether the form is good, and no label falls from a record to its next on the sides that are asked for.
+#[tactic(auto, unfolding(crate::specs::RecordTests::form_fits))]
 pub fn form_fits(m: &[u32], inputs: bool, outputs: bool) -> bool
     ensures { result ≡ form_fits inputs outputs m.now }
 {
-    if !size_ok(m) {
-        return false;
-    }
-    if !start_ok(m) {
-        return false;
-    }
-    if !states_ok(m) {
-        return false;
-    }
-    all_fit(m, inputs, outputs)
+    size_ok(m) && start_ok(m) && states_ok(m) && all_fit(m, inputs, outputs)
 }

@@ -15,7 +15,7 @@ use fst::{
 fn least(n: u32, room: usize) -> u32
     ensures { result ≡ min n room }
 {
-    if (n as usize) <= room { n } else { room as u32 }
+    (n as usize).min(room) as u32
 }
 
 // Walks the list of each state, down to a record that an earlier walk has seen: from there on no label falls. So each record that has a bit in `seen` is
@@ -27,13 +27,12 @@ fn lists_sorted(m: &[u32], on: MatchType, sigmas: Sigmas, ignored: &[u32], recor
     let n = least(num_states(m), m.len() / STATE_WORDS);
     let mut seen = [0u32; SEEN_WORDS];
     let mut ok = true;
-    let mut s: u32 = 0;
-    'states: while s < n {
+    'states: for s in 0..n {
         let mut low = EPS_LABEL;
         let mut t = first_tr(m, StateId(s));
         'list: while t != 0 {
             let label = inner_label(m, on, sigmas, ignored, t);
-            if label.0 < low.0 {
+            if label < low {
                 ok = false;
                 break 'states;
             }
@@ -44,20 +43,18 @@ fn lists_sorted(m: &[u32], on: MatchType, sigmas: Sigmas, ignored: &[u32], recor
             low = label;
             t = next_tr(m, t);
         }
-        s += 1;
     }
     ok
 }
 
 // Whether no label falls within any list. Where no record falls against its next, no list is walked.
+#[tactic(auto, using(crate::proofs::Falls::near_sorted, words::proofs::ReplacedLaws::read_count, words::proofs::ReplacedLaws::read_length))]
 pub fn sorted(m: &[u32], on: MatchType, sigmas: Sigmas, ignored: &[u32]) -> bool
     ensures { result ≡ sortedOf (on_of on) (machine_of (read_as on sigmas ignored.now m.now)) }
 {
     let n = least(num_records(m), m.len() / TR_WORDS);
-    if all_records(m, on, sigmas, ignored, RecordTest::Rises, n) {
-        return true;
-    }
-    lists_sorted(m, on, sigmas, ignored, n)
+    all_records(m, on, sigmas, ignored, RecordTest::Rises, n)
+        || lists_sorted(m, on, sigmas, ignored, n)
 }
 
 // Whether input equals output in every record, in a list or not.
@@ -69,17 +66,12 @@ pub fn acceptor(m: &[u32], on: MatchType, sigmas: Sigmas, ignored: &[u32]) -> bo
 }
 
 // The acceptor mark as it is read: 0 where replaced labels make it false.
+#[tactic(auto, using(words::proofs::ReplacedLaws::acceptor_mark_read, words::proofs::ReplacedLaws::otherwise_none, words::proofs::ReplacedLaws::otherwise_some))]
 pub fn inner_acceptor_mark(m: &[u32], on: MatchType, sigmas: Sigmas, ignored: &[u32]) -> u32
     ensures { result ≡ acceptor_mark (read_as on sigmas ignored.now m.now) }
 {
     let mark = acceptor_mark(m);
-    if ignored.len() == 0 {
-        return mark;
-    }
-    if mark == 0 {
-        return 0;
-    }
-    if acceptor(m, on, sigmas, ignored) {
+    if ignored.is_empty() || mark == 0 || acceptor(m, on, sigmas, ignored) {
         mark
     } else {
         0

@@ -14,33 +14,24 @@ pub enum RecordTest {
     Rises,
 }
 
+#[tactic(auto, using(words::proofs::ReplacedLaws::read_word))]
 fn same_labels(m: &[u32], on: MatchType, sigmas: Sigmas, ignored: &[u32], t: u32) -> bool
     ensures { let words = read_as on sigmas ignored.now m.now in
         result ≡ eqb (tr_word words t 0) (tr_word words t 1) }
 {
     let inner = inner_label(m, on, sigmas, ignored, t);
     match on {
-        MatchType::MatchInput => {
-            let olabel = label_on(m, MatchType::MatchOutput, t);
-            inner.0 == olabel.0
-        }
-        MatchType::MatchOutput => {
-            let ilabel = label_on(m, MatchType::MatchInput, t);
-            ilabel.0 == inner.0
-        }
+        MatchType::MatchInput => inner == label_on(m, MatchType::MatchOutput, t),
+        MatchType::MatchOutput => inner == label_on(m, MatchType::MatchInput, t),
     }
 }
 
+#[tactic(auto, unfolding(crate::specs::RecordTests::rises), using(words::proofs::ReplacedLaws::read_next))]
 fn rises(m: &[u32], on: MatchType, sigmas: Sigmas, ignored: &[u32], t: u32) -> bool
     ensures { result ≡ risesOf (on_of on) (read_as on sigmas ignored.now m.now) t }
 {
     let next = next_tr(m, t);
-    if next == 0 {
-        return true;
-    }
-    let low = inner_label(m, on, sigmas, ignored, t);
-    let high = inner_label(m, on, sigmas, ignored, next);
-    low.0 <= high.0
+    next == 0 || inner_label(m, on, sigmas, ignored, t) <= inner_label(m, on, sigmas, ignored, next)
 }
 
 fn passes(
@@ -60,6 +51,7 @@ fn passes(
 }
 
 // Whether the records 1 to n pass. Left by the label at the first that does not.
+#[tactic(auto, using(lists::proofs::Runs::run_turn, lists::proofs::Runs::run_end))]
 pub fn all_records(
     m: &[u32],
     on: MatchType,
@@ -71,13 +63,11 @@ pub fn all_records(
     ensures { result ≡ every (test_of test (on_of on) (read_as on sigmas ignored.now m.now)) (interval 1 n) }
 {
     let mut ok = true;
-    let mut done: u32 = 0;
-    'records: while done < n {
+    'records: for done in 0..n {
         if !passes(m, on, sigmas, ignored, test, done + 1) {
             ok = false;
             break 'records;
         }
-        done += 1;
     }
     ok
 }

@@ -9,6 +9,7 @@ const SEEN: u32 = 65536;
 pub const SEEN_WORDS: usize = 2048;
 
 // The number of record t's bit, of n records; SEEN where it has none.
+#[tactic(auto, unfolding(crate::specs::Seen::bit_of, crate::specs::Seen::step_of))]
 fn bit_of(n: u32, t: u32) -> u32
     ensures { result ≡ bit_of n t }
 {
@@ -17,23 +18,21 @@ fn bit_of(n: u32, t: u32) -> u32
 }
 
 // Whether record t was walked, of n records.
+#[tactic(auto, unfolding(crate::specs::Seen::seen_in, crate::specs::Seen::bit_in))]
 pub fn is_seen(seen: &[u32; SEEN_WORDS], n: u32, t: u32) -> bool
     ensures { result ≡ seen_in n seen.now t }
 {
     let i = bit_of(n, t);
-    if i < SEEN {
-        return (seen[(i / 32) as usize] >> (i % 32)) % 2 == 1;
-    }
-    false
+    i < SEEN && (seen[(i / 32) as usize] >> (i % 32)) % 2 == 1
 }
 
 // Record t was walked, of n records.
+#[tactic(auto, unfolding(crate::specs::Seen::seen_with, crate::specs::Seen::bit_with), using(crate::proofs::Bits::shifted))]
 pub fn see(seen: &mut [u32; SEEN_WORDS], n: u32, t: u32)
     ensures { seen.new ≡ seen_with n seen.old t }
 {
     let bit = bit_of(n, t);
     if bit < SEEN {
-        let i = (bit / 32) as usize;
-        seen[i] = seen[i] | (1 << (bit % 32));
+        seen[(bit / 32) as usize] |= 1 << (bit % 32);
     }
 }

@@ -1,5 +1,5 @@
 -- What is left from here on gives what the whole run gives; at an exit the record in hand fails.
-use Prim.Native.Nat.{◌+◌, ◌-◌, ◌≤◌}
+use Prim.Native.Nat.{◌+◌, ◌-◌}
 use mathlib.Core.Path.{◌≡◌}
 use mathlib.Core.Bool.{true}
 use Rattle.lists.specs.Lists.{every, interval}
@@ -10,7 +10,4 @@ use Rattle.fst_properties.proofs.records.all_records.Given as goal
 abbrev pub invariant-records : goal.invariant-records
 invariant-records l =
     let asked = test_of l.test (on_of l.on) (read_as l.on l.sigmas l.ignored l.m) in
-    (l.ok ≡ true) × (l.done ≤ l.n) × (every asked (interval (l.done + 1) (l.n - l.done)) ≡ every asked (interval 1 l.n))
-
-abbrev pub decreases-records : goal.decreases-records
-decreases-records l = l.n - l.done
+    (l.ok ≡ true) × (every asked (interval (l.done + 1) (l.n - l.done)) ≡ every asked (interval 1 l.n))
