@@ -1,4 +1,3 @@
 pub mod ChainTurns
-pub mod Cleared
 pub mod FindRest
 pub mod Placed

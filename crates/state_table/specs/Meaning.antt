@@ -1,15 +1,8 @@
--- What a look-up in the table stands for in `find` of `calls`, and what finding or adding stands for.
+-- What a link of a chain stands for, and what finding or adding a state stands for in `place` of `stored_steps`.
 use Rattle.std.specs.Prelude.{List, ℕ, zero, suc, ◌+◌, Option, None, Some}
 use Rattle.calls.specs.Calls.{Reached as Place}
 use Rattle.store_records.specs.Meaning.{stored}
-use Rattle.state_table.specs.declared.FoundState.{FoundState}
-use Rattle.state_table.specs.declared.FoundState.TheVariants.{At, Missing}
 use Rattle.state_table.specs.declared.Reached.{Reached}
-
--- the state with a triple; none: it is not in the table
-abbrev pub found_means : FoundState → Option ℕ
-found_means (At s) = Some s.0
-found_means Missing = None
 
 -- the state to which a link leads; 0 leads to none
 abbrev pub link_means : ℕ → Option ℕ

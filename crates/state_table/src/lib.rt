@@ -8,19 +8,12 @@ ghost use Rattle.lists.specs.Lists.{first, linked};
 ghost use Rattle.calls.specs.Store.{room_of, state_size, triple_at, next_at, slot as slot_of, same_triple, find, add};
 ghost use Rattle.compose_state_tuple.specs.Meaning.{tuple_means};
 ghost use Rattle.store_records.specs.Meaning.{stored};
-ghost use Rattle.state_table.specs.Meaning.{found_means};
+ghost use Rattle.fst.specs.Meaning.{number_if};
 
 use compose_state_tuple::{ComposeStateTuple, same_tuple};
 use fst::{StateId, word};
 pub use placing::find_or_add;
 use store_records::{get_tuple, next_of, push_state, store};
-
-// A state of the table, or none with the triple.
-#[derive(Clone, Copy)]
-pub enum FoundState {
-    At(StateId),
-    Missing,
-}
 
 // The state of a triple, and how many states are used with it.
 #[derive(Clone, Copy)]
@@ -48,28 +41,31 @@ fn has_tuple(states: &[u32], n: StateId, tuple: ComposeStateTuple) -> bool
 }
 
 // The first state with the triple along the chain from a link, within `most` steps.
-fn find_along(states: &[u32], from: u32, most: u32, tuple: ComposeStateTuple) -> FoundState
-    ensures { found_means result ≡ first (λ n. same_triple (triple_at states.now n) (tuple_means tuple)) (linked (next_at states.now) most from) }
+fn find_along(states: &[u32], from: u32, most: u32, tuple: ComposeStateTuple) -> Option<StateId>
+    ensures { number_if result ≡ first (λ n. same_triple (triple_at states.now n) (tuple_means tuple)) (linked (next_at states.now) most from) }
 {
     let mut link = from;
-    let mut left = most;
-    while left > 0 {
+    for _ in 0..most {
         if link == 0 {
-            return FoundState::Missing;
+            return None;
         }
         let n = StateId(link - 1);
         if has_tuple(states, n, tuple) {
-            return FoundState::At(n);
+            return Some(n);
         }
         link = next_of(states, n);
-        left -= 1;
     }
-    FoundState::Missing
+    None
 }
 
 // The number of a triple, on any memory.
-pub fn find_id(heads: &[u32], states: &[u32], used: u32, tuple: ComposeStateTuple) -> FoundState
-    ensures { (trs : List ℕ) (k : ℕ) → found_means result ≡ find (stored heads.now states.now trs used k) (tuple_means tuple) }
+pub fn find_id(
+    heads: &[u32],
+    states: &[u32],
+    used: u32,
+    tuple: ComposeStateTuple,
+) -> Option<StateId>
+    ensures { (trs : List ℕ) (k : ℕ) → number_if result ≡ find (stored heads.now states.now trs used k) (tuple_means tuple) }
 {
     let head = word(heads, slot(heads, tuple));
     find_along(states, head, used, tuple)
@@ -92,9 +88,5 @@ pub fn add_state(heads: &mut [u32], states: &mut [u32], used: u32, tuple: Compos
 pub fn clear_heads(heads: &mut [u32])
     ensures { heads.new ≡ map (λ h. 0) heads.old }
 {
-    let mut i: usize = 0;
-    while i < heads.len() {
-        heads[i] = 0;
-        i += 1;
-    }
+    heads.fill(0);
 }
