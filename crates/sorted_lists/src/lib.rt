@@ -53,15 +53,11 @@ fn find_straight(m: &[u32], l: SortedList, x: Label) -> u32
     requires { Known m.now l × (eps_label < x.0) × (l.straight ≡ true) }
     ensures { result ≡ head0 (with_label (on_of l.on) m.now x.0 l.first) }
 {
-    let on = l.on;
-    let zero = l.base + word_on(on);
+    let zero = l.base + word_on(l.on);
     let from = zero + TR_WORDS * ((l.first + l.eps) as usize);
     let count = l.len - l.eps;
     let p = seek(m, from, count, x.0);
-    if p == from + TR_WORDS * count as usize {
-        return 0;
-    }
-    if m[p] != x.0 {
+    if p == from + TR_WORDS * count as usize || m[p] != x.0 {
         return 0;
     }
     ((p - zero) / TR_WORDS) as u32
@@ -72,8 +68,7 @@ fn scan(m: &[u32], l: SortedList, x: Label) -> u32
     requires { Known m.now l }
     ensures { result ≡ head0 (with_label (on_of l.on) m.now x.0 l.first) }
 {
-    let on = l.on;
-    let k = word_on(on);
+    let k = word_on(l.on);
     let mut u = l.first;
     while u != 0 {
         let y = word_at(m, l.base, u, k);

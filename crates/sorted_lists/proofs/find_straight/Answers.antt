@@ -2,6 +2,7 @@
 use native.Mathlib.Omega.{arith}
 use borrow.Author.Rules.{rules}
 use Rattle.sorted_lists.proofs.Ends.{few, bounds, asks, at_end, at_other, at_label, in_range, numbered}
+use Rattle.sorted_lists.proofs.find_straight.Goals.{then-p-from-via-then-p-from, then-p-from-via-else-p-from+then-m-p}
 use Rattle.sorted_lists.proofs.find_straight.Goals as goal
 
 pub overflow_add-zero : goal.overflow_add-zero
@@ -40,12 +41,6 @@ overflow_add-from-3 c =
     let q = (asks _ _ p.0 p.2 _ c.word_on.ensures).0 in
     search rules
 
--- past the last record
-pub returns-then-p-from : goal.returns-then-p-from
-returns-then-p-from c =
-    let p = c.requires in
-    at_end _ _ p.0 p.2 _ c.word_on.ensures _ _ p.1 c.seek-p.ensures c.if-p-from.true
-
 pub offset_bounds-m-p : goal.offset_bounds-m-p
 offset_bounds-m-p c =
     let p = c.requires in
@@ -58,11 +53,14 @@ bounds-m-p c =
     let q = in_range _ _ p.0 p.2 _ c.word_on.ensures _ _ p.1 c.seek-p.ensures c.if-p-from.false in
     search rules
 
--- at another label
-pub returns-then-m-p : goal.returns-then-m-p
-returns-then-m-p c =
+-- past the last record, or at another label
+pub returns-then-p-from : goal.returns-then-p-from
+returns-then-p-from c =
     let p = c.requires in
-    at_other _ _ p.0 p.2 _ c.word_on.ensures _ _ p.1 c.seek-p.ensures c.if-p-from.false c.if-m-p.true
+    elim c.then-p-from.branch [
+      | then-p-from-via-then-p-from w ↦ at_end _ _ p.0 p.2 _ c.word_on.ensures _ _ p.1 c.seek-p.ensures w.if-p-from.true
+      | then-p-from-via-else-p-from+then-m-p w ↦ at_other _ _ p.0 p.2 _ c.word_on.ensures _ _ p.1 c.seek-p.ensures w.if-p-from.false w.if-m-p.true
+    ]
 
 pub overflow_sub-result : goal.overflow_sub-result
 overflow_sub-result c =
