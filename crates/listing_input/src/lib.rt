@@ -1,7 +1,7 @@
 // An input, as standard input, read into the listing's lines and a query. Where a read fails, the line that is being read is never taken for a whole one.
 #![tactic(auto)]
 
-ghost use Rattle.std.specs.Prelude.{◌≡◌, [], ◌∷◌, IfSome};
+ghost use Rattle.std.specs.Prelude.{◌≡◌, ◌≤◌, [], ◌∷◌, IfSome, length};
 ghost use Rattle.listing_text.specs.Chunks.{in_rooms, read_bytes};
 ghost use Rattle.listing_read.specs.Meaning.{read_input, rooms_of};
 ghost use Rattle.listing_read.specs.Held.{held, held_bytes};
@@ -9,9 +9,6 @@ ghost use Rattle.listing_input.specs.Read.{handed_on, reads_on, Reads, ReadsFrom
 
 use listing_read::{Reader, new_reader, read_chunk};
 use std::io::Read;
-
-// More reads than can be made: at a thousand million a second they take 584 years.
-const MOST_CHUNKS: u64 = 18446744073709551615;
 
 // A byte that is of no word: the line that is being read is not of words, and never taken for a whole one.
 fn spoil(
@@ -35,13 +32,14 @@ fn spoil(
 // What a read hands on, read: the bytes of the chunk that came, or a byte of no word where it failed.
 fn after_read(
     r: Reader,
-    got: isize,
+    got: Option<usize>,
     chunk: &[u8],
     settings: &mut [u32],
     first: &mut [u32],
     second: &mut [u32],
     query: &mut [u32],
 ) -> Reader
+    requires { IfSome got (λ n. n ≤ length chunk.now) }
     ensures input_after { let rooms = rooms_of settings.old first.old second.old query.old in
         let input = read_input r settings.old first.old second.old query.old in
         let input' = read_input result settings.new first.new second.new query.new in
@@ -50,31 +48,25 @@ fn after_read(
         let words' = held result settings.new first.new second.new query.new in
         words' ≡ held_bytes words (handed_on got chunk.now) }
 {
-    if got < 0 {
+    let Some(n) = got else {
         return spoil(r, settings, first, second, query);
-    }
-    let n = io::count(got, chunk);
+    };
     read_chunk(r, &chunk[..n], settings, first, second, query)
 }
 
 // Whether to read on for so many lines, where the reader is in line `at` after a read.
-fn reads_on(lines: u32, at: u32, got: isize) -> bool
+fn reads_on(lines: u32, at: u32, got: Option<usize>) -> bool
     ensures { result ≡ reads_on lines at got }
 {
-    if lines <= at {
-        return false;
-    }
-    got > 0
+    at < lines && got.is_some_and(|n| n > 0)
 }
 
-// A read of the input: how many bytes came, 0 at its end, or -1 where it failed.
-fn read_some<R: Read>(input: &mut R, chunk: &mut [u8]) -> isize
-    ensures { Took (R.remaining input.old) (R.remaining input.new) result chunk.new }
+// A read of the input: how many bytes came, 0 at its end, or None where it failed.
+fn read_some<R: Read>(input: &mut R, chunk: &mut [u8]) -> Option<usize>
+    ensures took { Took (R.remaining input.old) (R.remaining input.new) result chunk.new }
+    ensures in_chunk { IfSome result (λ n. n ≤ length chunk.new) }
 {
-    match input.read(chunk) {
-        Ok(n) => n as isize,
-        Err(_) => -1,
-    }
+    input.read(chunk).ok()
 }
 
 // Reads up to line feed number `lines`, the end of the input or a read that fails. Where the chunks are used up, the line that is being read is spoiled.
@@ -94,14 +86,13 @@ pub fn read_lines<R: Read>(
 {
     let mut chunk = io::large_buffer();
     let mut r = new_reader();
-    let mut left = MOST_CHUNKS;
-    while left > 0 {
+    // More reads than can be made: at a thousand million a second they take 584 years.
+    for _ in 0..u64::MAX {
         let got = read_some(input, &mut chunk);
         r = after_read(r, got, &chunk, settings, first, second, query);
         if !reads_on(lines, r.at, got) {
             return r;
         }
-        left -= 1;
     }
     spoil(r, settings, first, second, query)
 }
