@@ -8,7 +8,7 @@ ghost use Rattle.compose_state_tuple.specs.Meaning.{tuple_means};
 use fst::StateId;
 
 // A composed state: the filter state, and the state of each machine.
-#[derive(Clone, Copy)]
+#[derive(Clone, Copy, PartialEq, Eq)]
 pub struct ComposeStateTuple {
     pub fs: u32,
     pub s1: StateId,
@@ -18,11 +18,5 @@ pub struct ComposeStateTuple {
 pub fn same_tuple(a: ComposeStateTuple, b: ComposeStateTuple) -> bool
     ensures { result ≡ same_triple (tuple_means a) (tuple_means b) }
 {
-    if a.s1.0 != b.s1.0 {
-        return false;
-    }
-    if a.s2.0 != b.s2.0 {
-        return false;
-    }
-    a.fs == b.fs
+    a == b
 }
