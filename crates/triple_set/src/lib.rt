@@ -7,7 +7,7 @@ ghost use Rattle.triple_set.specs.Sets.{set_of, taken_means, take_of, mark_of};
 
 use compose_state_tuple::ComposeStateTuple;
 use fst::word;
-use state_table::{FoundState, add_state, find_id};
+use state_table::{add_state, find_id};
 use store_records::{state_room, store};
 
 // The words of the records of a set that holds 2048 triples.
@@ -33,13 +33,9 @@ pub fn take(
 ) -> Taken
     ensures { taken_means result heads.new records.new ≡ take_of wanted (set_of heads.old records.old held) (tuple_means tuple) }
 {
-    if !wanted {
+    if !wanted || find_id(heads, records, held, tuple).is_some() {
         return Taken { full: false, held };
     }
-    let found = find_id(heads, records, held, tuple);
-    let FoundState::Missing = found else {
-        return Taken { full: false, held };
-    };
     if state_room(records) <= held {
         return Taken { full: true, held };
     }
@@ -60,8 +56,7 @@ pub fn mark(
 ) -> u32
     ensures { (result, marks.new) ≡ mark_of (set_of heads.now records.now held) marks.old (tuple_means tuple) }
 {
-    let found = find_id(heads, records, held, tuple);
-    let FoundState::At(n) = found else {
+    let Some(n) = find_id(heads, records, held, tuple) else {
         return 0;
     };
     let at = n.0 as usize;

@@ -6,12 +6,12 @@ use Rattle.triple_set.proofs.mark.Goals as goal
 
 pub returns-in_default : goal.returns-in_default
 unfolding mark_of
-returns-in_default c = rw (← c.find_id-found.ensures [] 0, c.in_default.is)
+returns-in_default c = rw (← c.find_id.ensures [] 0, c.in_default.is)
 
 pub returns-then-word-ne0 : goal.returns-then-word-ne0
 unfolding mark_of
-returns-then-word-ne0 c = rw (← c.find_id-found.ensures [] 0, c.in-At.is, ne_eqb _ _ (rw c.word.ensures at c.if-word-ne0.true))
+returns-then-word-ne0 c = rw (← c.find_id.ensures [] 0, c.in-Some.is, ne_eqb _ _ (rw c.word.ensures at c.if-word-ne0.true))
 
 pub returns : goal.returns
 unfolding mark_of
-returns c = rw (← c.find_id-found.ensures [] 0, c.in-At.is, eq-eqb _ _ (rw c.word.ensures at c.if-word-ne0.false), c.store.ensures)
+returns c = rw (← c.find_id.ensures [] 0, c.in-Some.is, eq-eqb _ _ (rw c.word.ensures at c.if-word-ne0.false), c.store.ensures)
