@@ -8,6 +8,7 @@ use Rattle.fst.specs.declared.MatchType.{MatchType}
 use Rattle.fst.specs.declared.MatchType.TheVariants.{MatchInput, MatchOutput}
 use Rattle.fst.specs.declared.StateId.{StateId}
 use Rattle.fst.specs.declared.Sigmas.{Sigmas}
+use Rattle.fst.specs.declared.Matched.{Matched}
 use Rattle.fst.specs.declared.tr.Tr.{Tr}
 
 -- "Machine 1 is matched on outputs, 2 on inputs.": the side that a MatchType names
@@ -36,3 +37,7 @@ ignored_under sigmas list = record { list = list; sigma1 = sigmas.first.0; sigma
 -- what the words of a machine that is matched on a side are read as
 abbrev pub read_as : MatchType → Sigmas → List ℕ → List ℕ → List ℕ
 read_as on sigmas list m = words_read (on_of on) (ignored_under sigmas list) m
+
+-- what the words of a machine that is matched are read as
+abbrev pub words_as_read : Matched → List ℕ
+words_as_read m = read_as m.on m.sigmas m.ignored.now m.words.now

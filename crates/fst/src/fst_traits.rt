@@ -3,10 +3,10 @@ ghost use Rattle.std.specs.Prelude.{◌≡◌, length, get_or};
 ghost use Rattle.words.specs.Machines.{state_count, tr_count, start_word, side_mark, acceptor_mark, state_word, tr_word, first_of, next_of, list_of, machine_of};
 ghost use Rattle.words.specs.Matches.{label_on, tr_of};
 ghost use Rattle.words.specs.Ignored.{otherwise};
-ghost use Rattle.fst.specs.Meaning.{on_of, number_if, tr_means, read_as};
+ghost use Rattle.fst.specs.Meaning.{on_of, number_if, tr_means, read_as, words_as_read};
 
 use crate::ignored::heard;
-use crate::{
+use crate::{Matched,
     FINAL, FINAL_WEIGHT, FIRST, HEADER_WORDS, INPUT, Label, MatchType, NEXT, OUTPUT, STATE_WORDS,
     Sigmas, StateId, TARGET, TR_WORDS, Tr, WEIGHT,
 };
@@ -136,28 +136,28 @@ pub fn label_on(m: &[u32], on: MatchType, t: u32) -> Label
 }
 
 // The label of record t on the side on which the machine is matched. Sortedness, the facts of the filters, the walk and the look-up see labels through here alone.
-pub fn inner_label(m: &[u32], on: MatchType, sigmas: Sigmas, ignored: &[u32], t: u32) -> Label
-    ensures { result.0 ≡ label_on (on_of on) (machine_of (read_as on sigmas ignored.now m.now)) t }
+pub fn inner_label(m: Matched<'_>, t: u32) -> Label
+    ensures { result.0 ≡ label_on (on_of m.entry.on) (machine_of (words_as_read m.entry)) t }
 {
-    heard(sigmas, ignored, label_on(m, on, t))
+    heard(m.sigmas, m.ignored, label_on(m.words, m.on, t))
 }
 
 // The transition of record t in a machine that is matched on a side. Its outer label is as lent.
-pub fn get_tr(m: &[u32], on: MatchType, sigmas: Sigmas, ignored: &[u32], t: u32) -> Tr
-    ensures { tr_means result ≡ tr_of (machine_of (read_as on sigmas ignored.now m.now)) t }
+pub fn get_tr(m: Matched<'_>, t: u32) -> Tr
+    ensures { tr_means result ≡ tr_of (machine_of (words_as_read m.entry)) t }
 {
-    let inner = inner_label(m, on, sigmas, ignored, t);
-    let weight = tr_word(m, t, WEIGHT);
-    let nextstate = StateId(tr_word(m, t, TARGET));
-    match on {
+    let inner = inner_label(m, t);
+    let weight = tr_word(m.words, t, WEIGHT);
+    let nextstate = StateId(tr_word(m.words, t, TARGET));
+    match m.on {
         MatchType::MatchInput => Tr {
             ilabel: inner,
-            olabel: label_on(m, MatchType::MatchOutput, t),
+            olabel: label_on(m.words, MatchType::MatchOutput, t),
             weight,
             nextstate,
         },
         MatchType::MatchOutput => Tr {
-            ilabel: label_on(m, MatchType::MatchInput, t),
+            ilabel: label_on(m.words, MatchType::MatchInput, t),
             olabel: inner,
             weight,
             nextstate,

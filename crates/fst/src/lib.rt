@@ -26,6 +26,15 @@ pub struct Sigmas {
     pub second: Label,
 }
 
+// A machine as the composition reads it: its words, the side on which it is matched, and the list of labels that count as 0 there unless they are sigma labels.
+#[derive(Clone, Copy)]
+pub struct Matched<'a> {
+    pub words: &'a [u32],
+    pub on: MatchType,
+    pub sigmas: Sigmas,
+    pub ignored: &'a [u32],
+}
+
 // The number of a state.
 #[derive(Clone, Copy, PartialEq, Eq)]
 pub struct StateId(pub u32);

@@ -7,4 +7,4 @@ use Rattle.fst.proofs.fst_traits.inner_label.Goals as goal
 pub returns : goal.returns
 returns c =
     let a = c.args in
-    c.heard.ensures ∙ rw c.label_on.ensures (sym (read_label (on_of a.on) (ignored_under a.sigmas a.ignored.now) a.m.now a.t))
+    c.heard.ensures ∙ rw c.label_on.ensures (sym (read_label (on_of a.m.on) (ignored_under a.m.sigmas a.m.ignored.now) a.m.words.now a.t))
