@@ -1,5 +1,5 @@
 // The check of a machine: it refuses exactly what document 01 calls malformed.
-ghost use Rattle.std.specs.Prelude.{◌≡◌, true, eqb};
+ghost use Rattle.std.specs.Prelude.{◌≡◌, true, eqb, []};
 ghost use Rattle.words.specs.Matches.{MatchType as Side, inputs, outputs};
 ghost use Rattle.words.specs.Machines.{side_mark, acceptor_mark, machine_of, sorted as sortedOf, acceptor as acceptorOf, side_mark_ok, acceptor_mark_ok, marks_ok, well_formed};
 ghost use Rattle.fst.specs.Meaning.{on_of};
@@ -7,21 +7,28 @@ ghost use Rattle.fst_properties.specs.RecordTests.{form_fits};
 
 use crate::form::form_fits;
 use crate::properties::{acceptor, sorted};
-use fst::{MatchType, NO_SIGMAS, acceptor_mark, side_mark};
+use fst::{MatchType, Matched, NO_SIGMAS, acceptor_mark, side_mark};
 
 // "Malformed is judged on the machines as lent": no label is ignored.
+fn lent<'a>(words: &'a [u32], on: MatchType) -> Matched<'a>
+    ensures words { (result.words ≡ words.entry) × (result.on ≡ on) }
+    ensures ignored { (result.sigmas ≡ NO_SIGMAS) × (result.ignored.now ≡ []) }
+{
+    Matched { words, on, sigmas: NO_SIGMAS, ignored: &words[0..0] }
+}
+
 #[tactic(auto, using(words::proofs::ReplacedLaws::read_none))]
 fn lent_sorted(m: &[u32], on: MatchType) -> bool
     ensures { result ≡ sortedOf (on_of on) (machine_of m.now) }
 {
-    sorted(m, on, NO_SIGMAS, &m[0..0])
+    sorted(lent(m, on))
 }
 
 #[tactic(auto, using(words::proofs::ReplacedLaws::read_none))]
 fn lent_acceptor(m: &[u32]) -> bool
     ensures { result ≡ acceptorOf m.now }
 {
-    acceptor(m, MatchType::MatchInput, NO_SIGMAS, &m[0..0])
+    acceptor(lent(m, MatchType::MatchInput))
 }
 
 // A side whose mark is 0 is not looked at; nor one whose mark is 1, where it is known that no record falls on such a side.

@@ -8,5 +8,5 @@ use Rattle.fst_properties.proofs.properties.acceptor.Goals as goal
 pub returns : goal.returns
 returns c =
     let a = c.args in
-    let g = ignored_under a.sigmas a.ignored.now in
-    rw (c.least-n.ensures, c.num_records.ensures, ← read_count (on_of a.on) g a.m.now, ← read_length (on_of a.on) g a.m.now) at c.all_records.ensures ∙ near_acceptor _
+    let g = ignored_under a.m.sigmas a.m.ignored.now in
+    rw (c.least-n.ensures, c.num_records.ensures, ← read_count (on_of a.m.on) g a.m.words.now, ← read_length (on_of a.m.on) g a.m.words.now) at c.all_records.ensures ∙ near_acceptor _

@@ -22,7 +22,7 @@ use Rattle.fst_properties.proofs.properties.lists_sorted.Goals as goal
 -- where the inner loop is left, nothing falls in what is left of the list: it is empty, or an earlier walk saw it
 ended : (c : goal.Left-list) →
     let a = c.args in
-    let l = c.list in from_on_lem (on_of a.on) (read_as a.on a.sigmas a.ignored.now a.m.now) l.low.0 l.t ≡ true
+    let l = c.list in from_on_lem (on_of a.m.on) (read_as a.m.on a.m.sigmas a.m.ignored.now a.m.words.now) l.low.0 l.t ≡ true
 ended c =
     let l = c.list.invariant in
     elim c.list-test.branch [
@@ -33,10 +33,10 @@ ended c =
 pub states-init : goal.states-init
 states-init c =
     let a = c.args in
-    let g = ignored_under a.sigmas a.ignored.now in (
+    let g = ignored_under a.m.sigmas a.m.ignored.now in (
       refl,
       λ u h. absurd (none_seen _ 2048 u h),
-      rw (sub-zero, c.least-n.ensures, c.num_states.ensures, ← read_states (on_of a.on) g a.m.now, ← read_length (on_of a.on) g a.m.now, sorted_lists)
+      rw (sub-zero, c.least-n.ensures, c.num_states.ensures, ← read_states (on_of a.m.on) g a.m.words.now, ← read_length (on_of a.m.on) g a.m.words.now, sorted_lists)
           (run_cut (list_sorted _ _) 0 _ _ (far_list _ _)),
     )
 
@@ -46,14 +46,14 @@ list-init c =
     let l = c.states.invariant in
     let h = c.states-test.true in
     let a = c.args in
-    rw (c.first_tr-t.ensures, ← read_first (on_of a.on) (ignored_under a.sigmas a.ignored.now) a.m.now c.states.s)
-    (l.0, h, first_inside _ _, begins _ _ _ _ _ _ l.1, sym (run_turn (list_sorted (on_of a.on) (read_as a.on a.sigmas a.ignored.now a.m.now)) _ _ _ h) ∙ l.2)
+    rw (c.first_tr-t.ensures, ← read_first (on_of a.m.on) (ignored_under a.m.sigmas a.m.ignored.now) a.m.words.now c.states.s)
+    (l.0, h, first_inside _ _, begins _ _ _ _ _ _ l.1, sym (run_turn (list_sorted (on_of a.m.on) (read_as a.m.on a.m.sigmas a.m.ignored.now a.m.words.now)) _ _ _ h) ∙ l.2)
 
 pub list-smaller : goal.list-smaller
 list-smaller c =
     let a = c.args in
-    let turn : list_from (read_as a.on a.sigmas a.ignored.now a.m.now) c.list.t ≡ c.list.t ∷ list_from (read_as a.on a.sigmas a.ignored.now a.m.now) (next_of (read_as a.on a.sigmas a.ignored.now a.m.now) c.list.t) = list_turn _ _ c.list-test.true c.list.invariant.2 in
-    rw (c.next_tr-t.ensures, ← read_next (on_of a.on) (ignored_under a.sigmas a.ignored.now) a.m.now c.list.t) (omega (arith, ap length turn))
+    let turn : list_from (read_as a.m.on a.m.sigmas a.m.ignored.now a.m.words.now) c.list.t ≡ c.list.t ∷ list_from (read_as a.m.on a.m.sigmas a.m.ignored.now a.m.words.now) (next_of (read_as a.m.on a.m.sigmas a.m.ignored.now a.m.words.now) c.list.t) = list_turn _ _ c.list-test.true c.list.invariant.2 in
+    rw (c.next_tr-t.ensures, ← read_next (on_of a.m.on) (ignored_under a.m.sigmas a.m.ignored.now) a.m.words.now c.list.t) (omega (arith, ap length turn))
 
 pub list-preserved : goal.list-preserved
 list-preserved c =
@@ -62,7 +62,7 @@ list-preserved c =
     let a = c.args in
     let low : c.list.low.0 ≤ c.inner_label-label.result.0 = search rules in
     let g = rw c.inner_label-label.ensures at low in
-    rw (c.next_tr-t.ensures, ← read_next (on_of a.on) (ignored_under a.sigmas a.ignored.now) a.m.now c.list.t, c.inner_label-label.ensures, c.see.ensures)
+    rw (c.next_tr-t.ensures, ← read_next (on_of a.m.on) (ignored_under a.m.sigmas a.m.ignored.now) a.m.words.now c.list.t, c.inner_label-label.ensures, c.see.ensures)
     (l.0, l.1, (link _ _).inside, goes_on_lem _ _ _ _ _ _ l.3 e l.2 g, rw (from_turn _ _ _ _ e l.2, le-leb _ _ g) at l.4)
 
 pub states-preserved : goal.states-preserved
