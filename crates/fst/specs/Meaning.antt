@@ -9,6 +9,7 @@ use Rattle.fst.specs.declared.MatchType.TheVariants.{MatchInput, MatchOutput}
 use Rattle.fst.specs.declared.StateId.{StateId}
 use Rattle.fst.specs.declared.Sigmas.{Sigmas}
 use Rattle.fst.specs.declared.Matched.{Matched}
+use Rattle.fst.specs.declared.Machines.{Machines}
 use Rattle.fst.specs.declared.tr.Tr.{Tr}
 
 -- "Machine 1 is matched on outputs, 2 on inputs.": the side that a MatchType names
@@ -41,3 +42,17 @@ read_as on sigmas list m = words_read (on_of on) (ignored_under sigmas list) m
 -- what the words of a machine that is matched are read as
 abbrev pub words_as_read : Matched → List ℕ
 words_as_read m = read_as m.on m.sigmas m.ignored.now m.words.now
+
+-- "Machine 1 is matched on outputs, 2 on inputs."
+abbrev pub first_of_two : Machines → Matched
+first_of_two p = record { words = p.m1; on = MatchOutput; sigmas = p.sigmas; ignored = p.ignored }
+
+abbrev pub second_of_two : Machines → Matched
+second_of_two p = record { words = p.m2; on = MatchInput; sigmas = p.sigmas; ignored = p.ignored }
+
+-- both as operands, each with its sigma label
+abbrev pub first_operand : Machines → Operand
+first_operand p = as_operand outputs (words_as_read (first_of_two p)) p.sigmas.first.0
+
+abbrev pub second_operand : Machines → Operand
+second_operand p = as_operand inputs (words_as_read (second_of_two p)) p.sigmas.second.0

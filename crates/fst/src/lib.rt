@@ -1,6 +1,9 @@
 // Labels, state numbers and transitions (lib.rs, tr.rs), and the reading of a machine's words (fst_traits/fst.rs).
 #![tactic(auto)]
 
+ghost use Rattle.std.specs.Prelude.{◌≡◌};
+ghost use Rattle.fst.specs.Meaning.{first_of_two, second_of_two};
+
 mod fst_traits;
 mod ignored;
 mod refusals;
@@ -33,6 +36,41 @@ pub struct Matched<'a> {
     pub on: MatchType,
     pub sigmas: Sigmas,
     pub ignored: &'a [u32],
+}
+
+// Two machines that are composed, with the labels that both are read by.
+#[derive(Clone, Copy)]
+pub struct Machines<'a> {
+    pub m1: &'a [u32],
+    pub m2: &'a [u32],
+    pub sigmas: Sigmas,
+    pub ignored: &'a [u32],
+}
+
+impl<'a> Machines<'a> {
+    // Machine 1, matched on outputs.
+    pub fn first(self) -> Matched<'a>
+        ensures { result ≡ first_of_two self.entry }
+    {
+        Matched {
+            words: self.m1,
+            on: MatchType::MatchOutput,
+            sigmas: self.sigmas,
+            ignored: self.ignored,
+        }
+    }
+
+    // Machine 2, matched on inputs.
+    pub fn second(self) -> Matched<'a>
+        ensures { result ≡ second_of_two self.entry }
+    {
+        Matched {
+            words: self.m2,
+            on: MatchType::MatchInput,
+            sigmas: self.sigmas,
+            ignored: self.ignored,
+        }
+    }
 }
 
 // The number of a state.

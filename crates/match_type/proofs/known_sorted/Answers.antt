@@ -10,13 +10,13 @@ use Rattle.match_type.proofs.known_sorted.Goals as goal
 pub returns-in-1 : goal.returns-in-1
 returns-in-1 c =
     let x = c.args in
-    let h = marked_read (on_of x.on) (ignored_under x.sigmas x.ignored.now) x.m.now 0 (sym c.inner_mark.ensures ∙ c.in-1.is) in
-    let e = (form x.m.now c.requires).mark (on_of x.on) in
+    let h = marked_read (on_of x.m.on) (ignored_under x.m.sigmas x.m.ignored.now) x.m.words.now 0 (sym c.inner_mark.ensures ∙ c.in-1.is) in
+    let e = (form x.m.words.now c.requires).mark (on_of x.m.on) in
     rw h.1 (sym (rw h.0 at e))
 
 pub returns-in-2 : goal.returns-in-2
 returns-in-2 c =
     let x = c.args in
-    let h = marked_read (on_of x.on) (ignored_under x.sigmas x.ignored.now) x.m.now 1 (sym c.inner_mark.ensures ∙ c.in-2.is) in
-    let e = (form x.m.now c.requires).mark (on_of x.on) in
-    rw h.1 (sym (not-true (sorted (on_of x.on) (machine_of x.m.now)) (rw h.0 at e)))
+    let h = marked_read (on_of x.m.on) (ignored_under x.m.sigmas x.m.ignored.now) x.m.words.now 1 (sym c.inner_mark.ensures ∙ c.in-2.is) in
+    let e = (form x.m.words.now c.requires).mark (on_of x.m.on) in
+    rw h.1 (sym (not-true (sorted (on_of x.m.on) (machine_of x.m.words.now)) (rw h.0 at e)))
