@@ -12,11 +12,10 @@ ghost use Rattle.std.specs.Prelude.{◌≡◌};
 ghost use Rattle.words.specs.Labels.{no_label};
 ghost use Rattle.words.specs.Matches.{inputs, outputs};
 ghost use Rattle.words.specs.Filters.{none_at, all_at, facts_at, all_first, none_first, filter_of};
-ghost use Rattle.fst.specs.Meaning.{on_of, as_operand, read_as};
-ghost use Rattle.fst.specs.declared.MatchType.TheVariants.{MatchInput, MatchOutput};
+ghost use Rattle.fst.specs.Meaning.{on_of, as_operand, words_as_read, first_of_two, second_of_two};
 ghost use Rattle.compose_filters.specs.Meaning.{move_means, facts_mean, wanted_eps, epsilons_are};
 
-use fst::{EPS_LABEL, MatchType, Sigmas, StateId, first_tr, inner_label, is_final, next_tr};
+use fst::{EPS_LABEL, Machines, Matched, StateId, first_tr, inner_label, is_final, next_tr};
 
 // The row of the table: which of the machines moves, and by what label.
 #[derive(Clone, Copy)]
@@ -37,65 +36,53 @@ pub struct Facts {
 }
 
 // Whether record t has the inner label epsilon, or, where wanted is false, has not.
-fn eps_is(m: &[u32], on: MatchType, sigmas: Sigmas, ignored: &[u32], t: u32, wanted: bool) -> bool
-    ensures { result ≡ wanted_eps wanted (on_of on) (read_as on sigmas ignored.now m.now) t }
+fn eps_is(m: Matched<'_>, t: u32, wanted: bool) -> bool
+    ensures { result ≡ wanted_eps wanted (on_of m.entry.on) (words_as_read m.entry) t }
 {
-    (inner_label(m, on, sigmas, ignored, t) == EPS_LABEL) == wanted
+    (inner_label(m, t) == EPS_LABEL) == wanted
 }
 
 // Whether the state's list has only epsilons on a side, or, where wanted is false, none. Left at the first record that is otherwise.
-fn epsilons_are(
-    m: &[u32],
-    on: MatchType,
-    sigmas: Sigmas,
-    ignored: &[u32],
-    s: StateId,
-    wanted: bool,
-) -> bool
-    ensures { result ≡ epsilons_are wanted (on_of on) (read_as on sigmas ignored.now m.now) s.0 }
+fn epsilons_are(m: Matched<'_>, s: StateId, wanted: bool) -> bool
+    ensures { result ≡ epsilons_are wanted (on_of m.entry.on) (words_as_read m.entry) s.0 }
 {
     let mut ok = true;
-    let mut t = first_tr(m, s);
+    let mut t = first_tr(m.words, s);
     'list: while t != 0 {
-        if !eps_is(m, on, sigmas, ignored, t, wanted) {
+        if !eps_is(m, t, wanted) {
             ok = false;
             break 'list;
         }
-        t = next_tr(m, t);
+        t = next_tr(m.words, t);
     }
     ok
 }
 
 // "none" of a state.
-pub fn no_eps(m: &[u32], on: MatchType, sigmas: Sigmas, ignored: &[u32], s: StateId) -> bool
-    ensures { result ≡ none_at (as_operand (on_of on) (read_as on sigmas ignored.now m.now) no_label) s.0 }
+pub fn no_eps(m: Matched<'_>, s: StateId) -> bool
+    ensures { result ≡ none_at (as_operand (on_of m.entry.on) (words_as_read m.entry) no_label) s.0 }
 {
-    epsilons_are(m, on, sigmas, ignored, s, false)
+    epsilons_are(m, s, false)
 }
 
 // "all" of a state.
-pub fn all_eps(m: &[u32], on: MatchType, sigmas: Sigmas, ignored: &[u32], s: StateId) -> bool
-    ensures { result ≡ all_at (as_operand (on_of on) (read_as on sigmas ignored.now m.now) no_label) s.0 }
+pub fn all_eps(m: Matched<'_>, s: StateId) -> bool
+    ensures { result ≡ all_at (as_operand (on_of m.entry.on) (words_as_read m.entry) no_label) s.0 }
 {
-    !is_final(m, s) && epsilons_are(m, on, sigmas, ignored, s, true)
+    !is_final(m.words, s) && epsilons_are(m, s, true)
 }
 
-// What a filter sees of a pair of states: machine 1 is matched on outputs, 2 on inputs.
-pub fn facts_at(
-    m1: &[u32],
-    m2: &[u32],
-    sigmas: Sigmas,
-    ignored: &[u32],
-    s1: StateId,
-    s2: StateId,
-) -> Facts
-    ensures { facts_mean result ≡ facts_at (as_operand outputs (read_as MatchOutput sigmas ignored.now m1.now) no_label) (as_operand inputs (read_as MatchInput sigmas ignored.now m2.now) no_label) s1.0 s2.0 }
+// What a filter sees of a pair of states.
+pub fn facts_at(two: Machines<'_>, s1: StateId, s2: StateId) -> Facts
+    ensures { let words1 = words_as_read (first_of_two two.entry) in
+        let words2 = words_as_read (second_of_two two.entry) in
+        facts_mean result ≡ facts_at (as_operand outputs words1 no_label) (as_operand inputs words2 no_label) s1.0 s2.0 }
 {
     Facts {
-        none1: no_eps(m1, MatchType::MatchOutput, sigmas, ignored, s1),
-        all1: all_eps(m1, MatchType::MatchOutput, sigmas, ignored, s1),
-        none2: no_eps(m2, MatchType::MatchInput, sigmas, ignored, s2),
-        all2: all_eps(m2, MatchType::MatchInput, sigmas, ignored, s2),
+        none1: no_eps(two.first(), s1),
+        all1: all_eps(two.first(), s1),
+        none2: no_eps(two.second(), s2),
+        all2: all_eps(two.second(), s2),
     }
 }
 
