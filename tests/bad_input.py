@@ -101,5 +101,6 @@ def cells(filter):
 
 for m, ignored in product(cases(), LISTS):
     machine(m, ignored)
-for name, k in re.findall(r"(weights|cells)\((\w+)\);", BODIES["main"]):
-    {"weights": weights, "cells": cells}[name](number(k))
+for numbers, name in re.findall(r"for \w+ in \[([^\]]*)\] \{\n *(weights|cells)\(\w+\);", BODIES["main"]):
+    for k in numbers.split(", "):
+        {"weights": weights, "cells": cells}[name](number(k))

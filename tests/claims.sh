@@ -9,7 +9,7 @@ while read -r name file; do
     if [ ! -f "$file" ]; then
         echo "claims: $file is not there (cited for $name)"
         bad=1
-    elif ! awk -v n="$name" '{ for (i = 1; i <= NF; i++) if ($i == "pub" || $i == "fn") { j = i; if ($j == "pub") j++; if ($j == "extern") j += 2; if ($j == "record" || $j == "data" || $j == "fn" || $j == "struct" || $j == "enum") j++; split($j, w, /[(<]/); if (w[1] == n) f = 1; break } } END { exit !f }' "$file"; then
+    elif ! awk -v n="$name" '{ for (i = 1; i <= NF; i++) if ($i == "pub" || $i == "fn") { j = i; if ($j == "pub") j++; if ($j == "extern") j += 2; if ($j == "record" || $j == "data" || $j == "fn" || $j == "struct" || $j == "enum" || $j == "type") j++; split($j, w, /[(<]/); if (w[1] == n) f = 1; break } } END { exit !f }' "$file"; then
         echo "claims: $file does not declare $name"
         bad=1
     fi

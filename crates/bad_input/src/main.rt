@@ -6,7 +6,7 @@ mod show;
 
 use show::{cells, machine, weights};
 
-const MAX: u32 = 4294967295;
+const MAX: u32 = u32::MAX;
 
 // Slices that are too short for what their header says, or for a header.
 fn short() {
@@ -110,14 +110,10 @@ fn main() {
     unlisted();
     joint();
     marks();
-    weights(0);
-    weights(1);
-    weights(MAX);
-    cells(0);
-    cells(1);
-    cells(2);
-    cells(3);
-    cells(4);
-    cells(5);
-    cells(MAX);
+    for kind in [0, 1, MAX] {
+        weights(kind);
+    }
+    for filter in [0, 1, 2, 3, 4, 5, MAX] {
+        cells(filter);
+    }
 }

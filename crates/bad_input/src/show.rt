@@ -1,10 +1,10 @@
 // What each public function answers, in lines of numbers.
-use compose_filters::{Facts, Filtered, MoveKind};
-use fst::{Label, MatchType, NO_LABEL, Sigmas, StartState, StateId, Tr};
-use match_type::{Chosen, Side};
-use semirings::Product;
+use compose_filters::{Facts, MoveKind};
+use fst::{Label, MatchType, NO_LABEL, Refusal, Sigmas, StateId, Tr};
+use match_type::Side;
 
-const MAX: u32 = 4294967295;
+// Each side is asked, inputs first.
+const SIDES: [MatchType; 2] = [MatchType::MatchInput, MatchType::MatchOutput];
 
 fn put(n: u32) {
     io::write_all(1, b" ");
@@ -12,10 +12,14 @@ fn put(n: u32) {
 }
 
 fn flag(b: bool) {
-    if b {
-        put(1);
-    } else {
-        put(0);
+    put(b as u32);
+}
+
+// 1 and the number, or 0.
+fn optional(n: Option<u32>) {
+    flag(n.is_some());
+    if let Some(n) = n {
+        put(n);
     }
 }
 
@@ -34,56 +38,52 @@ fn sigmas() -> Sigmas {
 fn properties(m: &[u32], ignored: &[u32]) {
     io::write_all(1, b"p");
     flag(fst_properties::well_formed(m));
-    flag(fst_properties::sorted(m, MatchType::MatchInput, sigmas(), ignored));
-    flag(fst_properties::sorted(m, MatchType::MatchOutput, sigmas(), ignored));
-    flag(fst_properties::acceptor(m, MatchType::MatchInput, sigmas(), ignored));
-    flag(fst_properties::acceptor(m, MatchType::MatchOutput, sigmas(), ignored));
-    end();
-}
-
-// 1 and the start, or 0.
-fn start(m: &[u32]) {
-    match fst::start(m) {
-        StartState::At(s) => {
-            put(1);
-            put(s.0);
-        }
-        StartState::Missing => put(0),
+    for on in SIDES {
+        flag(fst_properties::sorted(m, on, sigmas(), ignored));
     }
+    for on in SIDES {
+        flag(fst_properties::acceptor(m, on, sigmas(), ignored));
+    }
+    end();
 }
 
 // Each mark as it stands, and as a machine that is matched on a side has it read.
 fn marks(m: &[u32], ignored: &[u32]) {
-    put(fst::side_mark(m, MatchType::MatchInput));
-    put(fst::side_mark(m, MatchType::MatchOutput));
-    put(fst::inner_mark(m, MatchType::MatchInput, ignored));
-    put(fst::inner_mark(m, MatchType::MatchOutput, ignored));
+    for on in SIDES {
+        put(fst::side_mark(m, on));
+    }
+    for on in SIDES {
+        put(fst::inner_mark(m, on, ignored));
+    }
     put(fst::acceptor_mark(m));
-    put(fst_properties::inner_acceptor_mark(m, MatchType::MatchInput, sigmas(), ignored));
-    put(fst_properties::inner_acceptor_mark(m, MatchType::MatchOutput, sigmas(), ignored));
+    for on in SIDES {
+        put(fst_properties::inner_acceptor_mark(m, on, sigmas(), ignored));
+    }
 }
 
 fn header(m: &[u32], ignored: &[u32]) {
     io::write_all(1, b"h");
-    put(fst::word(m, 18446744073709551615));
+    put(fst::word(m, usize::MAX));
     put(fst::num_states(m));
     put(fst::num_records(m));
     put(fst::start_word(m));
     marks(m, ignored);
-    start(m);
+    optional(fst::start(m).map(|s| s.0));
     end();
 }
 
 fn epsilons(m: &[u32], ignored: &[u32], s: StateId) {
-    flag(compose_filters::no_eps(m, MatchType::MatchInput, sigmas(), ignored, s));
-    flag(compose_filters::no_eps(m, MatchType::MatchOutput, sigmas(), ignored, s));
-    flag(compose_filters::all_eps(m, MatchType::MatchInput, sigmas(), ignored, s));
-    flag(compose_filters::all_eps(m, MatchType::MatchOutput, sigmas(), ignored, s));
+    for on in SIDES {
+        flag(compose_filters::no_eps(m, on, sigmas(), ignored, s));
+    }
+    for on in SIDES {
+        flag(compose_filters::all_eps(m, on, sigmas(), ignored, s));
+    }
 }
 
 fn list(m: &[u32], s: StateId) {
     put(fst::state_word(m, s, 0));
-    put(fst::state_word(m, s, MAX));
+    put(fst::state_word(m, s, u32::MAX));
     put(fst::first_tr(m, s));
     put(fst::num_trs(m, s));
 }
@@ -118,16 +118,17 @@ fn matched(m: &[u32], on: MatchType, ignored: &[u32], t: u32) {
 fn record(m: &[u32], ignored: &[u32], t: u32) {
     io::write_all(1, b"r");
     put(fst::tr_word(m, t, 4));
-    put(fst::tr_word(m, t, MAX));
+    put(fst::tr_word(m, t, u32::MAX));
     put(fst::next_tr(m, t));
-    matched(m, MatchType::MatchInput, ignored, t);
-    matched(m, MatchType::MatchOutput, ignored, t);
+    for on in SIDES {
+        matched(m, on, ignored, t);
+    }
     end();
 }
 
 fn facts(m: &[u32], ignored: &[u32]) {
     io::write_all(1, b"f");
-    let f = compose_filters::facts_at(m, m, sigmas(), ignored, StateId(MAX), StateId(0));
+    let f = compose_filters::facts_at(m, m, sigmas(), ignored, StateId(u32::MAX), StateId(0));
     flag(f.none1);
     flag(f.all1);
     flag(f.none2);
@@ -136,25 +137,20 @@ fn facts(m: &[u32], ignored: &[u32]) {
 }
 
 // 1 input, 2 output, 3 both; else the refusal.
-fn chosen(x: Chosen) {
-    match x {
-        Chosen::By(side) => match side {
-            Side::Only(on) => match on {
-                MatchType::MatchInput => put(1),
-                MatchType::MatchOutput => put(2),
-            },
-            Side::Both => put(3),
-        },
-        Chosen::Refused(n) => put(n),
-    }
+fn chosen(side: Result<Side, Refusal>) {
+    put(match side {
+        Ok(Side::Only(MatchType::MatchInput)) => 1,
+        Ok(Side::Only(MatchType::MatchOutput)) => 2,
+        Ok(Side::Both) => 3,
+        Err(refusal) => u32::from(refusal),
+    });
 }
 
 // The choice of the side is for well-formed machines.
 fn side(m: &[u32], ignored: &[u32], first: Label, second: Label) {
-    if !fst_properties::well_formed(m) {
-        return;
+    if fst_properties::well_formed(m) {
+        chosen(match_type::match_type(m, m, Sigmas { first, second }, ignored));
     }
-    chosen(match_type::match_type(m, m, Sigmas { first, second }, ignored));
 }
 
 fn sides(m: &[u32], ignored: &[u32]) {
@@ -169,42 +165,36 @@ fn sides(m: &[u32], ignored: &[u32]) {
 fn under(m: &[u32], ignored: &[u32]) {
     properties(m, ignored);
     header(m, ignored);
-    state(m, ignored, StateId(0));
-    state(m, ignored, StateId(MAX));
-    record(m, ignored, 0);
-    record(m, ignored, 1);
-    record(m, ignored, MAX);
+    for s in [0, u32::MAX] {
+        state(m, ignored, StateId(s));
+    }
+    for t in [0, 1, u32::MAX] {
+        record(m, ignored, t);
+    }
     facts(m, ignored);
     sides(m, ignored);
 }
 
 // With no label ignored, with some, and with a list that every call refuses.
 pub fn machine(m: &[u32]) {
-    let quiet = [5u32, 1, 9, 5];
-    let refused = [MAX, 0];
-    under(m, &quiet[..0]);
-    under(m, &quiet);
-    under(m, &refused);
+    under(m, &[]);
+    under(m, &[5, 1, 9, 5]);
+    under(m, &[u32::MAX, 0]);
 }
 
-// 1 and the weight, or 0.
-fn product(x: Product) {
-    match x {
-        Product::Weight(w) => {
-            put(1);
-            put(w);
-        }
-        Product::TooLarge => put(0),
-    }
-}
-
+// Each product and 1 before it, or 0 where it is too large.
 fn products(kind: u32) {
-    product(semirings::times(kind, MAX, MAX));
-    product(semirings::times(kind, MAX, 1));
-    product(semirings::times(kind, 2147483647, 2147483647));
-    product(semirings::times(kind, 2147483648, 2147483647));
-    product(semirings::times(kind, 65535, 65537));
-    product(semirings::times(kind, 65536, 65536));
+    let factors = [
+        (u32::MAX, u32::MAX),
+        (u32::MAX, 1),
+        (2147483647, 2147483647),
+        (2147483648, 2147483647),
+        (65535, 65537),
+        (65536, 65536),
+    ];
+    for (a, b) in factors {
+        optional(semirings::times(kind, a, b));
+    }
 }
 
 pub fn weights(kind: u32) {
@@ -212,23 +202,12 @@ pub fn weights(kind: u32) {
     put(semirings::one(kind));
     put(semirings::zero(kind));
     flag(semirings::is_zero(kind, 0));
-    flag(semirings::is_zero(kind, MAX));
+    flag(semirings::is_zero(kind, u32::MAX));
     products(kind);
     end();
 }
 
-// 1 and the next f, or 0.
-fn filtered(x: Filtered) {
-    match x {
-        Filtered::Kept(f) => {
-            put(1);
-            put(f);
-        }
-        Filtered::Dropped => put(0),
-    }
-}
-
-// The four rows at one filter and one f; both facts hold, as in an empty state that is not final.
+// The four rows at one filter and one f, each 1 and the next f, or 0; both facts hold, as in an empty state that is not final.
 fn rows(filter: u32, f: u32) {
     let facts = Facts {
         none1: true,
@@ -236,17 +215,21 @@ fn rows(filter: u32, f: u32) {
         none2: true,
         all2: true,
     };
-    filtered(compose_filters::filter_tr(filter, MoveKind::Lone1, facts, f));
-    filtered(compose_filters::filter_tr(filter, MoveKind::Lone2, facts, f));
-    filtered(compose_filters::filter_tr(filter, MoveKind::BothEpsilon, facts, f));
-    filtered(compose_filters::filter_tr(filter, MoveKind::ALabel, facts, f));
+    let kinds = [
+        MoveKind::Lone1,
+        MoveKind::Lone2,
+        MoveKind::BothEpsilon,
+        MoveKind::ALabel,
+    ];
+    for kind in kinds {
+        optional(compose_filters::filter_tr(filter, kind, facts, f));
+    }
 }
 
 pub fn cells(filter: u32) {
     io::write_all(1, b"c");
-    rows(filter, 0);
-    rows(filter, 1);
-    rows(filter, 2);
-    rows(filter, MAX);
+    for f in [0, 1, 2, u32::MAX] {
+        rows(filter, f);
+    }
     end();
 }

@@ -1,22 +1,16 @@
--- What the code's settings and the lent slices stand for in `Settings`, `Lent` and `Composition` of `words`; what a start and a final weight stand for.
-use Rattle.std.specs.Prelude.{List, ℕ, Option, None, Some}
-use Rattle.words.specs.Labels.{Checked, good, refused}
+-- What the code's settings and the lent slices stand for in `Settings`, `Lent` and `Composition` of `words`.
+use Rattle.std.specs.Prelude.{List, ℕ}
 use Rattle.words.specs.Weights.{kind_of}
 use Rattle.words.specs.Matches.{inputs, outputs}
 use Rattle.words.specs.Filters.{filter_of}
-use Rattle.words.specs.Steps.{Triple, Composition}
+use Rattle.words.specs.Steps.{Composition}
 use Rattle.words.specs.Ignored.{Ignored, words_read}
 use Rattle.words.specs.Settings.{Settings, Lent, composition_of}
 use Rattle.fst.specs.declared.Sigmas.{Sigmas}
 use Rattle.fst.specs.Meaning.{ignored_under}
 use Rattle.matchers.specs.Meaning.{allowed_of, operand_in}
 use Rattle.match_type.specs.Chosen.{side_means}
-use Rattle.compose_state_tuple.specs.Meaning.{tuple_means}
 use Rattle.compose_fst_op.specs.declared.ComposeFstOpOptions.{ComposeFstOpOptions}
-use Rattle.compose_fst_op.specs.declared.finals.FinalWeight.{FinalWeight}
-use Rattle.compose_fst_op.specs.declared.finals.FinalWeight.TheVariants.{Weight, NotFinal, TooLarge}
-use Rattle.compose_fst_op.specs.declared.start.ComposeStart.{ComposeStart}
-use Rattle.compose_fst_op.specs.declared.start.ComposeStart.TheVariants.{At, Missing}
 
 -- "settings (kind, filter, sigma 1, mode 1, sigma 2, mode 2)"
 abbrev pub option_settings : ComposeFstOpOptions → Settings
@@ -59,14 +53,3 @@ replacing o ignored = ignored_under (sigmas_of o) ignored
 -- proofs/Composed.
 abbrev pub composing : ComposeFstOpOptions → (m1 m2 a1 a2 ignored : List ℕ) → Composition
 composing o m1 m2 a1 a2 ignored = composing_words o (words_read outputs (replacing o ignored) m1) (words_read inputs (replacing o ignored) m2) a1 a2
-
--- "state 0, if both machines have a start"
-abbrev pub compose_start_means : ComposeStart → Option Triple
-compose_start_means (At t) = Some (tuple_means t)
-compose_start_means Missing = None
-
--- the final weight; none: not final; refusal 12: "weight too large"
-abbrev pub final_means : FinalWeight → Checked (Option ℕ)
-final_means (Weight w) = good (Some w)
-final_means NotFinal = good None
-final_means TooLarge = refused 12

@@ -7,11 +7,11 @@ mod start;
 ghost use Rattle.std.specs.Prelude.{◌≡◌};
 ghost use Rattle.compose_fst_op.specs.Composing.{sigmas_of};
 
-pub use finals::{FinalWeight, compute_final_weight};
+pub use finals::compute_final_weight;
 use fst::Sigmas;
 use match_type::Side;
 use matchers::Sigma;
-pub use start::{ComposeStart, compute_start};
+pub use start::compute_start;
 
 // The settings of a composition and its side. The machines and their allowed lists are lent beside them.
 #[derive(Clone, Copy)]
@@ -29,9 +29,8 @@ pub struct ComposeFstOpOptions {
 pub fn sigmas_of(options: ComposeFstOpOptions) -> Sigmas
     ensures { result ≡ sigmas_of options }
 {
-    let sigma1 = options.sigma1;
-    let sigma2 = options.sigma2;
-    let first = sigma1.label;
-    let second = sigma2.label;
-    Sigmas { first, second }
+    Sigmas {
+        first: options.sigma1.label,
+        second: options.sigma2.label,
+    }
 }

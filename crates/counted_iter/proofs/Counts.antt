@@ -2,14 +2,15 @@
 use mathlib.Core.Path.{◌≡◌, refl, sym, ap, ◌∙◌}
 use mathlib.Core.Bool.{Bool, true, false, cond}
 use mathlib.Core.List.{List, [], ◌∷◌, map}
-use Rattle.std.specs.Prelude.{None}
+use Rattle.std.specs.Prelude.{Option, None, Some, option_map}
+use Rattle.std.specs.Int.{from_bool}
 use Rattle.std.proofs.lemmas.Option.{none-some}
 use Prim.Native.Nat.{ℕ, ◌+◌, ◌≤◌}
 use native.Mathlib.Omega.{arith}
 use lib.Dec.{eqb, leb}
 use lib.ListN.{length, length-append, length-map}
 use Rattle.lists.specs.Lists.{put_if}
-use Rattle.lists.proofs.Members.{put_length, keep_length}
+use Rattle.lists.proofs.Members.{keep_length}
 use Rattle.words.specs.Labels.{Checked, good, refused, and_then}
 use Rattle.words.specs.Matches.{MatchType, label_on, Match, loop, own, viaSigma}
 use Rattle.words.specs.Machines.{tr_count, next_of, list_from, machine_of}
@@ -17,17 +18,24 @@ use Rattle.words.specs.Sigmas.{Operand, lookup, rewrite}
 use Rattle.words.proofs.CheckedLaws.{good≢refused, good_is, refused_is}
 use Rattle.words.proofs.ListLaws.{list_length}
 use Rattle.fst.specs.Meaning.{on_of}
-use Rattle.matchers.specs.Cursors.{records_from, with_label, looked, sigma_left, own_left, in_phase, matches_left, items_of, items_left, Asked, asked}
+use Rattle.matchers.specs.Cursors.{records_from, with_label, looked, sigma_left, own_left, in_phase, matches_left, items_of, items_left, Asked, asked, step_means}
 use Rattle.matchers.specs.Meaning.{Item, item_of, lookup_items}
 use Rattle.matchers.specs.declared.Phase.TheVariants.{Own, Sigmas}
 use Rattle.matchers.specs.declared.Cursor.{Cursor}
+use Rattle.matchers.specs.declared.IterItemMatcher.{IterItemMatcher}
+use Rattle.counted_iter.specs.Counted.{count_of}
 use Rattle.matchers.proofs.Seeks.{with_turn}
 use Rattle.fan_outs.specs.FanOut.{fan_out}
 
+-- one more, if the test holds
+put_one : {A : Type 0} (b : Bool) (x : A) (l : List A) → length (put_if b x l) ≡ from_bool b + length l
+put_one true x l = omega arith
+put_one false x l = omega arith
+
 -- a turn: one, if the record has the label, and those from its link on
 pub count_turn : (on : MatchType) (m : List ℕ) (x t : ℕ) → (t ≡ 0 → ⊥) → t ≤ tr_count m
-    → length (with_label on m x t) ≡ cond (eqb (label_on on (machine_of m) t) x) 1 0 + length (with_label on m x (next_of m t))
-count_turn on m x t e h = ap length (with_turn on m x t e h) ∙ put_length (eqb (label_on on (machine_of m) t) x) t (with_label on m x (next_of m t))
+    → length (with_label on m x t) ≡ from_bool (eqb (label_on on (machine_of m) t) x) + length (with_label on m x (next_of m t))
+count_turn on m x t e h = ap length (with_turn on m x t e h) ∙ put_one (eqb (label_on on (machine_of m) t) x) t (with_label on m x (next_of m t))
 
 pub count_few : (on : MatchType) (m : List ℕ) (x t : ℕ) → length (with_label on m x t) ≤ tr_count m
 unfolding with_label records_from
@@ -57,20 +65,18 @@ module _ (m : List ℕ) (c : Cursor) where
   count_sigmas b p y = rw p (y ∙ sym (length-map (with_label (on_of c.on) m c.sigma.0 c.tr) viaSigma))
 
   -- the loop is one match more
-  pub count_loop : (n : ℕ) → c.loops ≡ true → n ≡ length (in_phase c.phase m c) → n + 1 ≡ length (matches_left m c)
+  pub count_loop : (n : ℕ) → n ≡ length (in_phase c.phase m c) → n + from_bool c.loops ≡ length (matches_left m c)
   unfolding matches_left
-  count_loop n l e = omega (arith, e, ap (λ (b : Bool). length (put_if b loop (in_phase c.phase m c))) l)
+  count_loop n e = omega (arith, e, put_one c.loops loop (in_phase c.phase m c))
 
-  pub count_no_loop : (n : ℕ) → c.loops ≡ false → n ≡ length (in_phase c.phase m c) → n ≡ length (matches_left m c)
-  unfolding matches_left
-  count_no_loop n l e = e ∙ ap (λ (b : Bool). length (put_if b loop (in_phase c.phase m c))) (sym l)
-
--- an asking that gives none had none to give
-pub none_left : (m : List ℕ) (c : Cursor) (left : List Item) → record { given = None; left = left } ≡ asked (items_left m c) → 0 ≡ length (matches_left m c)
+-- the number with the first match that an asking gives; where it gives none, there was none to give
+pub count_first : (m : List ℕ) (c next : Cursor) (n : ℕ) (found : Option IterItemMatcher) → n ≡ length (matches_left m c) → step_means m (found, next) ≡ asked (items_left m c)
+    → count_of (option_map (λ u. (n, u)) found, next) ≡ length (matches_left m c)
 unfolding items_left
-none_left m c left e = go (matches_left m c) e
+count_first m c next n (Some u) e h = e
+count_first m c next n None e h = go (matches_left m c) h
   where
-    go : (us : List Match) → record { given = None; left = left } ≡ asked (items_of m c us) → 0 ≡ length us
+    go : (us : List Match) → step_means m (None, next) ≡ asked (items_of m c us) → 0 ≡ length us
     go [] h = refl
     go (u ∷ us) h = absurd (none-some _ (ap (λ (x : Asked). x.given) h))
 

@@ -3,7 +3,7 @@
 use mathlib.Core.Path.{◌≡◌, refl, sym, ap, subst, ◌∙◌}
 use mathlib.Core.Bool.{Bool, cond}
 use mathlib.Core.List.{List, [], ◌∷◌, map}
-use Rattle.std.specs.Prelude.{None}
+use Rattle.std.specs.Prelude.{None, Some, Result, Ok, Err, IfOk}
 use Rattle.std.proofs.lemmas.Option.{none-some, same_Some}
 use Prim.Native.Nat.{ℕ}
 use contract.Lifetimes.{Lfts}
@@ -19,26 +19,23 @@ use Rattle.words.proofs.CheckedLaws.{good_is, refused_is, good≢refused, past_t
 use Rattle.words.proofs.ListLaws.{list_distinct}
 use Rattle.words.proofs.PapersLookup.{SameEdge, found_apart}
 use Rattle.fst.specs.Meaning.{on_of, read_as}
+use Rattle.fst.specs.Refusals.{number_of, checked_by}
+use Rattle.fst.specs.declared.refusals.Refusal.{Refusal}
 use Rattle.fst.specs.declared.Label.{Label}
 use Rattle.fst.specs.declared.MatchType.{MatchType}
 use Rattle.fst.specs.declared.Sigmas.{Sigmas}
 use Rattle.fst.specs.declared.StateId.{StateId}
 use Rattle.fan_outs.specs.FanOut.{fan_out}
 use Rattle.matchers.specs.Meaning.{Item, match_means, item_of, lookup_items, allowed_of, operand_in, stands_for}
-use Rattle.matchers.specs.Cursors.{items_left, Asked, asked, cursor_after, first_cursor}
+use Rattle.matchers.specs.Cursors.{Step, items_left, Asked, asked, cursor_after, first_cursor}
 use Rattle.matchers.specs.Asking.{LookUp, sigma_look_up, Holds, Gives}
 use Rattle.matchers.specs.declared.IterItemMatcher.{IterItemMatcher}
 use Rattle.matchers.specs.declared.Cursor.{Cursor}
-use Rattle.matchers.specs.declared.Step.{Step}
 use Rattle.matchers.specs.declared.sigma_matcher.Sigma.{Sigma}
-use Rattle.matchers.specs.declared.sigma_matcher.SigmaIter.{SigmaIter}
-use Rattle.matchers.specs.declared.sigma_matcher.SigmaIter.TheVariants.{At as From}
 use Rattle.matchers.proofs.Asking.{SigmaReply, NextReply, gives, words_of_lem, sigma_asked_on}
 use Rattle.matchers.proofs.Held.{after_holds, first_holds, place_from}
-use Rattle.counted_iter.specs.Counted.{count_means, first_means, GoesOnAt}
+use Rattle.counted_iter.specs.Counted.{CountedIter, count_of, first_asked}
 use Rattle.counted_iter.specs.HandedOut.{HandsOut, HandedOut, CountsOrRefuses}
-use Rattle.counted_iter.specs.declared.CountedIter.{CountedIter}
-use Rattle.counted_iter.specs.declared.CountedIter.TheVariants.{First, Empty, Refused}
 use Rattle.counted_iter.proofs.counted_iter.Reads as counted-iter
 
 -- i is a reply that the contract of `counted_iter` allows, asked with the lent words w, the side, the sigma labels of both machines, the lent list g of ignored labels, the settings of sigma, the lent
@@ -52,12 +49,12 @@ hands : (Answers : Cursor → Step → Type 0) (m : List ℕ) (s : ℕ) (q : Loo
 hands Answers m s q item us c g = record { gives = λ k r a h. let u = at_place us k h in (item u.0, g.in_order k r a u.0 u.1); ends = g.then_none }
 
 -- The look-up that does not count hands out as many: asked on from its first cursor, by the theorem of 2.5.
-pub sigma_hands_out : (κs : Lfts 3) (κt : Lfts 2) (w g allowed : Bor (List ℕ)) (on : MatchType) (labels : Sigmas) (sigma : Sigma) (s : StateId) (x : Label) (i : SigmaIter)
+pub sigma_hands_out : (κs : Lfts 3) (κt : Lfts 2) (w g allowed : Bor (List ℕ)) (on : MatchType) (labels : Sigmas) (sigma : Sigma) (s : StateId) (x : Label) (i : Result Cursor Refusal)
     → SigmaReply κs w g allowed on labels sigma s x i
     →
     let m = read_as on labels g.now w.now in
     let o = operand_in (on_of on) m sigma (allowed_of sigma.listed allowed.now) in
-    (n : ℕ) → fan_out o s.0 x.0 ≡ good n → (c : Cursor) × (i ≡ From c) × HandsOut (NextReply κt w g) c n
+    (n : ℕ) → fan_out o s.0 x.0 ≡ good n → (c : Cursor) × (i ≡ Ok c) × HandsOut (NextReply κt w g) c n
 unfolding fan_out
 sigma_hands_out κs κt w g allowed on labels sigma s x i h n e =
     let m = read_as on labels g.now w.now in
@@ -112,26 +109,26 @@ count_is_handed_out κs κt w g allowed on labels sigma s x i (count, (first, pl
     all : (l : List Match) (c : Cursor) → items_left m c ≡ map item l → Apart SameEdge l → Holds m s.0 asks c → Gives (NextReply κt w g) m s.0 asks item l c
     all l c = subst (λ (u : List ℕ). items_left u c ≡ map item l → Apart SameEdge l → Holds u s.0 asks c → Gives (NextReply κt w g) u s.0 asks item l c) (words_of_lem w g on asks refl) (gives κt w g s.0 asks item l c)
 
-    refused_at : (j : CountedIter) (n : ℕ) → count_means j ≡ refused n → j ≡ Refused n
-    refused_at (First k v c) n e = absurd (good≢refused e)
-    refused_at (Empty c) n e = absurd (good≢refused e)
-    refused_at (Refused k) n e = ap Refused (refused_is e)
+    refused_at : (j : CountedIter) (n : ℕ) → checked_by count_of j ≡ refused n → (k : Refusal) × (number_of k ≡ n) × (j ≡ Err k)
+    refused_at (Ok (Some (k, v), c)) n e = absurd (good≢refused e)
+    refused_at (Ok (None, c)) n e = absurd (good≢refused e)
+    refused_at (Err k) n e = (k, refused_is e, refl)
 
-    none_at_lem : (j : CountedIter) → first_means m j ≡ good (asked []) → Apart SameEdge [] → GoesOnAt j (cursor_after m begin) → (c : Cursor) × (j ≡ Empty c) × Gives (NextReply κt w g) m s.0 asks item [] c
-    none_at_lem (First k v c) e d p = absurd (none-some _ (sym (ap (λ (y : Asked). y.given) (good_is e))))
-    none_at_lem (Empty c) e d p = (c, refl, all [] c (ap (λ (y : Asked). y.left) (good_is e)) d (held c p))
-    none_at_lem (Refused k) e d p = absurd (good≢refused (sym e))
+    none_at_lem : (j : CountedIter) → checked_by (first_asked m) j ≡ good (asked []) → Apart SameEdge [] → IfOk j (λ r. r.1 ≡ cursor_after m begin) → (c : Cursor) × (j ≡ Ok (None, c)) × Gives (NextReply κt w g) m s.0 asks item [] c
+    none_at_lem (Ok (Some (k, v), c)) e d p = absurd (none-some _ (sym (ap (λ (y : Asked). y.given) (good_is e))))
+    none_at_lem (Ok (None, c)) e d p = (c, refl, all [] c (ap (λ (y : Asked). y.left) (good_is e)) d (held c p))
+    none_at_lem (Err k) e d p = absurd (good≢refused (sym e))
 
-    first_at_lem : (j : CountedIter) (u : Match) (us : List Match) → count_means j ≡ good (length (u ∷ us)) → first_means m j ≡ good (asked (map item (u ∷ us))) → Apart SameEdge (u ∷ us) → GoesOnAt j (cursor_after m begin)
-        → (v : IterItemMatcher) × (c : Cursor) × (j ≡ First (length (u ∷ us)) v c) × (match_means v ≡ item u) × Gives (NextReply κt w g) m s.0 asks item us c
-    first_at_lem (First k v c) u us n e d p =
+    first_at_lem : (j : CountedIter) (u : Match) (us : List Match) → checked_by count_of j ≡ good (length (u ∷ us)) → checked_by (first_asked m) j ≡ good (asked (map item (u ∷ us))) → Apart SameEdge (u ∷ us) → IfOk j (λ r. r.1 ≡ cursor_after m begin)
+        → (v : IterItemMatcher) × (c : Cursor) × (j ≡ Ok (Some (length (u ∷ us), v), c)) × (match_means v ≡ item u) × Gives (NextReply κt w g) m s.0 asks item us c
+    first_at_lem (Ok (Some (k, v), c)) u us n e d p =
         let h = good_is e in
-        (v, c, ap (λ (z : ℕ). First z v c) (good_is n), same_Some _ _ (ap (λ (y : Asked). y.given) h), all us c (ap (λ (y : Asked). y.left) h) d.1 (held c p))
-    first_at_lem (Empty c) u us n e d p = absurd (none-some _ (ap (λ (y : Asked). y.given) (good_is e)))
-    first_at_lem (Refused k) u us n e d p = absurd (good≢refused (sym e))
+        (v, c, ap (λ (z : ℕ). Ok (Some (z, v), c)) (good_is n), same_Some _ _ (ap (λ (y : Asked). y.given) h), all us c (ap (λ (y : Asked). y.left) h) d.1 (held c p))
+    first_at_lem (Ok (None, c)) u us n e d p = absurd (none-some _ (ap (λ (y : Asked). y.given) (good_is e)))
+    first_at_lem (Err k) u us n e d p = absurd (good≢refused (sym e))
 
-    handed : (j : CountedIter) (n : ℕ) (l : List Match) → lookup operand s.0 x.0 ≡ good l → n ≡ length l → first_means m j ≡ good (asked (map item l)) → count_means j ≡ good (length l)
-        → GoesOnAt j (cursor_after m begin) → HandedOut (NextReply κt w g) j n
+    handed : (j : CountedIter) (n : ℕ) (l : List Match) → lookup operand s.0 x.0 ≡ good l → n ≡ length l → checked_by (first_asked m) j ≡ good (asked (map item l)) → checked_by count_of j ≡ good (length l)
+        → IfOk j (λ r. r.1 ≡ cursor_after m begin) → HandedOut (NextReply κt w g) j n
     handed j n [] f z e a p =
         let r = none_at_lem j e (apart [] f) p in
         subst (λ (y : CountedIter). HandedOut (NextReply κt w g) y n) (sym r.1) (z, hands _ m s.0 asks item [] r.0 r.2)
@@ -139,7 +136,7 @@ count_is_handed_out κs κt w g allowed on labels sigma s x i (count, (first, pl
         let r = first_at_lem j u us a e (apart (u ∷ us) f) p in
         subst (λ (y : CountedIter). HandedOut (NextReply κt w g) y n) (sym r.2) (length us, z, hands _ m s.0 asks item us r.1 r.4)
 
-    by_found : (f : Checked (List Match)) → lookup operand s.0 x.0 ≡ f → (j : CountedIter) (n : ℕ) → count_means j ≡ good n → count_means j ≡ and_then (lookup operand s.0 x.0) (λ ms. good (length ms))
-        → first_means m j ≡ and_then (and_then (lookup operand s.0 x.0) (λ ms. good (map item ms))) (λ items. good (asked items)) → GoesOnAt j (cursor_after m begin) → HandedOut (NextReply κt w g) j n
+    by_found : (f : Checked (List Match)) → lookup operand s.0 x.0 ≡ f → (j : CountedIter) (n : ℕ) → checked_by count_of j ≡ good n → checked_by count_of j ≡ and_then (lookup operand s.0 x.0) (λ ms. good (length ms))
+        → checked_by (first_asked m) j ≡ and_then (and_then (lookup operand s.0 x.0) (λ ms. good (map item ms))) (λ items. good (asked items)) → IfOk j (λ r. r.1 ≡ cursor_after m begin) → HandedOut (NextReply κt w g) j n
     by_found (refused k) f j n z a e p = absurd (good≢refused (sym z ∙ rw f at a))
     by_found (good l) f j n z a e p = handed j n l f (good_is (sym z ∙ rw f at a)) (rw f at e) (rw f at a) p

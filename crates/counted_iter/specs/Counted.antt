@@ -1,26 +1,24 @@
 -- What the answer of a look-up that counts stands for.
-use Rattle.std.specs.Prelude.{◌≡◌, List, ℕ, None, Some}
-use Rattle.words.specs.Labels.{Checked, good, refused}
+use Rattle.std.specs.Prelude.{List, ℕ, Option, None, Some, option_map, Result}
+use Rattle.fst.specs.declared.refusals.Refusal.{Refusal}
 use Rattle.matchers.specs.Meaning.{match_means}
 use Rattle.matchers.specs.Cursors.{Asked, items_left}
+use Rattle.matchers.specs.declared.IterItemMatcher.{IterItemMatcher}
 use Rattle.matchers.specs.declared.Cursor.{Cursor}
-use Rattle.counted_iter.specs.declared.CountedIter.{CountedIter}
-use Rattle.counted_iter.specs.declared.CountedIter.TheVariants.{First, Empty, Refused}
 
--- 02, 2.6: what it states "with its first match, or as 0 where there is none"; or the refusal
-abbrev pub count_means : CountedIter → Checked ℕ
-count_means (First n u c) = good n
-count_means (Empty c) = good 0
-count_means (Refused k) = refused k
+-- what the code states: the number with the first match, none where there is none; and the cursor to ask on with
+abbrev pub Counted : Type 0
+Counted = Option (ℕ × IterItemMatcher) × Cursor
+
+-- or the refusal
+abbrev pub CountedIter : Type 0
+CountedIter = Result Counted Refusal
+
+-- 02, 2.6: what it states "with its first match, or as 0 where there is none"
+abbrev pub count_of : Counted → ℕ
+count_of (Some first, cursor) = first.0
+count_of (None, cursor) = 0
 
 -- the first match (none: there is none), and what is left to give
-abbrev pub first_means : List ℕ → CountedIter → Checked Asked
-first_means m (First n u c) = good (record { given = Some (match_means u); left = items_left m c })
-first_means m (Empty c) = good (record { given = None; left = items_left m c })
-first_means m (Refused k) = refused k
-
--- the cursor to ask on with is d, where it is not refused
-abbrev pub GoesOnAt : CountedIter → Cursor → Type 0
-GoesOnAt (First n u c) d = c ≡ d
-GoesOnAt (Empty c) d = c ≡ d
-GoesOnAt (Refused k) d = Unit {0}
+abbrev pub first_asked : List ℕ → Counted → Asked
+first_asked m counted = record { given = option_map (λ first. match_means first.1) counted.0; left = items_left m counted.1 }

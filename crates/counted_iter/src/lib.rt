@@ -1,37 +1,24 @@
 // The look-up of a label with its fan-out (02, 2.6): the matches are counted along the list, and their number is stated with the first. The expansion takes `sigma_iter`, which does not count.
 #![tactic(auto)]
 
-ghost use Rattle.std.specs.Prelude.{◌≡◌, ◌+◌, ◌≤◌, cond, eqb, length, None};
+ghost use Rattle.std.specs.Prelude.{◌≡◌, ◌+◌, ◌≤◌, cond, length, None, IfOk};
 ghost use Rattle.words.specs.Labels.{MAX, good, and_then};
 ghost use Rattle.words.specs.Machines.{first_of};
 ghost use Rattle.fst.specs.Meaning.{on_of, read_as};
+ghost use Rattle.fst.specs.Refusals.{checked_by};
 ghost use Rattle.fan_outs.specs.FanOut.{fan_out};
 ghost use Rattle.matchers.specs.Meaning.{allowed_of, operand_in, lookup_items, stands_for};
 ghost use Rattle.matchers.specs.Cursors.{held_words, with_label, in_phase, matches_left, items_left, asked, cursor_after, first_cursor};
-ghost use Rattle.counted_iter.specs.Counted.{count_means, first_means, GoesOnAt};
+ghost use Rattle.counted_iter.specs.Counted.{count_of, first_asked};
 
-use fst::{Label, MatchType, Sigmas, StateId, inner_label, next_tr, num_records};
-use matchers::{
-    Cursor, IterItemMatcher, Phase, Sigma, SigmaIter, Step, looked, next_match, sigma_iter,
-};
+use fst::{Label, MatchType, Refusal, Sigmas, StateId, inner_label, next_tr, num_records};
+use matchers::{Cursor, IterItemMatcher, Phase, Sigma, looked, next_match, sigma_iter};
 
-// What a look-up states of its matches.
-#[derive(Clone, Copy)]
-pub enum CountedIter {
-    // How many there are, the first of them, and the cursor to ask on with for the others.
-    First(u64, IterItemMatcher, Cursor),
-    // There are 0; the cursor gives none.
-    Empty(Cursor),
-    // The number of the refusal.
-    Refused(u32),
-}
+// What a look-up states of its matches: how many there are and the first of them, None where there is none; with the cursor to ask on with.
+pub type Counted = (Option<(u64, IterItemMatcher)>, Cursor);
 
-// 1 where the labels are the same, else 0.
-fn one_if_same(found: Label, label: Label) -> u64
-    ensures { result ≡ cond (eqb found.0 label.0) 1 0 }
-{
-    if found.0 == label.0 { 1 } else { 0 }
-}
+// The same, or the refusal of the look-up.
+pub type CountedIter = Result<Counted, Refusal>;
 
 // How many records from t on have the label on a side.
 fn count_label(
@@ -51,7 +38,7 @@ fn count_label(
     let mut n: u64 = 0;
     let mut at = t;
     while at != 0 {
-        n += one_if_same(inner_label(m, on, sigmas, ignored, at), label);
+        n += u64::from(inner_label(m, on, sigmas, ignored, at) == label);
         at = next_tr(m, at);
     }
     n
@@ -62,17 +49,13 @@ fn count_phase(m: &[u32], cursor: Cursor, ignored: &[u32]) -> u64
     ensures value { result ≡ length (in_phase cursor.phase (held_words cursor ignored.now m.now) cursor) }
     ensures few { result ≤ MAX + MAX }
 {
-    let on = cursor.on;
-    let label = cursor.label;
-    let sigma = cursor.sigma;
-    let labels = cursor.labels;
-    let phase = cursor.phase;
-    match phase {
+    let Cursor { on, labels, .. } = cursor;
+    match cursor.phase {
         Phase::Own => {
-            let own = count_label(m, on, labels, ignored, looked(label), cursor.tr);
-            own + count_label(m, on, labels, ignored, sigma, cursor.sigmas)
+            let own = count_label(m, on, labels, ignored, looked(cursor.label), cursor.tr);
+            own + count_label(m, on, labels, ignored, cursor.sigma, cursor.sigmas)
         }
-        Phase::Sigmas => count_label(m, on, labels, ignored, sigma, cursor.tr),
+        Phase::Sigmas => count_label(m, on, labels, ignored, cursor.sigma, cursor.tr),
     }
 }
 
@@ -80,26 +63,19 @@ fn count_phase(m: &[u32], cursor: Cursor, ignored: &[u32]) -> u64
 pub fn count_left(m: &[u32], cursor: Cursor, ignored: &[u32]) -> u64
     ensures { result ≡ length (matches_left (held_words cursor ignored.now m.now) cursor) }
 {
-    let n = count_phase(m, cursor, ignored);
-    if cursor.loops {
-        return n + 1;
-    }
-    n
+    count_phase(m, cursor, ignored) + u64::from(cursor.loops)
 }
 
 // The number of a cursor's matches with the first of them.
-fn counted(m: &[u32], cursor: Cursor, ignored: &[u32]) -> CountedIter
-    ensures result_value { count_means result ≡ good (length (matches_left (held_words cursor ignored.now m.now) cursor)) }
+fn counted(m: &[u32], cursor: Cursor, ignored: &[u32]) -> Counted
+    ensures result_value { count_of result ≡ length (matches_left (held_words cursor ignored.now m.now) cursor) }
     ensures first { let words = held_words cursor ignored.now m.now in
-        first_means words result ≡ good (asked (items_left words cursor)) }
-    ensures place { GoesOnAt result (cursor_after (held_words cursor ignored.now m.now) cursor) }
+        first_asked words result ≡ asked (items_left words cursor) }
+    ensures place { result.1 ≡ cursor_after (held_words cursor ignored.now m.now) cursor }
 {
     let n = count_left(m, cursor, ignored);
-    let step = next_match(m, cursor, ignored);
-    match step {
-        Step::Match(found, next) => CountedIter::First(n, found, next),
-        Step::End(next) => CountedIter::Empty(next),
-    }
+    let (found, next) = next_match(m, cursor, ignored);
+    (found.map(|first| (n, first)), next)
 }
 
 // The matches of a label at a state: how many, and the first; or refusal 11 where the label is sigma.
@@ -116,19 +92,16 @@ pub fn counted_iter(
     ensures result_value { let words = read_as on sigmas ignored.now m.now in
         let allowed = allowed_of sigma.listed allowed.entry.now in
         let operand = operand_in (on_of on) words sigma allowed in
-        count_means result ≡ fan_out operand s.0 label.0 }
+        checked_by count_of result ≡ fan_out operand s.0 label.0 }
     ensures first { let words = read_as on sigmas ignored.now m.now in
         let allowed = allowed_of sigma.listed allowed.entry.now in
         let operand = operand_in (on_of on) words sigma allowed in
-        first_means words result ≡ and_then (lookup_items operand s.0 label.0) (λ items. good (asked items)) }
+        checked_by (first_asked words) result ≡ and_then (lookup_items operand s.0 label.0) (λ items. good (asked items)) }
     ensures place { let words = read_as on sigmas ignored.now m.now in
         let both = (operand_in (on_of on) words sigma None).sigma.rewrite_both in
         let from = cond (stands_for sigma.label.0 (allowed_of sigma.listed allowed.now) label.0) (first_of words s.0) 0 in
-        GoesOnAt result (cursor_after words (first_cursor words on sigmas s label sigma.label both from)) }
+        IfOk result (λ counted. counted.1 ≡ cursor_after words (first_cursor words on sigmas s label sigma.label both from)) }
 {
-    let found = sigma_iter(m, on, sigmas, ignored, sigma, allowed, s, label);
-    match found {
-        SigmaIter::Refused(k) => CountedIter::Refused(k),
-        SigmaIter::At(cursor) => counted(m, cursor, ignored),
-    }
+    let cursor = sigma_iter(m, on, sigmas, ignored, sigma, allowed, s, label)?;
+    Ok(counted(m, cursor, ignored))
 }

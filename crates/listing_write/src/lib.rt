@@ -7,7 +7,7 @@ ghost use Rattle.std.specs.Prelude.{◌+◌, ◌≤◌, ◌∷◌, length};
 ghost use Rattle.calls.specs.Listing.{side_line, state_line, tr_line, end_line, refused_line};
 ghost use Rattle.listing_text.specs.Printing.{line_bytes, final_word};
 ghost use Rattle.listing_text.specs.FanOutText.{count_bytes};
-ghost use Rattle.listing_write.specs.Written.{Written, final_of};
+ghost use Rattle.listing_write.specs.Written.{Written};
 
 use text::{put_number, put_text, put_word, put_words};
 
@@ -17,25 +17,23 @@ pub fn put_side(out: &mut [u8], to: usize, side: u32) -> usize
     ensures written { Written out.old to (line_bytes (side_line side)) out.new result }
     ensures near { result ≤ to + 64 }
 {
-    if side == 0 {
-        return put_text(out, to, b"side input\n");
+    match side {
+        0 => put_text(out, to, b"side input\n"),
+        1 => put_text(out, to, b"side output\n"),
+        _ => put_text(out, to, b"side both\n"),
     }
-    if side == 1 {
-        return put_text(out, to, b"side output\n");
-    }
-    put_text(out, to, b"side both\n")
 }
 
 // A space, and the final weight or `-`.
-fn put_final(out: &mut [u8], to: usize, accepts: bool, w: u32) -> usize
+fn put_final(out: &mut [u8], to: usize, weight: Option<u32>) -> usize
     requires { to + 11 ≤ length out.old }
-    ensures written { Written out.old to (32 ∷ final_word (final_of accepts w)) out.new result }
+    ensures written { Written out.old to (32 ∷ final_word weight) out.new result }
     ensures near { result ≤ to + 11 }
 {
-    if accepts {
-        return put_word(out, to, w);
+    match weight {
+        Some(w) => put_word(out, to, w),
+        None => put_text(out, to, b" -"),
     }
-    put_text(out, to, b" -")
 }
 
 // `s`: the state's number, its triple, and its final weight or `-`.
@@ -46,16 +44,15 @@ pub fn put_state(
     s1: u32,
     s2: u32,
     f: u32,
-    accepts: bool,
-    w: u32,
+    weight: Option<u32>,
 ) -> usize
     requires { to + 64 ≤ length out.old }
-    ensures written { Written out.old to (line_bytes (state_line n (record { s1 = s1; s2 = s2; f = f }) (final_of accepts w))) out.new result }
+    ensures written { Written out.old to (line_bytes (state_line n (record { s1 = s1; s2 = s2; f = f }) weight)) out.new result }
     ensures near { result ≤ to + 64 }
 {
     let a = put_text(out, to, b"s");
     let b = put_words(out, a, n, s1, s2, f);
-    let c = put_final(out, b, accepts, w);
+    let c = put_final(out, b, weight);
     put_text(out, c, b"\n")
 }
 

@@ -3,17 +3,16 @@ ghost use Rattle.std.specs.Prelude.{◌≡◌, ◌+◌, ◌≤◌, ◌∷◌, �
 ghost use Rattle.listing_text.specs.Printing.{decimal};
 ghost use Rattle.listing_write.specs.Written.{Written};
 
+use itoa::Buffer;
+
 // The text as it is.
 pub fn put_text(out: &mut [u8], to: usize, text: &[u8]) -> usize
     requires { to + length text.now ≤ length out.old }
     ensures { Written out.old to text.now out.new result }
 {
-    let mut i = 0;
-    while i < text.len() {
-        out[to + i] = text[i];
-        i += 1;
-    }
-    to + i
+    let end = to + text.len();
+    out[to..end].copy_from_slice(text);
+    end
 }
 
 // n in decimal: no 32-bit number has more than ten digits.
@@ -22,15 +21,8 @@ pub fn put_number(out: &mut [u8], to: usize, n: u32) -> usize
     ensures written { Written out.old to (decimal n) out.new result }
     ensures near { result ≤ to + 10 }
 {
-    let mut text = [0u8; 20];
-    let k = io::decimal(wide(n), &mut text);
-    put_text(out, to, &text[..k])
-}
-
-fn wide(n: u32) -> u64
-    ensures { result ≡ n }
-{
-    n as u64
+    let mut digits = Buffer::new();
+    put_text(out, to, digits.format(n).as_bytes())
 }
 
 // A space and a number.

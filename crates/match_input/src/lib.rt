@@ -5,23 +5,17 @@ ghost use Rattle.std.specs.Prelude.{◌≡◌, leb, length};
 ghost use Rattle.words.specs.Matches.{inputs, outputs};
 ghost use Rattle.words.specs.Machines.{list_of};
 ghost use Rattle.words.specs.Sides.{both, direction_at};
-ghost use Rattle.fst.specs.Meaning.{as_operand, read_as};
+ghost use Rattle.fst.specs.Meaning.{on_of, as_operand, read_as};
+ghost use Rattle.fst.specs.Refusals.{checked_by};
 ghost use Rattle.fst.specs.declared.MatchType.TheVariants.{MatchInput, MatchOutput};
 ghost use Rattle.match_type.specs.Chosen.{side_means};
-ghost use Rattle.match_input.specs.Direction.{direction_means};
 
-use fst::{MatchType, REFUSED_BOTH_MATCH, Sigmas, StateId, first_tr, next_tr};
+use fst::{MatchType, Refusal, Sigmas, StateId, first_tr, next_tr};
 use match_type::Side;
 use matchers::has_sigma;
 
-// The side that is matched, or the number of the refusal.
-#[derive(Clone, Copy)]
-pub enum Direction {
-    Match(MatchType),
-    Refused(u32),
-}
-
 // Whether the list of s1 in machine 1 is at most as long as the list of s2 in machine 2. Both are walked together, up to the end of the shorter.
+#[tactic(auto, unfolding(words::specs::Machines::list_of), using(words::proofs::ListLaws::list_turn, words::proofs::ListLaws::list_end_lem, words::proofs::ListLaws::link, words::proofs::ListLaws::first_inside))]
 pub fn not_longer(m1: &[u32], s1: StateId, m2: &[u32], s2: StateId) -> bool
     ensures { result ≡ leb (length (list_of m1.now s1.0)) (length (list_of m2.now s2.0)) }
 {
@@ -37,7 +31,8 @@ pub fn not_longer(m1: &[u32], s1: StateId, m2: &[u32], s2: StateId) -> bool
     true
 }
 
-// By the states' sigma transitions; where neither has one, by the lengths of their lists.
+// By the states' sigma transitions, or refusal 10; where neither has one, by the lengths of their lists.
+#[tactic(auto, unfolding(words::specs::Sides::direction_at), using(words::proofs::ReplacedLaws::read_list))]
 fn by_states(
     m1: &[u32],
     m2: &[u32],
@@ -45,31 +40,42 @@ fn by_states(
     ignored: &[u32],
     s1: StateId,
     s2: StateId,
-) -> Direction
+) -> Result<MatchType, Refusal>
     ensures { let operand = as_operand outputs (read_as MatchOutput sigmas ignored.now m1.now) sigmas.first.0 in
         let operand2 = as_operand inputs (read_as MatchInput sigmas ignored.now m2.now) sigmas.second.0 in
-        direction_means result ≡ direction_at both operand operand2 s1.0 s2.0 }
+        checked_by on_of result ≡ direction_at both operand operand2 s1.0 s2.0 }
 {
-    let sigma1 = sigmas.first;
-    let sigma2 = sigmas.second;
-    let sigma_at_1 = has_sigma(m1, MatchType::MatchOutput, sigmas, ignored, sigma1, s1);
-    let sigma_at_2 = has_sigma(m2, MatchType::MatchInput, sigmas, ignored, sigma2, s2);
+    let sigma_at_1 = has_sigma(
+        m1,
+        MatchType::MatchOutput,
+        sigmas,
+        ignored,
+        sigmas.first,
+        s1,
+    );
+    let sigma_at_2 = has_sigma(
+        m2,
+        MatchType::MatchInput,
+        sigmas,
+        ignored,
+        sigmas.second,
+        s2,
+    );
+    if sigma_at_1 && sigma_at_2 {
+        return Err(Refusal::BothMatch);
+    }
     if sigma_at_1 {
-        if sigma_at_2 {
-            return Direction::Refused(REFUSED_BOTH_MATCH);
-        }
-        return Direction::Match(MatchType::MatchOutput);
+        return Ok(MatchType::MatchOutput);
     }
-    if sigma_at_2 {
-        return Direction::Match(MatchType::MatchInput);
+    if sigma_at_2 || not_longer(m1, s1, m2, s2) {
+        Ok(MatchType::MatchInput)
+    } else {
+        Ok(MatchType::MatchOutput)
     }
-    if not_longer(m1, s1, m2, s2) {
-        return Direction::Match(MatchType::MatchInput);
-    }
-    Direction::Match(MatchType::MatchOutput)
 }
 
 // The direction at the states s1 and s2, or refusal 10. Machine 1 is matched on outputs, 2 on inputs; a sigma label NO_LABEL means none.
+#[tactic(auto, unfolding(words::specs::Sides::direction_at))]
 pub fn direction_at(
     side: Side,
     m1: &[u32],
@@ -78,13 +84,13 @@ pub fn direction_at(
     ignored: &[u32],
     s1: StateId,
     s2: StateId,
-) -> Direction
+) -> Result<MatchType, Refusal>
     ensures { let operand = as_operand outputs (read_as MatchOutput sigmas ignored.now m1.now) sigmas.first.0 in
         let operand2 = as_operand inputs (read_as MatchInput sigmas ignored.now m2.now) sigmas.second.0 in
-        direction_means result ≡ direction_at (side_means side) operand operand2 s1.0 s2.0 }
+        checked_by on_of result ≡ direction_at (side_means side) operand operand2 s1.0 s2.0 }
 {
     match side {
-        Side::Only(on) => Direction::Match(on),
+        Side::Only(on) => Ok(on),
         Side::Both => by_states(m1, m2, sigmas, ignored, s1, s2),
     }
 }

@@ -1,13 +1,12 @@
 -- `put_refused` meets its contract: its texts one after the other are the line of the definition.
 use Rattle.listing_text.specs.Printing.{line_bytes, spaced}
-use native.Mathlib.Omega.{arith}
 use Rattle.listing_write.proofs.WrittenLaws.{then}
 use Rattle.listing_write.proofs.put_refused.Goals as goal
 
-pub returns : goal.returns
+pub returns-clause-written : goal.returns-clause-written
 unfolding line_bytes spaced
-returns c =
+returns-clause-written c =
     let p = c.put_text-a.ensures in
     let q = c.put_word-b.ensures in
     let t = c.put_text.ensures in
-    record { written = then p (then q.written t); near = omega (arith, p.after, q.near, t.after) }
+    then p (then q.written t)

@@ -1,22 +1,21 @@
--- `put_side` meets its contract: the text of each side is the line of the definition.
+-- The text of each side is the line of the definition.
+use mathlib.Core.Path.{◌≡◌}
 use native.Mathlib.Omega.{arith}
-use Rattle.listing_write.proofs.WrittenLaws.{same_text, side_input, side_output, side_both}
+use borrow.Author.Tests.{ne_eqb}
+use Rattle.listing_text.specs.Printing.{line_bytes, spaced}
 use Rattle.listing_write.proofs.put_side.Goals as goal
 
-pub returns-then-side-eq0 : goal.returns-then-side-eq0
-returns-then-side-eq0 c =
-    let a = c.args in
-    let w = c.put_text.ensures in
-    record { written = same_text (side_input a.side c.if-side-eq0.true) w; near = omega (arith, w.after) }
+pub returns-in-0-clause-written : goal.returns-in-0-clause-written
+unfolding line_bytes spaced
+returns-in-0-clause-written c = rw c.in-0.is c.put_text.ensures
 
-pub returns-then-side-eq1 : goal.returns-then-side-eq1
-returns-then-side-eq1 c =
-    let a = c.args in
-    let w = c.put_text-then-side-eq1.ensures in
-    record { written = same_text (side_output a.side c.if-side-eq0.false c.if-side-eq1.true) w; near = omega (arith, w.after) }
+pub returns-in-1-clause-written : goal.returns-in-1-clause-written
+unfolding line_bytes spaced
+returns-in-1-clause-written c = rw c.in-1.is c.put_text-in-1.ensures
 
-pub returns : goal.returns
-returns c =
-    let a = c.args in
-    let w = c.put_text-2.ensures in
-    record { written = same_text (side_both a.side c.if-side-eq0.false c.if-side-eq1.false) w; near = omega (arith, w.after) }
+pub returns-in_default-clause-written : goal.returns-in_default-clause-written
+unfolding line_bytes spaced
+returns-in_default-clause-written c =
+    let n0 : c.args.side ≡ 0 → ⊥ = λ e. omega arith in
+    let n1 : c.args.side ≡ 1 → ⊥ = λ e. omega arith in
+    rw (ne_eqb c.args.side 0 n0, ne_eqb c.args.side 1 n1) c.put_text-in_default.ensures
