@@ -30,6 +30,7 @@ use Rattle.words.proofs.ListLaws.{list_distinct}
 use Rattle.words.proofs.PapersLookup.{SameEdge, apart_sorted, found_apart}
 use Rattle.fst.specs.Meaning.{on_of, read_as}
 use Rattle.fst.specs.declared.Label.{Label}
+use Rattle.fst.specs.declared.Matched.{Matched}
 use Rattle.fst.specs.declared.MatchType.{MatchType}
 use Rattle.fst.specs.declared.MatchType.TheVariants.{MatchInput, MatchOutput}
 use Rattle.fst.specs.declared.Sigmas.{Sigmas}
@@ -51,15 +52,19 @@ use Rattle.matchers.proofs.ask.Reads as ask
 use Rattle.matchers.proofs.sorted_matcher.sorted_iter.Reads as sorted-iter
 use Rattle.matchers.proofs.sigma_matcher.sigma_iter.Reads as sigma-iter
 
+-- a machine in lent words, with the lent list of ignored labels, matched on a side
+abbrev matched : (w g : Bor (List ℕ)) → MatchType → Sigmas → Matched
+matched w g on labels = record { words = w; on = on; sigmas = labels; ignored = g }
+
 -- c is a reply that the contract of `sorted_iter` allows, asked with the lent words w, the side, the sigma labels of both machines, the lent list g of ignored labels, the state
 -- and the label
-abbrev pub SortedReply : Lfts 2 → (w g : Bor (List ℕ)) → MatchType → Sigmas → StateId → Label → Cursor → Type 0
-SortedReply κs w g on labels s x c = sorted-iter.Learnt κs (w, (on, (labels, (g, (s, (x, tt)))))) c (w, (on, (labels, (g, (s, (x, tt))))))
+abbrev pub SortedReply : Lfts 1 → (w g : Bor (List ℕ)) → MatchType → Sigmas → StateId → Label → Cursor → Type 0
+SortedReply κs w g on labels s x c = sorted-iter.Learnt κs (matched w g on labels, (s, (x, tt))) c (matched w g on labels, (s, (x, tt)))
 
 -- i is one that the contract of `sigma_iter` allows, asked with the settings of sigma and the lent allowed list too
-abbrev pub SigmaReply : Lfts 3 → (w g allowed : Bor (List ℕ)) → MatchType → Sigmas → Sigma → StateId → Label → Result Cursor Refusal → Type 0
+abbrev pub SigmaReply : Lfts 2 → (w g allowed : Bor (List ℕ)) → MatchType → Sigmas → Sigma → StateId → Label → Result Cursor Refusal → Type 0
 SigmaReply κs w g allowed on labels sigma s x i =
-    sigma-iter.Learnt κs (w, (on, (labels, (g, (sigma, (allowed, (s, (x, tt)))))))) i (w, (on, (labels, (g, (sigma, (allowed, (s, (x, tt))))))))
+    sigma-iter.Learnt κs (matched w g on labels, (sigma, (allowed, (s, (x, tt))))) i (matched w g on labels, (sigma, (allowed, (s, (x, tt)))))
 
 -- r is a reply that the contract of `next_match`, or that of `ask`, allows, asked with the lent words w, the cursor c and the lent list g
 abbrev pub NextReply : Lfts 2 → (w g : Bor (List ℕ)) → Cursor → Step → Type 0
@@ -146,7 +151,7 @@ pub words_of_lem : (w g : Bor (List ℕ)) (on : MatchType) (q : LookUp) → q.on
 words_of_lem w g on q e = ap (λ (o : MatchType). read_as o q.labels g.now w.now) (ap side_in e ∙ side_in_lem on)
 
 -- The sorted look-up: on any words, with any list, at any state, of any label.
-pub sorted_asked_on : (κs κt : Lfts 2) (w g : Bor (List ℕ)) (on : MatchType) (labels : Sigmas) (s : StateId) (x : Label) (c : Cursor)
+pub sorted_asked_on : (κs : Lfts 1) (κt : Lfts 2) (w g : Bor (List ℕ)) (on : MatchType) (labels : Sigmas) (s : StateId) (x : Label) (c : Cursor)
     → SortedReply κs w g on labels s x c
     →
     let m = read_as on labels g.now w.now in
@@ -165,7 +170,7 @@ sorted_asked_on κs κt w g on labels s x c (means, place) =
     m = read_as on labels g.now w.now
 
 -- The sigma look-up: on any words, with any list, any settings of sigma and any allowed list, at any state, of any label.
-pub sigma_asked_on : (κs : Lfts 3) (κt : Lfts 2) (w g allowed : Bor (List ℕ)) (on : MatchType) (labels : Sigmas) (sigma : Sigma) (s : StateId) (x : Label) (i : Result Cursor Refusal)
+pub sigma_asked_on : (κs κt : Lfts 2) (w g allowed : Bor (List ℕ)) (on : MatchType) (labels : Sigmas) (sigma : Sigma) (s : StateId) (x : Label) (i : Result Cursor Refusal)
     → SigmaReply κs w g allowed on labels sigma s x i
     →
     let m = read_as on labels g.now w.now in

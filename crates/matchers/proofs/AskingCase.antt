@@ -87,7 +87,7 @@ eleven WalkedSigma e = refl
 eleven k e = absurd (omega arith)
 
 -- the words are lent in a slice, wherever it lies; there is no allowed list, and no label is ignored
-module _ (κs : Lfts 2) (κt : Lfts 3) (ptr : ℕ × ℕ) (unread : Bor (List ℕ)) where
+module _ (κr : Lfts 1) (κs κt : Lfts 2) (ptr : ℕ × ℕ) (unread : Bor (List ℕ)) where
   abbrev lent : Bor (List ℕ)
   lent = record { ref_ptr = ptr; now = words }
 
@@ -120,7 +120,7 @@ module _ (κs : Lfts 2) (κt : Lfts 3) (ptr : ℕ × ℕ) (unread : Bor (List �
   pub four_asked_on : Gets (four Own 2) 0 own_four × Gets (four Own 2) 1 sigma_four × Gets (four Own 2) 2 end_four × Gets (four Own 2) 3 end_four
   four_asked_on = (four_own, (own_four, four_own, four_sigma), (own_four, four_own, (sigma_four, four_sigma, four_end)), (own_four, four_own, (sigma_four, four_sigma, (end_four, four_end, four_end))))
 
-  pub zero_begins : SortedReply κs lent none_ignored MatchInput labels (record { 0 = 0 }) (record { 0 = 0 }) (zero Own true 1)
+  pub zero_begins : SortedReply κr lent none_ignored MatchInput labels (record { 0 = 0 }) (record { 0 = 0 }) (zero Own true 1)
   unfolding stands_for lookup_items lookup sorted_items sorted_matches sigma_matches sigma_trs labelled list_of acceptor_mark items_left matches_left own_left sigma_left with_label records_from keep_if state_count tr_count state_word tr_word first_ok next_ok first_of next_of list_by list_from words_read
   zero_begins = (refl, refl)
 
@@ -162,7 +162,7 @@ module _ (κs : Lfts 2) (κt : Lfts 3) (ptr : ℕ × ℕ) (unread : Bor (List �
   -- of the sorted look-up of 0
   zero_gives : Gives Answer words 0 (record { on = inputs; label = 0; sigma = no_label; labels = labels; both = false }) (item_of (machine_of words) (λ t. t)) (loop ∷ own 1 ∷ []) (zero Own true 1)
   unfolding lookup sorted_matches sigma_matches sigma_trs labelled keep_if state_count tr_count state_word tr_word first_ok next_ok first_of next_of list_by list_from list_of acceptor_mark words_read
-  zero_gives = sorted_asked_on κs κs lent none_ignored MatchInput labels (record { 0 = 0 }) (record { 0 = 0 }) _ zero_begins
+  zero_gives = sorted_asked_on κr κs lent none_ignored MatchInput labels (record { 0 = 0 }) (record { 0 = 0 }) _ zero_begins
 
   pub zero_given : (r q : Step) → Gets (zero Own true 1) 0 r → Gets (zero Own true 1) 1 q → (given_by r ≡ Some the_loop) × (given_by q ≡ Some (item 0 6 1))
   unfolding lookup sorted_matches sigma_matches sigma_trs labelled keep_if state_count tr_count state_word tr_word first_ok next_ok first_of next_of list_by list_from list_of acceptor_mark words_read

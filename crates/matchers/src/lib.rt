@@ -6,11 +6,11 @@ mod sorted_matcher;
 
 ghost use Rattle.std.specs.Prelude.{◌≡◌};
 ghost use Rattle.words.specs.Sigmas.{replace as replaced, rewrite as rewritten};
-ghost use Rattle.fst.specs.Meaning.{on_of, tr_means, read_as};
+ghost use Rattle.fst.specs.Meaning.{on_of, tr_means, words_as_read};
 ghost use Rattle.matchers.specs.Cursors.{looked as lookedFor, held_words, with_label, head0, moved_to, own_left, sigma_left, items_of, items_left, asked, step_means, cursor_of, moved_past, cursor_after};
 
 use fst::{
-    EPS_LABEL, Label, MatchType, NO_LABEL, Sigmas, Tr, get_tr, inner_label, next_tr, num_records,
+    EPS_LABEL, Label, MatchType, Matched, NO_LABEL, Sigmas, Tr, get_tr, inner_label, next_tr, num_records,
 };
 pub use sigma_matcher::{Sigma, has_sigma, sigma_iter};
 pub use sorted_matcher::sorted_iter;
@@ -61,18 +61,18 @@ pub fn looked(label: Label) -> Label
 }
 
 // The first record from t on that has the label on a side; 0: none.
-fn seek(m: &[u32], on: MatchType, sigmas: Sigmas, ignored: &[u32], label: Label, t: u32) -> u32
-    ensures { result ≡ head0 (with_label (on_of on) (read_as on sigmas ignored.now m.now) label.0 t) }
+fn seek(m: Matched<'_>, label: Label, t: u32) -> u32
+    ensures { result ≡ head0 (with_label (on_of m.entry.on) (words_as_read m.entry) label.0 t) }
 {
-    if num_records(m) < t {
+    if num_records(m.words) < t {
         return 0;
     }
     let mut at = t;
     while at != 0 {
-        if inner_label(m, on, sigmas, ignored, at) == label {
+        if inner_label(m, at) == label {
             return at;
         }
-        at = next_tr(m, at);
+        at = next_tr(m.words, at);
     }
     0
 }
@@ -114,6 +114,18 @@ fn moved(cursor: Cursor, phase: Phase, tr: u32) -> Cursor
     }
 }
 
+// A machine's words as a cursor reads them.
+fn read_by<'a>(m: &'a [u32], cursor: Cursor, ignored: &'a [u32]) -> Matched<'a>
+    ensures { result ≡ record { words = m.entry; on = cursor.on; sigmas = cursor.labels; ignored = ignored.entry } }
+{
+    Matched {
+        words: m,
+        on: cursor.on,
+        sigmas: cursor.labels,
+        ignored,
+    }
+}
+
 // Phase Sigmas, from the cursor's place on.
 fn sigma_next(m: &[u32], cursor: Cursor, ignored: &[u32]) -> Step
     ensures result_value { let words = held_words cursor ignored.now m.now in
@@ -121,12 +133,12 @@ fn sigma_next(m: &[u32], cursor: Cursor, ignored: &[u32]) -> Step
     ensures place { let words = held_words cursor ignored.now m.now in
         cursor_of result ≡ moved_past words cursor (sigma_left words cursor cursor.tr) }
 {
-    let Cursor { on, labels, .. } = cursor;
-    let t = seek(m, on, labels, ignored, cursor.sigma, cursor.tr);
+    let read = read_by(m, cursor, ignored);
+    let t = seek(read, cursor.sigma, cursor.tr);
     if t == 0 {
         return (None, moved(cursor, Phase::Sigmas, 0));
     }
-    let found = rewrite(cursor, get_tr(m, on, labels, ignored, t));
+    let found = rewrite(cursor, get_tr(read, t));
     (
         Some(IterItemMatcher::Tr(found)),
         moved(cursor, Phase::Sigmas, next_tr(m, t)),
@@ -140,12 +152,12 @@ fn own_next(m: &[u32], cursor: Cursor, ignored: &[u32]) -> Step
     ensures place { let words = held_words cursor ignored.now m.now in
         cursor_of result ≡ moved_past words cursor (own_left words cursor cursor.tr) }
 {
-    let Cursor { on, labels, .. } = cursor;
-    let t = seek(m, on, labels, ignored, looked(cursor.label), cursor.tr);
+    let read = read_by(m, cursor, ignored);
+    let t = seek(read, looked(cursor.label), cursor.tr);
     if t == 0 {
         return sigma_next(m, moved(cursor, Phase::Sigmas, cursor.sigmas), ignored);
     }
-    let found = get_tr(m, on, labels, ignored, t);
+    let found = get_tr(read, t);
     (
         Some(IterItemMatcher::Tr(found)),
         moved(cursor, Phase::Own, next_tr(m, t)),

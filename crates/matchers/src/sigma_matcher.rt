@@ -5,13 +5,13 @@ ghost use Rattle.words.specs.Machines.{first_of};
 ghost use Rattle.words.specs.Sides.{non_empty};
 ghost use Rattle.words.specs.Sigmas.{is_allowed, rewrites_both, sigma_trs};
 ghost use Rattle.words.specs.Settings.{operand_of};
-ghost use Rattle.fst.specs.Meaning.{on_of, read_as};
+ghost use Rattle.fst.specs.Meaning.{on_of, words_as_read};
 ghost use Rattle.fst.specs.Refusals.{checked_by};
 ghost use Rattle.matchers.specs.Meaning.{allowed_of, operand_in, lookup_items, stands_for};
 ghost use Rattle.matchers.specs.Cursors.{items_left, first_cursor};
 
 use crate::{Cursor, Phase, looked, seek};
-use fst::{EPS_LABEL, Label, MatchType, NO_LABEL, Refusal, Sigmas, StateId, first_tr, has};
+use fst::{EPS_LABEL, Label, Matched, NO_LABEL, Refusal, StateId, first_tr, has};
 
 // The sigma settings of a machine. The allowed list is lent beside them.
 #[derive(Clone, Copy)]
@@ -78,35 +78,32 @@ fn rewrites_both(sigma: Sigma) -> bool
 
 // The matches of a label at a state, or refusal 11 where the label is sigma.
 pub fn sigma_iter(
-    m: &[u32],
-    on: MatchType,
-    sigmas: Sigmas,
-    ignored: &[u32],
+    m: Matched<'_>,
     sigma: Sigma,
     allowed: &[u32],
     s: StateId,
     label: Label,
 ) -> Result<Cursor, Refusal>
-    ensures result_value { let words = read_as on sigmas ignored.now m.now in
+    ensures result_value { let words = words_as_read m.entry in
         let allowed = allowed_of sigma.listed allowed.entry.now in
-        let operand = operand_in (on_of on) words sigma allowed in
+        let operand = operand_in (on_of m.entry.on) words sigma allowed in
         checked_by (items_left words) result ≡ lookup_items operand s.0 label.0 }
-    ensures place { let words = read_as on sigmas ignored.now m.now in
-        let both = (operand_in (on_of on) words sigma None).sigma.rewrite_both in
+    ensures place { let words = words_as_read m.entry in
+        let both = (operand_in (on_of m.entry.on) words sigma None).sigma.rewrite_both in
         let from = cond (stands_for sigma.label.0 (allowed_of sigma.listed allowed.now) label.0) (first_of words s.0) 0 in
-        IfOk result (λ cursor. cursor ≡ first_cursor words on sigmas s label sigma.label both from) }
+        IfOk result (λ cursor. cursor ≡ first_cursor words m.entry.on m.entry.sigmas s label sigma.label both from) }
 {
     if is_sigma(sigma.label, label) {
         return Err(Refusal::WalkedSigma);
     }
-    let first = first_tr(m, s);
-    let tr = seek(m, on, sigmas, ignored, looked(label), first);
+    let first = first_tr(m.words, s);
+    let tr = seek(m, looked(label), first);
     let from = sigma_from(sigma, allowed, label, first);
     Ok(Cursor {
-        on,
+        on: m.on,
         label,
         sigma: sigma.label,
-        labels: sigmas,
+        labels: m.sigmas,
         both: rewrites_both(sigma),
         phase: Phase::Own,
         loops: label == EPS_LABEL,
@@ -117,15 +114,12 @@ pub fn sigma_iter(
 
 // Whether a state has a sigma transition, by matched label.
 pub fn has_sigma(
-    m: &[u32],
-    on: MatchType,
-    sigmas: Sigmas,
-    ignored: &[u32],
+    m: Matched<'_>,
     sigma: Label,
     s: StateId,
 ) -> bool
-    ensures { let words = read_as on sigmas ignored.now m.now in
-        result ≡ non_empty (sigma_trs (operand_of (on_of on) words sigma.0 0 None) s.0) }
+    ensures { let words = words_as_read m.entry in
+        result ≡ non_empty (sigma_trs (operand_of (on_of m.entry.on) words sigma.0 0 None) s.0) }
 {
-    sigma != NO_LABEL && seek(m, on, sigmas, ignored, sigma, first_tr(m, s)) != 0
+    sigma != NO_LABEL && seek(m, sigma, first_tr(m.words, s)) != 0
 }

@@ -26,7 +26,7 @@ returns-then-t-eq0 c =
     let a = c.args in
     let words = held_words a.cursor a.ignored.now a.m.now in
     let d = c.moved in
-    let none = sym (rw c.looked.ensures at c.seek-t.ensures) ∙ c.if-t-eq0.true in
+    let none = sym (rw c.looked.ensures at (rw c.read_by-read.ensures at c.seek-t.ensures)) ∙ c.if-t-eq0.true in
     let h = held a.ignored.now a.m.now a.cursor d.result c.sigma_next.result d.ensures c.sigma_next.ensures.result_value c.sigma_next.ensures.place in
     record { result_value = h.0 ∙ own_end words a.cursor d.result d.ensures none; place = h.1 ∙ own_end_place words a.cursor d.result d.ensures none }
 
@@ -34,7 +34,7 @@ pub returns : goal.returns
 returns c =
     let a = c.args in
     let words = held_words a.cursor a.ignored.now a.m.now in
-    let found = rw c.looked.ensures at c.seek-t.ensures in
+    let found = rw c.looked.ensures at (rw c.read_by-read.ensures at c.seek-t.ensures) in
     let some : next_own words a.cursor ≡ 0 → ⊥ = λ z. c.if-t-eq0.false (found ∙ z) in
     let place = c.moved-2.ensures ∙ ap (moved_to a.cursor Own) (c.next_tr.ensures ∙ (sym (read_next (on_of a.cursor.on) (ignored_under a.cursor.labels a.ignored.now) a.m.now _) ∙ ap (next_of words) found)) in
-    record { result_value = same_gives words (c.get_tr-found.ensures ∙ rw found) place ∙ own_turn words a.cursor some; place = place ∙ own_turn_place words a.cursor some }
+    record { result_value = same_gives words (rw c.read_by-read.ensures at c.get_tr-found.ensures ∙ rw found) place ∙ own_turn words a.cursor some; place = place ∙ own_turn_place words a.cursor some }

@@ -14,15 +14,15 @@ pub returns-then-t-eq0 : goal.returns-then-t-eq0
 returns-then-t-eq0 c =
     let a = c.args in
     let words = held_words a.cursor a.ignored.now a.m.now in
-    let none = sym c.seek-t.ensures ∙ c.if-t-eq0.true in
+    let none = sym (rw c.read_by-read.ensures at c.seek-t.ensures) ∙ c.if-t-eq0.true in
     rw c.moved.ensures (record { result_value = sigma_end words a.cursor none; place = sigma_end_place words a.cursor none })
 
 pub returns : goal.returns
 returns c =
     let a = c.args in
     let words = held_words a.cursor a.ignored.now a.m.now in
-    let found = c.seek-t.ensures in
+    let found = rw c.read_by-read.ensures at c.seek-t.ensures in
     let some : next_sigma words a.cursor ≡ 0 → ⊥ = λ z. c.if-t-eq0.false (found ∙ z) in
-    let given = c.rewrite-found.ensures ∙ ap (rewrite a.cursor.both (on_of a.cursor.on) a.cursor.sigma.0 a.cursor.label.0) (c.get_tr.ensures ∙ ap (tr_of (machine_of words)) found) in
+    let given = c.rewrite-found.ensures ∙ ap (rewrite a.cursor.both (on_of a.cursor.on) a.cursor.sigma.0 a.cursor.label.0) (rw c.read_by-read.ensures at c.get_tr.ensures ∙ ap (tr_of (machine_of words)) found) in
     let place = c.moved-2.ensures ∙ ap (moved_to a.cursor Sigmas) (c.next_tr.ensures ∙ (sym (read_next (on_of a.cursor.on) (ignored_under a.cursor.labels a.ignored.now) a.m.now _) ∙ ap (next_of words) found)) in
     record { result_value = same_gives words given place ∙ sigma_turn words a.cursor some; place = place ∙ sigma_turn_place words a.cursor some }

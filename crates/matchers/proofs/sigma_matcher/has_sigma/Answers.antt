@@ -10,7 +10,7 @@ pub returns-then-ne : goal.returns-then-ne
 unfolding sigma_trs
 returns-then-ne c =
     let a = c.args in
-    let first = c.first_tr.ensures ∙ sym (read_first (on_of a.on) (ignored_under a.sigmas a.ignored.now) a.m.now a.s.0) in
+    let first = c.first_tr.ensures ∙ sym (read_first (on_of a.m.on) (ignored_under a.m.sigmas a.m.ignored.now) a.m.words.now a.s.0) in
     rw (← c.ne.ensures, c.if-ne.true, c.seek.ensures, first, ← with_first, sought_any)
 
 pub returns-else-ne : goal.returns-else-ne

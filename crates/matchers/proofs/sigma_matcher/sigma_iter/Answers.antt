@@ -17,8 +17,8 @@ pub returns : goal.returns
 unfolding lookup_items lookup items_left matches_left own_left sigma_left
 returns c =
     let a = c.args in
-    let m = read_as a.on a.sigmas a.ignored.now a.m.now in
+    let m = read_as a.m.on a.m.sigmas a.m.ignored.now a.m.words.now in
     let allowed = allowed_of a.sigma.listed a.allowed.now in
-    let first = c.first_tr-first.ensures ∙ sym (read_first (on_of a.on) (ignored_under a.sigmas a.ignored.now) a.m.now a.s.0) in
-    rw (← c.is_sigma.ensures, c.if-is_sigma.false, c.eq.ensures, c.rewrites_both.ensures, c.sigma_from-from.ensures, c.seek-tr.ensures, c.looked.ensures, first, sigma_start (on_of a.on) m (side_mark (on_of a.on) m) a.sigma.acceptor a.sigma.label.0 a.sigma.mode allowed a.s.0 a.label.0)
+    let first = c.first_tr-first.ensures ∙ sym (read_first (on_of a.m.on) (ignored_under a.m.sigmas a.m.ignored.now) a.m.words.now a.s.0) in
+    rw (← c.is_sigma.ensures, c.if-is_sigma.false, c.eq.ensures, c.rewrites_both.ensures, c.sigma_from-from.ensures, c.seek-tr.ensures, c.looked.ensures, first, sigma_start (on_of a.m.on) m (side_mark (on_of a.m.on) m) a.sigma.acceptor a.sigma.label.0 a.sigma.mode allowed a.s.0 a.label.0)
     (record { result_value = refl; place = refl })

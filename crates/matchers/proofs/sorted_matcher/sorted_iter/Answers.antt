@@ -13,5 +13,5 @@ pub returns : goal.returns
 unfolding items_left matches_left own_left sigma_left
 returns c =
     let a = c.args in
-    let m = read_as a.on a.sigmas a.ignored.now a.m.now in
-    rw (c.eq.ensures, c.seek-tr.ensures, c.first_tr.ensures, ← read_first (on_of a.on) (ignored_under a.sigmas a.ignored.now) a.m.now a.s.0, c.looked.ensures, own_start (on_of a.on) m no_label a.s.0 a.label.0) (record { result_value = sorted_items_lem (on_of a.on) m a.s.0 a.label.0 (rewrite false (on_of a.on) no_label a.label.0); place = refl })
+    let m = read_as a.m.on a.m.sigmas a.m.ignored.now a.m.words.now in
+    rw (c.eq.ensures, c.seek-tr.ensures, c.first_tr.ensures, ← read_first (on_of a.m.on) (ignored_under a.m.sigmas a.m.ignored.now) a.m.words.now a.s.0, c.looked.ensures, own_start (on_of a.m.on) m no_label a.s.0 a.label.0) (record { result_value = sorted_items_lem (on_of a.m.on) m a.s.0 a.label.0 (rewrite false (on_of a.m.on) no_label a.label.0); place = refl })
