@@ -45,7 +45,7 @@ abbrev five : Cursor
 five = record { on = MatchInput; label = record { 0 = 5 }; sigma = record { 0 = no_label }; labels = labels_with plain; both = false; phase = Sigmas; loops = false; tr = 0; sigmas = 0 }
 
 -- the words are lent in a slice, wherever it lies; there is no allowed list, and no label is ignored
-module _ (κs : Lfts 2) (κt : Lfts 3) (ptr : ℕ × ℕ) (unread : Bor (List ℕ)) where
+module _ (κs κt : Lfts 2) (ptr : ℕ × ℕ) (unread : Bor (List ℕ)) where
   abbrev lent : Bor (List ℕ)
   lent = record { ref_ptr = ptr; now = words }
 

@@ -32,7 +32,7 @@ use Rattle.matchers.specs.Asking.{LookUp, sigma_look_up, Holds, Gives}
 use Rattle.matchers.specs.declared.IterItemMatcher.{IterItemMatcher}
 use Rattle.matchers.specs.declared.Cursor.{Cursor}
 use Rattle.matchers.specs.declared.sigma_matcher.Sigma.{Sigma}
-use Rattle.matchers.proofs.Asking.{SigmaReply, NextReply, gives, words_of_lem, sigma_asked_on}
+use Rattle.matchers.proofs.Asking.{SigmaReply, NextReply, gives, words_of_lem, sigma_asked_on, matched}
 use Rattle.matchers.proofs.Held.{after_holds, first_holds, place_from}
 use Rattle.counted_iter.specs.Counted.{CountedIter, count_of, first_asked}
 use Rattle.counted_iter.specs.HandedOut.{HandsOut, HandedOut, CountsOrRefuses}
@@ -40,16 +40,16 @@ use Rattle.counted_iter.proofs.counted_iter.Reads as counted-iter
 
 -- i is a reply that the contract of `counted_iter` allows, asked with the lent words w, the side, the sigma labels of both machines, the lent list g of ignored labels, the settings of sigma, the lent
 -- allowed list, the state and the label
-abbrev pub CountedReply : Lfts 3 → (w g allowed : Bor (List ℕ)) → MatchType → Sigmas → Sigma → StateId → Label → CountedIter → Type 0
+abbrev pub CountedReply : Lfts 2 → (w g allowed : Bor (List ℕ)) → MatchType → Sigmas → Sigma → StateId → Label → CountedIter → Type 0
 CountedReply κs w g allowed on labels sigma s x i =
-    counted-iter.Learnt κs (w, (on, (labels, (g, (sigma, (allowed, (s, (x, tt)))))))) i (w, (on, (labels, (g, (sigma, (allowed, (s, (x, tt))))))))
+    counted-iter.Learnt κs (matched w g on labels, (sigma, (allowed, (s, (x, tt))))) i (matched w g on labels, (sigma, (allowed, (s, (x, tt)))))
 
 -- what gives these matches hands out as many
 hands : (Answers : Cursor → Step → Type 0) (m : List ℕ) (s : ℕ) (q : LookUp) (item : Match → Item) (us : List Match) (c : Cursor) → Gives Answers m s q item us c → HandsOut Answers c (length us)
 hands Answers m s q item us c g = record { gives = λ k r a h. let u = at_place us k h in (item u.0, g.in_order k r a u.0 u.1); ends = g.then_none }
 
 -- The look-up that does not count hands out as many: asked on from its first cursor, by the theorem of 2.5.
-pub sigma_hands_out : (κs : Lfts 3) (κt : Lfts 2) (w g allowed : Bor (List ℕ)) (on : MatchType) (labels : Sigmas) (sigma : Sigma) (s : StateId) (x : Label) (i : Result Cursor Refusal)
+pub sigma_hands_out : (κs κt : Lfts 2) (w g allowed : Bor (List ℕ)) (on : MatchType) (labels : Sigmas) (sigma : Sigma) (s : StateId) (x : Label) (i : Result Cursor Refusal)
     → SigmaReply κs w g allowed on labels sigma s x i
     →
     let m = read_as on labels g.now w.now in
@@ -64,7 +64,7 @@ sigma_hands_out κs κt w g allowed on labels sigma s x i h n e =
     (f.0, f.1, subst (HandsOut (NextReply κt w g) f.0) (good_is r.2) (hands _ m s.0 _ _ r.0 f.0 f.2))
 
 -- On any words, with any list, any settings of sigma and any allowed list, at any state, of any label.
-pub count_is_handed_out : (κs : Lfts 3) (κt : Lfts 2) (w g allowed : Bor (List ℕ)) (on : MatchType) (labels : Sigmas) (sigma : Sigma) (s : StateId) (x : Label) (i : CountedIter)
+pub count_is_handed_out : (κs κt : Lfts 2) (w g allowed : Bor (List ℕ)) (on : MatchType) (labels : Sigmas) (sigma : Sigma) (s : StateId) (x : Label) (i : CountedIter)
     → CountedReply κs w g allowed on labels sigma s x i
     →
     let m = read_as on labels g.now w.now in

@@ -4,14 +4,14 @@
 ghost use Rattle.std.specs.Prelude.{◌≡◌, ◌+◌, ◌≤◌, cond, length, None, IfOk};
 ghost use Rattle.words.specs.Labels.{MAX, good, and_then};
 ghost use Rattle.words.specs.Machines.{first_of};
-ghost use Rattle.fst.specs.Meaning.{on_of, read_as};
+ghost use Rattle.fst.specs.Meaning.{on_of, words_as_read};
 ghost use Rattle.fst.specs.Refusals.{checked_by};
 ghost use Rattle.fan_outs.specs.FanOut.{fan_out};
 ghost use Rattle.matchers.specs.Meaning.{allowed_of, operand_in, lookup_items, stands_for};
 ghost use Rattle.matchers.specs.Cursors.{held_words, with_label, in_phase, matches_left, items_left, asked, cursor_after, first_cursor};
 ghost use Rattle.counted_iter.specs.Counted.{count_of, first_asked};
 
-use fst::{Label, MatchType, Refusal, Sigmas, StateId, inner_label, next_tr, num_records};
+use fst::{Label, Matched, Refusal, StateId, inner_label, next_tr, num_records};
 use matchers::{Cursor, IterItemMatcher, Phase, Sigma, looked, next_match, sigma_iter};
 
 // What a look-up states of its matches: how many there are and the first of them, None where there is none; with the cursor to ask on with.
@@ -21,25 +21,18 @@ pub type Counted = (Option<(u64, IterItemMatcher)>, Cursor);
 pub type CountedIter = Result<Counted, Refusal>;
 
 // How many records from t on have the label on a side.
-fn count_label(
-    m: &[u32],
-    on: MatchType,
-    sigmas: Sigmas,
-    ignored: &[u32],
-    label: Label,
-    t: u32,
-) -> u64
-    ensures value { result ≡ length (with_label (on_of on) (read_as on sigmas ignored.now m.now) label.0 t) }
+fn count_label(m: Matched<'_>, label: Label, t: u32) -> u64
+    ensures value { result ≡ length (with_label (on_of m.entry.on) (words_as_read m.entry) label.0 t) }
     ensures few { result ≤ MAX }
 {
-    if num_records(m) < t {
+    if num_records(m.words) < t {
         return 0;
     }
     let mut n: u64 = 0;
     let mut at = t;
     while at != 0 {
-        n += u64::from(inner_label(m, on, sigmas, ignored, at) == label);
-        at = next_tr(m, at);
+        n += u64::from(inner_label(m, at) == label);
+        at = next_tr(m.words, at);
     }
     n
 }
@@ -49,13 +42,18 @@ fn count_phase(m: &[u32], cursor: Cursor, ignored: &[u32]) -> u64
     ensures value { result ≡ length (in_phase cursor.phase (held_words cursor ignored.now m.now) cursor) }
     ensures few { result ≤ MAX + MAX }
 {
-    let Cursor { on, labels, .. } = cursor;
+    let read = Matched {
+        words: m,
+        on: cursor.on,
+        sigmas: cursor.labels,
+        ignored,
+    };
     match cursor.phase {
         Phase::Own => {
-            let own = count_label(m, on, labels, ignored, looked(cursor.label), cursor.tr);
-            own + count_label(m, on, labels, ignored, cursor.sigma, cursor.sigmas)
+            let own = count_label(read, looked(cursor.label), cursor.tr);
+            own + count_label(read, cursor.sigma, cursor.sigmas)
         }
-        Phase::Sigmas => count_label(m, on, labels, ignored, cursor.sigma, cursor.tr),
+        Phase::Sigmas => count_label(read, cursor.sigma, cursor.tr),
     }
 }
 
@@ -80,28 +78,25 @@ fn counted(m: &[u32], cursor: Cursor, ignored: &[u32]) -> Counted
 
 // The matches of a label at a state: how many, and the first; or refusal 11 where the label is sigma.
 pub fn counted_iter(
-    m: &[u32],
-    on: MatchType,
-    sigmas: Sigmas,
-    ignored: &[u32],
+    m: Matched<'_>,
     sigma: Sigma,
     allowed: &[u32],
     s: StateId,
     label: Label,
 ) -> CountedIter
-    ensures result_value { let words = read_as on sigmas ignored.now m.now in
+    ensures result_value { let words = words_as_read m.entry in
         let allowed = allowed_of sigma.listed allowed.entry.now in
-        let operand = operand_in (on_of on) words sigma allowed in
+        let operand = operand_in (on_of m.entry.on) words sigma allowed in
         checked_by count_of result ≡ fan_out operand s.0 label.0 }
-    ensures first { let words = read_as on sigmas ignored.now m.now in
+    ensures first { let words = words_as_read m.entry in
         let allowed = allowed_of sigma.listed allowed.entry.now in
-        let operand = operand_in (on_of on) words sigma allowed in
+        let operand = operand_in (on_of m.entry.on) words sigma allowed in
         checked_by (first_asked words) result ≡ and_then (lookup_items operand s.0 label.0) (λ items. good (asked items)) }
-    ensures place { let words = read_as on sigmas ignored.now m.now in
-        let both = (operand_in (on_of on) words sigma None).sigma.rewrite_both in
+    ensures place { let words = words_as_read m.entry in
+        let both = (operand_in (on_of m.entry.on) words sigma None).sigma.rewrite_both in
         let from = cond (stands_for sigma.label.0 (allowed_of sigma.listed allowed.now) label.0) (first_of words s.0) 0 in
-        IfOk result (λ counted. counted.1 ≡ cursor_after words (first_cursor words on sigmas s label sigma.label both from)) }
+        IfOk result (λ counted. counted.1 ≡ cursor_after words (first_cursor words m.entry.on m.entry.sigmas s label sigma.label both from)) }
 {
-    let cursor = sigma_iter(m, on, sigmas, ignored, sigma, allowed, s, label)?;
-    Ok(counted(m, cursor, ignored))
+    let cursor = sigma_iter(m, sigma, allowed, s, label)?;
+    Ok(counted(m.words, cursor, m.ignored))
 }

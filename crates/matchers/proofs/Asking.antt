@@ -53,7 +53,7 @@ use Rattle.matchers.proofs.sorted_matcher.sorted_iter.Reads as sorted-iter
 use Rattle.matchers.proofs.sigma_matcher.sigma_iter.Reads as sigma-iter
 
 -- a machine in lent words, with the lent list of ignored labels, matched on a side
-abbrev matched : (w g : Bor (List ℕ)) → MatchType → Sigmas → Matched
+abbrev pub matched : (w g : Bor (List ℕ)) → MatchType → Sigmas → Matched
 matched w g on labels = record { words = w; on = on; sigmas = labels; ignored = g }
 
 -- c is a reply that the contract of `sorted_iter` allows, asked with the lent words w, the side, the sigma labels of both machines, the lent list g of ignored labels, the state
