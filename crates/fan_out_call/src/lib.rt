@@ -2,35 +2,27 @@
 #![tactic(auto)]
 
 ghost use Rattle.std.specs.Prelude.{◌≡◌, List, ℕ, Option};
+ghost use Rattle.fst.specs.Refusals.{checked_by};
 ghost use Rattle.fan_outs.specs.FanOut.{fan_out, states_of, operand_numbered, fan_out_at, fan_out_of};
 ghost use Rattle.session_checks.specs.Meaning.{settings_means, lent_slices};
 ghost use Rattle.lazy_fst.specs.Meaning.{lent_with};
-ghost use Rattle.counted_iter.specs.Counted.{count_means};
-ghost use Rattle.fan_out_call.specs.Meaning.{fan_out_means, Word, Limited};
+ghost use Rattle.counted_iter.specs.Counted.{count_of};
+ghost use Rattle.fan_out_call.specs.Meaning.{Word, Limited};
 
 use counted_iter::{CountedIter, counted_iter};
-use fst::{Label, MatchType, REFUSED_NOT_FOUND, Sigmas, StateId, num_states};
+use fst::{Label, MatchType, Refusal, Sigmas, StateId, num_states};
 use lazy_fst::AllowedLists;
-use match_type::Chosen;
 use matchers::Sigma;
 use session_checks::{Settings, side_for};
 
-// The number of matches, or the number of the refusal.
-#[derive(Clone, Copy)]
-pub enum FanOut {
-    Count(u32),
-    Refused(u32),
-}
-
 // The number that a look-up states.
-fn stated(found: CountedIter) -> FanOut
-    requires { Word (count_means found) }
-    ensures { fan_out_means result ≡ count_means found }
+fn stated(found: CountedIter) -> Result<u32, Refusal>
+    requires { Word (checked_by count_of found) }
+    ensures { checked_by (λ n. n) result ≡ checked_by count_of found }
 {
-    match found {
-        CountedIter::First(n, _, _) => FanOut::Count(n as u32),
-        CountedIter::Empty(_) => FanOut::Count(0),
-        CountedIter::Refused(k) => FanOut::Refused(k),
+    match found?.0 {
+        Some((n, _)) => Ok(n as u32),
+        None => Ok(0),
     }
 }
 
@@ -39,13 +31,11 @@ fn states_of(machine: u32, m1: &[u32], m2: &[u32]) -> u32
     ensures { (allowed1 allowed2 : Option (List ℕ)) (ignored : List ℕ) →
         result ≡ states_of (lent_slices m1.now m2.now allowed1 allowed2 ignored) machine }
 {
-    if machine == 1 {
-        return num_states(m1);
+    match machine {
+        1 => num_states(m1),
+        2 => num_states(m2),
+        _ => 0,
     }
-    if machine == 2 {
-        return num_states(m2);
-    }
-    0
 }
 
 // Looks the label up: machine 1 on outputs, machine 2 on inputs, each with its own sigma. How sigma is rewritten plays no part in the number.
@@ -60,17 +50,18 @@ fn look_up(
     machine: u32,
     s: StateId,
     label: Label,
-) -> FanOut
+) -> Result<u32, Refusal>
     requires { Limited m1.now m2.now }
     ensures { let l = lent_with m1.now m2.now allowed1.now allowed2.now ignored.now listed in
-        fan_out_means result ≡ fan_out (operand_numbered (settings_means settings) l machine) s.0 label.0 }
+        checked_by (λ n. n) result ≡ fan_out (operand_numbered (settings_means settings) l machine) s.0 label.0 }
 {
-    let first = settings.sigma1;
-    let second = settings.sigma2;
-    let sigmas = Sigmas { first, second };
+    let sigmas = Sigmas {
+        first: settings.sigma1,
+        second: settings.sigma2,
+    };
     if machine == 1 {
         let sigma1 = Sigma {
-            label: first,
+            label: settings.sigma1,
             mode: settings.mode1,
             listed: listed.first,
             acceptor: 0,
@@ -87,7 +78,7 @@ fn look_up(
         ));
     }
     let sigma2 = Sigma {
-        label: second,
+        label: settings.sigma2,
         mode: settings.mode2,
         listed: listed.second,
         acceptor: 0,
@@ -116,13 +107,13 @@ fn fan_out_at(
     machine: u32,
     s: StateId,
     label: Label,
-) -> FanOut
+) -> Result<u32, Refusal>
     requires { Limited m1.now m2.now }
     ensures { let l = lent_with m1.now m2.now allowed1.now allowed2.now ignored.now listed in
-        fan_out_means result ≡ fan_out_at (settings_means settings) l machine s.0 label.0 }
+        checked_by (λ n. n) result ≡ fan_out_at (settings_means settings) l machine s.0 label.0 }
 {
     if states_of(machine, m1, m2) <= s.0 {
-        return FanOut::Refused(REFUSED_NOT_FOUND);
+        return Err(Refusal::NotFound);
     }
     look_up(
         settings, m1, m2, allowed1, allowed2, ignored, listed, machine, s, label,
@@ -130,6 +121,7 @@ fn fan_out_at(
 }
 
 // How many matches the label has at state s of machine 1 or 2, whatever the side.
+#[tactic(auto, unfolding(fan_outs::specs::FanOut::fan_out_of))]
 pub fn fan_out(
     settings: Settings,
     m1: &[u32],
@@ -141,15 +133,12 @@ pub fn fan_out(
     machine: u32,
     s: StateId,
     label: Label,
-) -> FanOut
+) -> Result<u32, Refusal>
     ensures { let l = lent_with m1.now m2.now allowed1.now allowed2.now ignored.now listed in
-        fan_out_means result ≡ fan_out_of (settings_means settings) l machine s.0 label.0 }
+        checked_by (λ n. n) result ≡ fan_out_of (settings_means settings) l machine s.0 label.0 }
 {
-    let chosen = side_for(settings, m1, m2, ignored);
-    match chosen {
-        Chosen::Refused(k) => FanOut::Refused(k),
-        Chosen::By(_) => fan_out_at(
-            settings, m1, m2, allowed1, allowed2, ignored, listed, machine, s, label,
-        ),
-    }
+    side_for(settings, m1, m2, ignored)?;
+    fan_out_at(
+        settings, m1, m2, allowed1, allowed2, ignored, listed, machine, s, label,
+    )
 }

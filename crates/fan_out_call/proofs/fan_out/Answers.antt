@@ -1,20 +1,11 @@
--- The checks 1 to 7 refuse, or leave machines within the limit.
+-- The checks 1 to 7 leave machines within the limit.
 use mathlib.Core.Path.{sym}
 use Rattle.std.specs.Prelude.{None}
 use Rattle.session_checks.specs.Meaning.{settings_means, lent_slices}
-use Rattle.fan_outs.specs.FanOut.{fan_out_of}
 use Rattle.fan_outs.proofs.Bounds.{within_limit}
 use Rattle.fan_out_call.proofs.fan_out.Goals as goal
 
 pub fan_out_at-requires : goal.fan_out_at-requires
 fan_out_at-requires c =
     let a = c.args in
-    within_limit (settings_means a.settings) (lent_slices a.m1.now a.m2.now None None a.ignored.now) _ (rw c.in-By.is at (sym (c.side_for-chosen.ensures None None)))
-
-pub returns-in-Refused : goal.returns-in-Refused
-unfolding fan_out_of
-returns-in-Refused c = rw (← c.side_for-chosen.ensures _ _, c.in-Refused.is)
-
-pub returns-in-By : goal.returns-in-By
-unfolding fan_out_of
-returns-in-By c = rw (← c.side_for-chosen.ensures _ _, c.in-By.is) c.fan_out_at.ensures
+    within_limit (settings_means a.settings) (lent_slices a.m1.now a.m2.now None None a.ignored.now) _ (sym (c.in_ok-side_for.ensures None None))

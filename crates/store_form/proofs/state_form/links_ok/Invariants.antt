@@ -1,10 +1,10 @@
 -- What was seen of the records before this one, with those from here on, gives what all records give.
 use mathlib.Core.Path.{◌≡◌}
-use mathlib.Core.Bool.{Bool, not, ◌&&◌}
+use mathlib.Core.Bool.{Bool, ◌&&◌}
 use mathlib.Core.List.{List}
-use Prim.Native.Nat.{ℕ, ◌-◌, ◌*◌, ◌≤◌}
+use Prim.Native.Nat.{ℕ, ◌-◌}
 use Rattle.lists.specs.Lists.{every, interval}
-use Rattle.calls.specs.Store.{state_size, next_at}
+use Rattle.calls.specs.Store.{next_at}
 use lib.Dec.{leb}
 use Rattle.calls.specs.Forms.{expanded_ok}
 use Rattle.store_records.specs.Meaning.{stored}
@@ -16,7 +16,4 @@ Good heads states trs u last n = expanded_ok (stored heads states trs u last) n 
 
 abbrev pub invariant-loop-n : goal.invariant-loop-n
 invariant-loop-n l =
-    (l.n ≤ l.count) × (l.at ≡ state_size * l.n) × ((heads trs : List ℕ) (u : ℕ) → not l.bad && every (Good heads l.states trs u l.last) (interval l.n (l.count - l.n)) ≡ every (Good heads l.states trs u l.last) (interval 0 l.count))
-
-abbrev pub decreases-loop-n : goal.decreases-loop-n
-decreases-loop-n l = l.count - l.n
+    (heads trs : List ℕ) (u : ℕ) → l.fine && every (Good heads l.states trs u l.last) (interval l.n (l.count - l.n)) ≡ every (Good heads l.states trs u l.last) (interval 0 l.count)

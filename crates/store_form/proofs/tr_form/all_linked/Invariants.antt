@@ -1,10 +1,10 @@
 -- What was seen of the records before this one, with those from here on, gives what all records give.
 use mathlib.Core.Path.{◌≡◌}
-use mathlib.Core.Bool.{Bool, not, ◌&&◌, ◌||◌}
+use mathlib.Core.Bool.{Bool, ◌&&◌, ◌||◌}
 use mathlib.Core.List.{List}
-use Prim.Native.Nat.{ℕ, ◌+◌, ◌-◌, ◌*◌, ◌≤◌}
+use Prim.Native.Nat.{ℕ, ◌+◌, ◌-◌}
 use Rattle.lists.specs.Lists.{every, interval}
-use Rattle.calls.specs.Store.{tr_size, target_at, tr_next_at}
+use Rattle.calls.specs.Store.{target_at, tr_next_at}
 use lib.Dec.{eqb, ltb}
 use Rattle.store_form.proofs.tr_form.all_linked.Given as goal
 
@@ -13,8 +13,4 @@ abbrev pub Good : List ℕ → ℕ → ℕ → Bool
 Good trs states i = ltb (target_at trs i) states && (eqb (tr_next_at trs i) 0 || eqb (tr_next_at trs i) (i + 2))
 
 abbrev pub invariant-loop-i : goal.invariant-loop-i
-invariant-loop-i l =
-    (l.i ≤ l.count) × (l.at ≡ tr_size * l.i) × (not l.bad && every (Good l.trs l.states) (interval l.i (l.count - l.i)) ≡ every (Good l.trs l.states) (interval 0 l.count))
-
-abbrev pub decreases-loop-i : goal.decreases-loop-i
-decreases-loop-i l = l.count - l.i
+invariant-loop-i l = l.fine && every (Good l.trs l.used.states) (interval l.i (l.used.trs - l.i)) ≡ every (Good l.trs l.used.states) (interval 0 l.used.trs)
