@@ -2,15 +2,13 @@
 #![tactic(auto)]
 
 ghost use Rattle.std.specs.Prelude.{◌≡◌, leb, length};
-ghost use Rattle.words.specs.Matches.{inputs, outputs};
 ghost use Rattle.words.specs.Machines.{list_of};
 ghost use Rattle.words.specs.Sides.{both, direction_at};
-ghost use Rattle.fst.specs.Meaning.{on_of, as_operand, read_as};
+ghost use Rattle.fst.specs.Meaning.{on_of, first_operand, second_operand};
 ghost use Rattle.fst.specs.Refusals.{checked_by};
-ghost use Rattle.fst.specs.declared.MatchType.TheVariants.{MatchInput, MatchOutput};
 ghost use Rattle.match_type.specs.Chosen.{side_means};
 
-use fst::{MatchType, Refusal, Sigmas, StateId, first_tr, next_tr};
+use fst::{Machines, MatchType, Refusal, StateId, first_tr, next_tr};
 use match_type::Side;
 use matchers::has_sigma;
 
@@ -33,41 +31,18 @@ pub fn not_longer(m1: &[u32], s1: StateId, m2: &[u32], s2: StateId) -> bool
 
 // By the states' sigma transitions, or refusal 10; where neither has one, by the lengths of their lists.
 #[tactic(auto, unfolding(words::specs::Sides::direction_at), using(words::proofs::ReplacedLaws::read_list))]
-fn by_states(
-    m1: &[u32],
-    m2: &[u32],
-    sigmas: Sigmas,
-    ignored: &[u32],
-    s1: StateId,
-    s2: StateId,
-) -> Result<MatchType, Refusal>
-    ensures { let operand = as_operand outputs (read_as MatchOutput sigmas ignored.now m1.now) sigmas.first.0 in
-        let operand2 = as_operand inputs (read_as MatchInput sigmas ignored.now m2.now) sigmas.second.0 in
-        checked_by on_of result ≡ direction_at both operand operand2 s1.0 s2.0 }
+fn by_states(two: Machines<'_>, s1: StateId, s2: StateId) -> Result<MatchType, Refusal>
+    ensures { checked_by on_of result ≡ direction_at both (first_operand two.entry) (second_operand two.entry) s1.0 s2.0 }
 {
-    let sigma_at_1 = has_sigma(
-        m1,
-        MatchType::MatchOutput,
-        sigmas,
-        ignored,
-        sigmas.first,
-        s1,
-    );
-    let sigma_at_2 = has_sigma(
-        m2,
-        MatchType::MatchInput,
-        sigmas,
-        ignored,
-        sigmas.second,
-        s2,
-    );
+    let sigma_at_1 = has_sigma(two.first(), two.sigmas.first, s1);
+    let sigma_at_2 = has_sigma(two.second(), two.sigmas.second, s2);
     if sigma_at_1 && sigma_at_2 {
         return Err(Refusal::BothMatch);
     }
     if sigma_at_1 {
         return Ok(MatchType::MatchOutput);
     }
-    if sigma_at_2 || not_longer(m1, s1, m2, s2) {
+    if sigma_at_2 || not_longer(two.m1, s1, two.m2, s2) {
         Ok(MatchType::MatchInput)
     } else {
         Ok(MatchType::MatchOutput)
@@ -78,19 +53,14 @@ fn by_states(
 #[tactic(auto, unfolding(words::specs::Sides::direction_at))]
 pub fn direction_at(
     side: Side,
-    m1: &[u32],
-    m2: &[u32],
-    sigmas: Sigmas,
-    ignored: &[u32],
+    two: Machines<'_>,
     s1: StateId,
     s2: StateId,
 ) -> Result<MatchType, Refusal>
-    ensures { let operand = as_operand outputs (read_as MatchOutput sigmas ignored.now m1.now) sigmas.first.0 in
-        let operand2 = as_operand inputs (read_as MatchInput sigmas ignored.now m2.now) sigmas.second.0 in
-        checked_by on_of result ≡ direction_at (side_means side) operand operand2 s1.0 s2.0 }
+    ensures { checked_by on_of result ≡ direction_at (side_means side) (first_operand two.entry) (second_operand two.entry) s1.0 s2.0 }
 {
     match side {
         Side::Only(on) => Ok(on),
-        Side::Both => by_states(m1, m2, sigmas, ignored, s1, s2),
+        Side::Both => by_states(two, s1, s2),
     }
 }
