@@ -1,14 +1,12 @@
 -- What the code's types stand for in the definitions of `words` and `calls`, and what the checks before a call give.
 use Rattle.std.specs.Prelude.{List, ℕ, zero, suc, Option}
-use Rattle.words.specs.Labels.{Checked, good, refused}
 use Rattle.words.specs.Matches.{inputs, outputs}
 use Rattle.words.specs.Sides.{Side, only, both}
 use Rattle.words.specs.Steps.{Composition}
 use Rattle.words.specs.Settings.{Settings as Six, Lent, composition_of}
 use Rattle.calls.specs.Checks.{Session}
 use Rattle.match_type.specs.Chosen.{side_means}
-use Rattle.match_type.specs.declared.Chosen.{Chosen}
-use Rattle.match_type.specs.declared.Chosen.TheVariants.{By, Refused}
+use Rattle.match_type.specs.declared.Side.{Side as CodeSide}
 use Rattle.store_records.specs.declared.Used.{Used}
 use Rattle.store_records.specs.Meaning.{used_means}
 use Rattle.session_checks.specs.declared.Settings.{Settings}
@@ -25,10 +23,9 @@ lent_slices m1 m2 allowed1 allowed2 ignored = record { m1 = m1; m2 = m2; allowed
 abbrev pub session_of : Six → ℕ → Used → Session
 session_of s side used = record { settings = s; side = side; used = used_means used }
 
--- the composition that a call goes on with, or a refusal by its number in the table of "Answers"
-abbrev pub entered_means : Settings → Lent → Chosen → Checked Composition
-entered_means s l (By side) = good (composition_of (settings_means s) l (side_means side))
-entered_means s l (Refused n) = refused n
+-- the composition that a call goes on with
+abbrev pub composed_by : Settings → Lent → CodeSide → Composition
+composed_by s l side = composition_of (settings_means s) l (side_means side)
 
 -- the side with a number, the inverse of `side_number`: "session side differs from the rule" is refused before it is asked
 abbrev pub side_numbered : ℕ → Side

@@ -6,16 +6,14 @@ ghost use Rattle.words.specs.Ignored.{ignored_ok};
 ghost use Rattle.words.specs.Settings.{Settings as Six, settings_ok};
 ghost use Rattle.calls.specs.Listing.{settings_of};
 ghost use Rattle.calls.specs.Checks.{side_number, side_for, session_ok, entered};
-ghost use Rattle.match_type.specs.Chosen.{side_means, chosen_means};
+ghost use Rattle.fst.specs.Refusals.{checked_by};
+ghost use Rattle.match_type.specs.Chosen.{side_means};
 ghost use Rattle.store_records.specs.Meaning.{memory_of};
-ghost use Rattle.session_checks.specs.Meaning.{settings_means, lent_slices, session_of, entered_means, side_numbered};
+ghost use Rattle.session_checks.specs.Meaning.{settings_means, lent_slices, session_of, composed_by, side_numbered};
 
-use fst::{
-    EPS_LABEL, Label, MatchType, NO_LABEL, REFUSED_IGNORED, REFUSED_MACHINE_1, REFUSED_MACHINE_2,
-    REFUSED_SESSION, REFUSED_SETTINGS, Sigmas, has, num_states, word,
-};
+use fst::{EPS_LABEL, Label, MatchType, NO_LABEL, Refusal, Sigmas, has, num_states, word};
 use fst_properties::well_formed;
-use match_type::{Chosen, Side, match_type};
+use match_type::{Side, match_type};
 use store_form::{fits, form_ok};
 use store_records::Used;
 
@@ -56,19 +54,14 @@ const LAST_FILTER: u32 = 5;
 const LAST_MODE: u32 = 2;
 
 // Whether kind, filter and rewrite modes are in their ranges.
+#[tactic(auto, unfolding(words::specs::Settings::settings_ok))]
 pub fn settings_ok(settings: Settings) -> bool
     ensures { result ≡ settings_ok (settings_means settings) }
 {
-    if LAST_KIND < settings.kind {
-        return false;
-    }
-    if LAST_FILTER < settings.filter {
-        return false;
-    }
-    if LAST_MODE < settings.mode1 {
-        return false;
-    }
-    settings.mode2 <= LAST_MODE
+    settings.kind <= LAST_KIND
+        && settings.filter <= LAST_FILTER
+        && settings.mode1 <= LAST_MODE
+        && settings.mode2 <= LAST_MODE
 }
 
 // The number of a side in a session.
@@ -76,10 +69,8 @@ pub fn side_number(side: Side) -> u32
     ensures { result ≡ side_number (side_means side) }
 {
     match side {
-        Side::Only(on) => match on {
-            MatchType::MatchInput => 0,
-            MatchType::MatchOutput => 1,
-        },
+        Side::Only(MatchType::MatchInput) => 0,
+        Side::Only(MatchType::MatchOutput) => 1,
         Side::Both => 2,
     }
 }
@@ -96,32 +87,36 @@ pub fn side_of(number: u32) -> Side
 }
 
 // Whether the list of ignored labels holds neither 0 nor MAX.
+#[tactic(auto, unfolding(words::specs::Ignored::ignored_ok))]
 fn ignored_ok(ignored: &[u32]) -> bool
     ensures { result ≡ ignored_ok ignored.now }
 {
-    if has(ignored, EPS_LABEL) {
-        return false;
-    }
-    !has(ignored, NO_LABEL)
+    !has(ignored, EPS_LABEL) && !has(ignored, NO_LABEL)
 }
 
 // Checks 1 to 7 in their order, with 18 after 3; where none stands, the side of the rule. Allowed lists play no part.
-pub fn side_for(settings: Settings, m1: &[u32], m2: &[u32], ignored: &[u32]) -> Chosen
+#[tactic(auto, unfolding(calls::specs::Checks::side_for_with))]
+pub fn side_for(
+    settings: Settings,
+    m1: &[u32],
+    m2: &[u32],
+    ignored: &[u32],
+) -> Result<Side, Refusal>
     ensures { (allowed1 allowed2 : Option (List ℕ)) →
         let l = lent_slices m1.now m2.now allowed1 allowed2 ignored.now in
-        chosen_means result ≡ side_for (settings_means settings) l }
+        checked_by side_means result ≡ side_for (settings_means settings) l }
 {
     if !settings_ok(settings) {
-        return Chosen::Refused(REFUSED_SETTINGS);
+        return Err(Refusal::Settings);
     }
     if !well_formed(m1) {
-        return Chosen::Refused(REFUSED_MACHINE_1);
+        return Err(Refusal::Machine1);
     }
     if !well_formed(m2) {
-        return Chosen::Refused(REFUSED_MACHINE_2);
+        return Err(Refusal::Machine2);
     }
     if !ignored_ok(ignored) {
-        return Chosen::Refused(REFUSED_IGNORED);
+        return Err(Refusal::Ignored);
     }
     let first = settings.sigma1;
     let second = settings.sigma2;
@@ -129,6 +124,7 @@ pub fn side_for(settings: Settings, m1: &[u32], m2: &[u32], ignored: &[u32]) -> 
 }
 
 // Check 8: the session's side is that of the rule, what is used fits, and memory is in form.
+#[tactic(auto, unfolding(calls::specs::Checks::session_ok_with))]
 fn session_ok(
     rule: Side,
     side: u32,
@@ -144,16 +140,13 @@ fn session_ok(
         let m = memory_of heads.now states.now trs.now in
         result ≡ session_ok l (session_of six side used) m (side_means rule) }
 {
-    if side != side_number(rule) {
-        return false;
-    }
-    if !fits(states, trs, used) {
-        return false;
-    }
-    form_ok(heads, states, trs, used, num_states(m1), num_states(m2))
+    side == side_number(rule)
+        && fits(states, trs, used)
+        && form_ok(heads, states, trs, used, num_states(m1), num_states(m2))
 }
 
 // Checks 1 to 8 of a later call, with 18 after 3, by the session's own settings; where none stands, the side that it goes on with.
+#[tactic(auto, unfolding(calls::specs::Checks::entered_with))]
 pub fn enter(
     settings: Settings,
     side: u32,
@@ -164,20 +157,15 @@ pub fn enter(
     heads: &[u32],
     states: &[u32],
     trs: &[u32],
-) -> Chosen
+) -> Result<Side, Refusal>
     ensures { (allowed1 allowed2 : Option (List ℕ)) →
         let l = lent_slices m1.now m2.now allowed1 allowed2 ignored.now in
         let m = memory_of heads.now states.now trs.now in
-        entered_means settings l result ≡ entered l (session_of (settings_means settings) side used) m }
+        checked_by (composed_by settings l) result ≡ entered l (session_of (settings_means settings) side used) m }
 {
-    let chosen = side_for(settings, m1, m2, ignored);
-    match chosen {
-        Chosen::Refused(k) => Chosen::Refused(k),
-        Chosen::By(rule) => {
-            if !session_ok(rule, side, used, m1, m2, heads, states, trs) {
-                return Chosen::Refused(REFUSED_SESSION);
-            }
-            Chosen::By(rule)
-        }
+    let rule = side_for(settings, m1, m2, ignored)?;
+    if !session_ok(rule, side, used, m1, m2, heads, states, trs) {
+        return Err(Refusal::Session);
     }
+    Ok(rule)
 }
