@@ -62,7 +62,7 @@ def wrong_rows(crate):
         row = re.match(r"\| `(\w+)`, `(\w+\.rt)` \| `(.*?)` \| (?:`(.*?)`|line dropped) \|", line)
         of = line[3:] if line.startswith("## ") else of
         if row and of == crate:
-            yield row.groups()
+            yield [part and part.replace(r"\|", "|") for part in row.groups()]
 
 
 def wrong_programs(root, crate):
