@@ -1,6 +1,6 @@
 // What each public function answers, in lines of numbers.
 use compose_filters::{Facts, MoveKind};
-use fst::{Label, MatchType, NO_LABEL, Refusal, Sigmas, StateId, Tr};
+use fst::{Label, Machines, MatchType, Matched, NO_LABEL, Refusal, Sigmas, StateId, Tr};
 use match_type::Side;
 
 // Each side is asked, inputs first.
@@ -35,14 +35,34 @@ fn sigmas() -> Sigmas {
     }
 }
 
+// A machine beside itself.
+fn twice<'a>(m: &'a [u32], sigmas: Sigmas, ignored: &'a [u32]) -> Machines<'a> {
+    Machines {
+        m1: m,
+        m2: m,
+        sigmas,
+        ignored,
+    }
+}
+
+// A machine that is matched on a side, with those labels and a list.
+fn matched_on<'a>(words: &'a [u32], on: MatchType, ignored: &'a [u32]) -> Matched<'a> {
+    Matched {
+        words,
+        on,
+        sigmas: sigmas(),
+        ignored,
+    }
+}
+
 fn properties(m: &[u32], ignored: &[u32]) {
     io::write_all(1, b"p");
     flag(fst_properties::well_formed(m));
     for on in SIDES {
-        flag(fst_properties::sorted(m, on, sigmas(), ignored));
+        flag(fst_properties::sorted(matched_on(m, on, ignored)));
     }
     for on in SIDES {
-        flag(fst_properties::acceptor(m, on, sigmas(), ignored));
+        flag(fst_properties::acceptor(matched_on(m, on, ignored)));
     }
     end();
 }
@@ -57,7 +77,7 @@ fn marks(m: &[u32], ignored: &[u32]) {
     }
     put(fst::acceptor_mark(m));
     for on in SIDES {
-        put(fst_properties::inner_acceptor_mark(m, on, sigmas(), ignored));
+        put(fst_properties::inner_acceptor_mark(matched_on(m, on, ignored)));
     }
 }
 
@@ -74,10 +94,10 @@ fn header(m: &[u32], ignored: &[u32]) {
 
 fn epsilons(m: &[u32], ignored: &[u32], s: StateId) {
     for on in SIDES {
-        flag(compose_filters::no_eps(m, on, sigmas(), ignored, s));
+        flag(compose_filters::no_eps(matched_on(m, on, ignored), s));
     }
     for on in SIDES {
-        flag(compose_filters::all_eps(m, on, sigmas(), ignored, s));
+        flag(compose_filters::all_eps(matched_on(m, on, ignored), s));
     }
 }
 
@@ -111,8 +131,8 @@ fn transition(tr: Tr) {
 // Record t in a machine that is matched on a side.
 fn matched(m: &[u32], on: MatchType, ignored: &[u32], t: u32) {
     label(fst::label_on(m, on, t));
-    label(fst::inner_label(m, on, sigmas(), ignored, t));
-    transition(fst::get_tr(m, on, sigmas(), ignored, t));
+    label(fst::inner_label(matched_on(m, on, ignored), t));
+    transition(fst::get_tr(matched_on(m, on, ignored), t));
 }
 
 fn record(m: &[u32], ignored: &[u32], t: u32) {
@@ -128,7 +148,11 @@ fn record(m: &[u32], ignored: &[u32], t: u32) {
 
 fn facts(m: &[u32], ignored: &[u32]) {
     io::write_all(1, b"f");
-    let f = compose_filters::facts_at(m, m, sigmas(), ignored, StateId(u32::MAX), StateId(0));
+    let f = compose_filters::facts_at(
+        twice(m, sigmas(), ignored),
+        StateId(u32::MAX),
+        StateId(0),
+    );
     flag(f.none1);
     flag(f.all1);
     flag(f.none2);
@@ -149,7 +173,7 @@ fn chosen(side: Result<Side, Refusal>) {
 // The choice of the side is for well-formed machines.
 fn side(m: &[u32], ignored: &[u32], first: Label, second: Label) {
     if fst_properties::well_formed(m) {
-        chosen(match_type::match_type(m, m, Sigmas { first, second }, ignored));
+        chosen(match_type::match_type(twice(m, Sigmas { first, second }, ignored)));
     }
 }
 

@@ -11,7 +11,9 @@ ghost use Rattle.match_type.specs.Chosen.{side_means};
 ghost use Rattle.store_records.specs.Meaning.{memory_of};
 ghost use Rattle.session_checks.specs.Meaning.{settings_means, lent_slices, session_of, composed_by, side_numbered};
 
-use fst::{EPS_LABEL, Label, MatchType, NO_LABEL, Refusal, Sigmas, has, num_states, word};
+use fst::{
+    EPS_LABEL, Label, Machines, MatchType, NO_LABEL, Refusal, Sigmas, has, num_states, word,
+};
 use fst_properties::well_formed;
 use match_type::{Side, match_type};
 use store_form::{fits, form_ok};
@@ -118,9 +120,15 @@ pub fn side_for(
     if !ignored_ok(ignored) {
         return Err(Refusal::Ignored);
     }
-    let first = settings.sigma1;
-    let second = settings.sigma2;
-    match_type(m1, m2, Sigmas { first, second }, ignored)
+    match_type(Machines {
+        m1,
+        m2,
+        sigmas: Sigmas {
+            first: settings.sigma1,
+            second: settings.sigma2,
+        },
+        ignored,
+    })
 }
 
 // Check 8: the session's side is that of the rule, what is used fits, and memory is in form.
