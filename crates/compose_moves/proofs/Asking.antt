@@ -7,25 +7,24 @@ use Prim.Native.Nat.{ℕ, suc}
 use native.Mathlib.Omega.{arith}
 use contract.Lifetimes.{Lfts}
 use denote.Ref.{Bor}
+use Rattle.std.specs.Prelude.{None, Some, Result, Ok, Err}
 use Rattle.lists.proofs.Asking.{asked_on_lem, kept_on}
 use Rattle.words.specs.Labels.{Checked, good, refused}
 use Rattle.words.specs.Matches.{MatchType}
 use Rattle.words.specs.Settings.{Lent}
 use Rattle.words.specs.Steps.{Step, steps_at}
 use Rattle.words.proofs.CheckedLaws.{refused_is, good≢refused}
+use Rattle.fst.specs.declared.refusals.Refusal.{Refusal}
+use Rattle.fst.specs.Refusals.{number_of}
 use Rattle.compose_state_tuple.specs.Meaning.{tuple_means}
 use Rattle.compose_state_tuple.specs.declared.ComposeStateTuple.{ComposeStateTuple}
 use Rattle.compose_fst_op.specs.Composing.{lent_of, composing}
 use Rattle.compose_fst_op.specs.declared.ComposeFstOpOptions.{ComposeFstOpOptions}
 use Rattle.compose_moves.specs.Moves.{compose_tr_means}
 use Rattle.compose_moves.specs.Walks.{Asked, gives, ends, refuses, asked}
-use Rattle.compose_moves.specs.Cursors.{steps_left, moves_start_means, next_means, cursor_at as move_at, SameState, MovesPlaced, StaysPlaced, direction_for, StartsPlaced}
+use Rattle.compose_moves.specs.Cursors.{steps_left, moves_start_means, NextStep, next_means, cursor_at as move_at, SameState, MovesPlaced, StaysPlaced, direction_for, StartsPlaced}
 use Rattle.compose_moves.specs.Asking.{given_by, onward, answer_at, GivesSteps, StartGivesSteps}
 use Rattle.compose_moves.specs.declared.MoveCursor.{MoveCursor}
-use Rattle.compose_moves.specs.declared.MovesStart.{MovesStart}
-use Rattle.compose_moves.specs.declared.MovesStart.TheVariants.{At, Refused as NoStart}
-use Rattle.compose_moves.specs.declared.NextStep.{NextStep}
-use Rattle.compose_moves.specs.declared.NextStep.TheVariants.{Step as AStep, Done, Refused}
 use Rattle.compose_moves.proofs.moves_start.Reads as moves-start
 use Rattle.compose_moves.proofs.next_step.Reads as next-step
 
@@ -59,32 +58,32 @@ abbrev pub StepReply : Lfts 5 → (m1 m2 a1 a2 g : Bor (List ℕ)) → ComposeFs
 StepReply κs m1 m2 a1 a2 g o c r = next-step.Learnt κs (m1, (m2, (a1, (a2, (g, (o, (c, tt))))))) r (m1, (m2, (a1, (a2, (g, (o, (c, tt)))))))
 
 -- b is a reply that the contract of `moves_start` allows
-abbrev pub StartReply : Lfts 3 → (m1 m2 g : Bor (List ℕ)) → ComposeFstOpOptions → ComposeStateTuple → MovesStart → Type 0
+abbrev pub StartReply : Lfts 3 → (m1 m2 g : Bor (List ℕ)) → ComposeFstOpOptions → ComposeStateTuple → Result MoveCursor Refusal → Type 0
 StartReply κs m1 m2 g o t b = moves-start.Learnt κs (m1, (m2, (g, (o, (t, tt))))) b (m1, (m2, (g, (o, (t, tt)))))
 
 module _ (o : ComposeFstOpOptions) (l : Lent) where
   -- one asking gives the first of what is to be given, and leaves the others
   one : (c : MoveCursor) (r : NextStep) → next_means o l r ≡ asked (steps_left o l c) → (given_by r ≡ answer_at (steps_left o l c) 0) × ((k : ℕ) → answer_at (steps_left o l (onward c r)) k ≡ answer_at (steps_left o l c) (suc k))
-  one c (AStep t d) e = rw (asked_gives (steps_left o l c) (steps_left o l d) (compose_tr_means t) e) (refl, λ k. refl)
-  one c Done e = rw (asked_ends (steps_left o l c) e) (refl, λ k. refl)
-  one c (Refused n) e = rw (asked_refuses (steps_left o l c) n e).1 (refl, λ k. refl)
+  one c (Ok (Some (t, d))) e = rw (asked_gives (steps_left o l c) (steps_left o l d) (compose_tr_means t) e) (refl, λ k. refl)
+  one c (Ok None) e = rw (asked_ends (steps_left o l c) e) (refl, λ k. refl)
+  one c (Err r) e = rw (asked_refuses (steps_left o l c) (number_of r) e).1 (refl, λ k. refl)
 
   -- an asking keeps the composed state, and places
   abbrev Kept : MoveCursor → MoveCursor → Type 0
   Kept c d = SameState c d × MovesPlaced o l d
 
   keeps : (c d : MoveCursor) (r : NextStep) → StaysPlaced o l d r → Kept c d → Kept c (onward d r)
-  keeps c d (AStep t e) h k = (h.0 ∙ ap (λ x. move_at x e.walked e.matches) k.0, h.1 k.1)
-  keeps c d Done h k = k
-  keeps c d (Refused n) h k = k
+  keeps c d (Ok (Some (t, e))) h k = (h.0 ∙ ap (λ x. move_at x e.walked e.matches) k.0, h.1 k.1)
+  keeps c d (Ok None) h k = k
+  keeps c d (Err r) h k = k
 
 -- On any words, allowed lists, ignored labels and options, at any composed state: refusal 10 at the start; or all its composed transitions in 01's order, or the first refusal among them; and then the end, or that refusal, ever after.
-pub moves_asked_on : (κs : Lfts 3) (κt : Lfts 5) (m1 m2 a1 a2 g : Bor (List ℕ)) (o : ComposeFstOpOptions) (t : ComposeStateTuple) (b : MovesStart) → StartReply κs m1 m2 g o t b
+pub moves_asked_on : (κs : Lfts 3) (κt : Lfts 5) (m1 m2 a1 a2 g : Bor (List ℕ)) (o : ComposeFstOpOptions) (t : ComposeStateTuple) (b : Result MoveCursor Refusal) → StartReply κs m1 m2 g o t b
     →
     let l = lent_of o m1.now m2.now a1.now a2.now g.now in
     StartGivesSteps (StepReply κt m1 m2 a1 a2 g o) o l t (steps_at (composing o m1.now m2.now a1.now a2.now g.now) (tuple_means t)) b
 moves_asked_on κs κt m1 m2 a1 a2 g o t b (means, place) = record {
-  refuses = λ n e. let start = refused_at b n e (place a1.now a2.now) in (start, sym (rw start at (means a1.now a2.now)));
+  refuses = λ n e. refused_at b n e (means a1.now a2.now) (place a1.now a2.now);
   gives = λ d e. found b d e (means a1.now a2.now) (place a1.now a2.now);
 }
   where
@@ -97,31 +96,36 @@ moves_asked_on κs κt m1 m2 a1 a2 g o t b (means, place) = record {
     Answers : MoveCursor → NextStep → Type 0
     Answers = StepReply κt m1 m2 a1 a2 g o
 
-    refused_at : (a : MovesStart) (n : ℕ) → direction_for o l t ≡ refused n → StartsPlaced o l t a → a ≡ NoStart n
-    refused_at (At c) n e h = absurd (good≢refused (sym h.direction ∙ e))
-    refused_at (NoStart k) n e h = ap NoStart (refused_is (sym h ∙ e))
+    refused_at : (a : Result MoveCursor Refusal) (n : ℕ) → direction_for o l t ≡ refused n → moves_start_means o l a ≡ steps → StartsPlaced o l t a
+        → (k : Refusal) × (number_of k ≡ n) × (a ≡ Err k) × (steps ≡ refused n ∷ [])
+    refused_at (Ok c) n e m h = absurd (good≢refused (sym h.direction ∙ e))
+    refused_at (Err k) n e m h = let number : number_of k ≡ n = refused_is (sym h ∙ e) in (k, number, refl, sym m ∙ ap (λ x. refused x ∷ []) number)
 
-    found : (a : MovesStart) (d : MatchType) → direction_for o l t ≡ good d → moves_start_means o l a ≡ steps → StartsPlaced o l t a → (c : MoveCursor) × (a ≡ At c) × GivesSteps Answers o l t steps c
-    found (NoStart n) d e m h = absurd (good≢refused (sym e ∙ h))
-    found (At c) d e m h = (
+    found : (a : Result MoveCursor Refusal) (d : MatchType) → direction_for o l t ≡ good d → moves_start_means o l a ≡ steps → StartsPlaced o l t a → (c : MoveCursor) × (a ≡ Ok c) × GivesSteps Answers o l t steps c
+    found (Err k) d e m h = absurd (good≢refused (sym e ∙ h))
+    found (Ok c) d e m h = (
       c,
       refl,
       record {
         in_order = λ k r g. asked_on_lem Answers onward given_by (λ x j. answer_at (steps_left o l x) j) (λ x q p. one o l x q p.0) c k r g ∙ ap (λ x. answer_at x k) m;
         begins = h;
         holds = λ k q x g.
-            let last = kept_on Answers onward (Kept o l c) (λ f r p. keeps o l c f r p.1) c k (AStep q x) g (refl, h.place) in
-            keeps o l c last.0 (AStep q x) last.2.1 last.1;
+            let last = kept_on Answers onward (Kept o l c) (λ f r p. keeps o l c f r p.1) c k (Ok (Some (q, x))) g (refl, h.place) in
+            keeps o l c last.0 (Ok (Some (q, x))) last.2.1 last.1;
       },
     )
 
--- from a start that is a cursor the steps are given
+-- a start that is a cursor
+abbrev started : MoveCursor → Result MoveCursor Refusal
+started c = Ok c
+
+-- from it the steps are given
 pub from_cursor : {Answers : MoveCursor → NextStep → Type 0} {o : ComposeFstOpOptions} {l : Lent} {t : ComposeStateTuple} {steps : List (Checked Step)} {c : MoveCursor} (d : MatchType)
-    → direction_for o l t ≡ good d → StartGivesSteps Answers o l t steps (At c) → GivesSteps Answers o l t steps c
+    → direction_for o l t ≡ good d → StartGivesSteps Answers o l t steps (started c) → GivesSteps Answers o l t steps c
 from_cursor {Answers} {o} {l} {t} {steps} {c} d e h = go (h.gives d e)
   where
-    same : {x y : MoveCursor} → At x ≡ At y → x ≡ y
+    same : {x y : MoveCursor} → started x ≡ started y → x ≡ y
     same q = cc
 
-    go : (x : MoveCursor) × (At c ≡ At x) × GivesSteps Answers o l t steps x → GivesSteps Answers o l t steps c
+    go : (x : MoveCursor) × (started c ≡ started x) × GivesSteps Answers o l t steps x → GivesSteps Answers o l t steps c
     go (x, q, g) = rw (same q) g

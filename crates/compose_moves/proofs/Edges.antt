@@ -14,13 +14,10 @@ use Rattle.words.proofs.ReplacedLaws.{read_first, read_next}
 use Rattle.fst.specs.Meaning.{on_of, ignored_under}
 use Rattle.matchers.specs.declared.Cursor.{Cursor}
 use Rattle.matchers.specs.declared.IterItemMatcher.{IterItemMatcher}
-use Rattle.matchers.specs.declared.Step.{Step as Answer}
-use Rattle.matchers.specs.declared.Step.TheVariants.{Match as AMatch, End}
 use Rattle.matchers.specs.Meaning.{Item, whole, match_means}
-use Rattle.matchers.specs.Cursors.{held_words, items_left, step_means, asked as askedItem}
-use Rattle.compose_moves.specs.Moves.{present_of, pair_steps, made_means}
+use Rattle.matchers.specs.Cursors.{Step as Answer, held_words, items_left, step_means, asked as askedItem}
+use Rattle.compose_moves.specs.Moves.{present_of, pair_steps, Made, made_means}
 use Rattle.compose_moves.specs.Walks.{Walk, walk_means, walked_side, edge_item, edge_after, next_edge, edge_steps, trs_steps, walk_left, gives, refuses, asked}
-use Rattle.compose_moves.specs.declared.moves.Made.{Made}
 use Rattle.compose_moves.specs.declared.moves.Walk.{Walk as Fixed}
 
 -- a walked edge that is a transition
@@ -54,22 +51,22 @@ some_is : {i j : Item} → Some i ≡ Some j → i ≡ j
 some_is e = cc
 
 -- the look-up gives a match: it is the head of what was left
-pub found_is : (m : List ℕ) (l : List Item) (i : IterItemMatcher) (c : Cursor) → step_means m (AMatch i c) ≡ askedItem l → l ≡ match_means i ∷ items_left m c
+pub found_is : (m : List ℕ) (l : List Item) (i : IterItemMatcher) (c : Cursor) → step_means m (Some i, c) ≡ askedItem l → l ≡ match_means i ∷ items_left m c
 found_is m [] i c e = absurd (true≢false (ap (λ a. is_some a.given) e))
 found_is m (x ∷ xs) i c e = ap₂ (λ (y : Item) (ys : List Item). y ∷ ys) (some_is (sym (ap (λ a. a.given) e))) (sym (ap (λ a. a.left) e))
 
 -- it gives none: nothing was left
-pub none_is : (m : List ℕ) (l : List Item) (c : Cursor) → step_means m (End c) ≡ askedItem l → l ≡ []
+pub none_is : (m : List ℕ) (l : List Item) (c : Cursor) → step_means m (None, c) ≡ askedItem l → l ≡ []
 none_is m [] c e = refl
 none_is m (x ∷ xs) c e = absurd (true≢false (sym (ap (λ a. is_some a.given) e)))
 
 -- a match of the edge: what it makes, and then what the others make. r answers the cursor `left`.
 -- mm are the words as the cursor reads them.
-pub made_turn : (mw mm : List ℕ) (w : Fixed) (t : ℕ) (left rest : Cursor) (edge found : IterItemMatcher) (made : Made) (r : Answer) → r ≡ AMatch found rest
+pub made_turn : (mw mm : List ℕ) (w : Fixed) (t : ℕ) (left : Cursor) (edge found : IterItemMatcher) (made : Made) (r : Answer) → r.0 ≡ Some found
     → step_means mm r ≡ askedItem (items_left mm left) → match_means edge ≡ edge_item mw t → made_means made ≡ pair_steps (on_of w.on) (present_of w) (match_means edge) (match_means found)
-    → edge_made mw w t (items_left mm left) ≡ made_means made ++ edge_made mw w t (items_left mm rest)
+    → edge_made mw w t (items_left mm left) ≡ made_means made ++ edge_made mw w t (items_left mm r.1)
 unfolding edge_made flat_map
-made_turn mw mm w t left rest edge found made r e asks is p = rw (found_is mm (items_left mm left) found rest (rw e at asks), p, is)
+made_turn mw mm w t left edge found made r e asks is p = rw (found_is mm (items_left mm left) found r.1 (rw e at asks), p, is)
 
 pub made_end : (mw : List ℕ) (w : Fixed) (t : ℕ) (l : List Item) → l ≡ [] → edge_made mw w t l ≡ []
 unfolding edge_made flat_map

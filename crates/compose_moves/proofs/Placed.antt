@@ -5,6 +5,7 @@ use mathlib.Core.List.{List, Memᴰ as In}
 use mathlib.Core.Logic.{inl, inr}
 use Prim.Native.Nat.{ℕ, zero, suc}
 use native.Mathlib.Omega.{arith}
+use Rattle.std.specs.Prelude.{None, Some, Ok, Err}
 use Rattle.words.specs.Settings.{Lent}
 use Rattle.words.specs.Labels.{no_label}
 use Rattle.words.specs.Matches.{MatchType, inputs, outputs, label_on}
@@ -24,11 +25,9 @@ use Rattle.matchers.proofs.Held.{place_first, place_next, after_holds, first_hol
 use Rattle.compose_fst_op.specs.declared.ComposeFstOpOptions.{ComposeFstOpOptions}
 use Rattle.compose_fst_op.specs.Composing.{sigmas_of}
 use Rattle.compose_moves.specs.Moves.{Present}
-use Rattle.compose_moves.specs.Walks.{Walk, walk_means, walked_state, looked_state, looked_words, walked_side, edge_after, Placed, PlacedBy}
+use Rattle.compose_moves.specs.Walks.{Walk, walk_means, walked_state, looked_state, looked_words, walked_side, edge_after, Along, Placed, PlacedBy}
 use Rattle.compose_moves.specs.Cursors.{words1, words2, walk_in, present_in, cursor_walk, resumed, MovesPlaced, StaysPlaced}
 use Rattle.compose_moves.specs.declared.moves.Walk.{Walk as Fixed}
-use Rattle.compose_moves.specs.declared.walks.Along.{Along}
-use Rattle.compose_moves.specs.declared.walks.Along.TheVariants.{Step as Onward, Done, Refused}
 use Rattle.compose_moves.specs.declared.MoveCursor.{MoveCursor}
 
 -- after an asking of the matches, whose cursor reads the words as m
@@ -60,9 +59,9 @@ after_placed m s (suc t) (inr i) = place_next m s i
 
 -- the walk's answer as the cursor's
 pub resumed_placed : (o : ComposeFstOpOptions) (l : Lent) (c : MoveCursor) (a : Along) → (Placed (cursor_walk o l c) c.walked c.matches → PlacedBy (cursor_walk o l c) a) → StaysPlaced o l c (resumed c a)
-resumed_placed o l c (Onward r t d) h = (refl, h)
-resumed_placed o l c Done h = tt
-resumed_placed o l c (Refused n) h = tt
+resumed_placed o l c (Ok (Some (r, t, d))) h = (refl, h)
+resumed_placed o l c (Ok None) h = tt
+resumed_placed o l c (Err r) h = tt
 
 -- where the label of a walked record was looked up
 pub found_placed : (W : Walk) (t : ℕ) (c : Cursor) (on : On) (labels : Sigmas) (s : StateId) (x sigma : Label) (both b : Bool) → In t (list_of W.walked (walked_state W.on W.present.triple))

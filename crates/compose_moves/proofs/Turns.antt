@@ -3,6 +3,7 @@ use mathlib.Core.Path.{◌≡◌, refl, sym, ap, ◌∙◌}
 use mathlib.Core.Bool.{true, false, true≢false, false≢true}
 use mathlib.Core.List.{List, [], ◌++◌, flat_map}
 use Prim.Native.Nat.{ℕ, ◌≤◌}
+use Rattle.std.specs.Prelude.{Option, None, Some, is_none, Ok, Err}
 use Rattle.words.specs.Labels.{Checked, good, refused}
 use Rattle.words.specs.Matches.{label_on}
 use Rattle.words.specs.Machines.{tr_count, next_of, machine_of}
@@ -14,14 +15,13 @@ use Rattle.matchers.specs.declared.Cursor.{Cursor}
 use Rattle.matchers.specs.Meaning.{Item, lookup_items}
 use Rattle.matchers.specs.Cursors.{items_left}
 use Rattle.compose_fst_op.specs.Composing.{lent_of}
-use Rattle.compose_moves.specs.Walks.{Walk, walk_means, walked_state, looked_state, walked_side, next_edge, tr_steps, trs_steps, walk_left, Asked, ends, refuses, asked, is_done, along_means, Placed, PlacedBy}
+use Rattle.compose_moves.specs.Walks.{Walk, walk_means, walked_state, looked_state, walked_side, next_edge, tr_steps, trs_steps, walk_left, Asked, ends, refuses, asked, Along, along_means, Placed, PlacedBy}
 use Rattle.compose_moves.specs.Cursors.{cursor_walk, steps_left, next_means, fixed_by, resumed, StaysPlaced}
 use Rattle.compose_moves.proofs.Edges.{after_taken}
 use Rattle.compose_moves.proofs.Placed.{resumed_placed}
 use Rattle.compose_fst_op.specs.declared.ComposeFstOpOptions.{ComposeFstOpOptions}
 use Rattle.compose_moves.specs.declared.MoveCursor.{MoveCursor}
-use Rattle.compose_moves.specs.declared.walks.Along.{Along}
-use Rattle.compose_moves.specs.declared.walks.Along.TheVariants.{Step as Onward, Done, Refused}
+use Rattle.compose_moves.specs.declared.moves.ComposeTr.{ComposeTr}
 
 -- the look-up of transition t's label
 abbrev pub looked_up : Walk → ℕ → Checked (List Item)
@@ -45,34 +45,32 @@ pub trs_end : (W : Walk) (t : ℕ) → t ≡ 0 → trs_steps W t ≡ []
 unfolding trs_steps flat_map
 trs_end W t e = rw (list_end_lem W.walked t e)
 
--- Done stands for what comes after; no other answer does
-pub done_is : (W : Walk) (after : Asked) (a : Along) → is_done a ≡ true → along_means W after a ≡ after
-done_is W after (Onward r t c) e = absurd (false≢true e)
-done_is W after Done e = refl
-done_is W after (Refused n) e = absurd (false≢true e)
+-- a transition stands for itself, whatever comes after it
+pub some_given : (W : Walk) (x y : Asked) (a : Option (ComposeTr × ℕ × Cursor)) → is_none a ≡ false → along_means W x (Ok a) ≡ along_means W y (Ok a)
+some_given W x y (Some (r, t, c)) e = refl
+some_given W x y None e = absurd (true≢false e)
 
-pub done_not : (W : Walk) (x y : Asked) (a : Along) → is_done a ≡ false → along_means W x a ≡ along_means W y a
-done_not W x y (Onward r t c) e = refl
-done_not W x y Done e = absurd (true≢false e)
-done_not W x y (Refused n) e = refl
+pub none_given : (W : Walk) (after : Asked) (a : Option (ComposeTr × ℕ × Cursor)) → is_none a ≡ true → along_means W after (Ok a) ≡ after
+none_given W after (Some (r, t, c)) e = absurd (false≢true e)
+none_given W after None e = refl
 
 -- A turn: where the answer a says that nothing came before transition t, the answer b for t gives what the walk gives from t on.
-pub walk_turn : (W : Walk) (t u : ℕ) (a b : Along) → (t ≡ 0 → ⊥) → t ≤ tr_count W.walked → u ≡ next_of W.walked t → is_done a ≡ true
-    → along_means W (asked (trs_steps W (next_edge W t))) b ≡ asked (tr_steps W t ++ trs_steps W (next_edge W t)) → along_means W (asked (trs_steps W u)) b ≡ along_means W (asked (trs_steps W t)) a
+pub walk_turn : (W : Walk) (t u : ℕ) (a : Option (ComposeTr × ℕ × Cursor)) (b : Along) → (t ≡ 0 → ⊥) → t ≤ tr_count W.walked → u ≡ next_of W.walked t → is_none a ≡ true
+    → along_means W (asked (trs_steps W (next_edge W t))) b ≡ asked (tr_steps W t ++ trs_steps W (next_edge W t)) → along_means W (asked (trs_steps W u)) b ≡ along_means W (asked (trs_steps W t)) (Ok a)
 walk_turn W t u a b n h e d p =
     let next : next_edge W t ≡ next_of W.walked t = after_taken W.walked (walked_state W.on W.present.triple) t n in
     ap (λ (v : ℕ). along_means W (asked (trs_steps W v)) b) (e ∙ sym next)
     ∙ p
     ∙ ap (λ (v : ℕ). asked (tr_steps W t ++ trs_steps W v)) next
     ∙ ap asked (sym (trs_turn W t n h))
-    ∙ sym (done_is W (asked (trs_steps W t)) a d)
+    ∙ sym (none_given W (asked (trs_steps W t)) a d)
 
 -- the walk's answer as the cursor's
 pub resumed_is : (o : ComposeFstOpOptions) (l : Lent) (c : MoveCursor) (a : Along) → next_means o l (resumed c a) ≡ along_means (cursor_walk o l c) ends a
 unfolding steps_left
-resumed_is o l c (Onward r t m) = refl
-resumed_is o l c Done = refl
-resumed_is o l c (Refused n) = refl
+resumed_is o l c (Ok (Some (r, t, m))) = refl
+resumed_is o l c (Ok None) = refl
+resumed_is o l c (Err r) = refl
 
 -- direction input walks machine 1, direction output machine 2
 module _ (o : ComposeFstOpOptions) (m1 m2 a1 a2 ignored : List ℕ) (c : MoveCursor) where

@@ -1,32 +1,30 @@
 -- 02, 2.5, for the moves of a composed state: asked on, they are the steps of the definition, and then the end ever after.
-use Rattle.std.specs.Prelude.{◌≡◌, List, [], ◌∷◌, ℕ, zero, suc, Option, None, Some}
+use Rattle.std.specs.Prelude.{◌≡◌, List, [], ◌∷◌, ℕ, zero, suc, Option, None, Some, Result, Ok, Err}
 use Rattle.lists.specs.Asking.{AskedOn}
 use Rattle.words.specs.Labels.{Checked, good, refused}
 use Rattle.words.specs.Matches.{MatchType}
 use Rattle.words.specs.Settings.{Lent}
 use Rattle.words.specs.Steps.{Step}
+use Rattle.fst.specs.declared.refusals.Refusal.{Refusal}
+use Rattle.fst.specs.Refusals.{number_of}
 use Rattle.compose_fst_op.specs.declared.ComposeFstOpOptions.{ComposeFstOpOptions}
 use Rattle.compose_state_tuple.specs.declared.ComposeStateTuple.{ComposeStateTuple}
 use Rattle.compose_moves.specs.Moves.{compose_tr_means}
-use Rattle.compose_moves.specs.Cursors.{SameState, MovesPlaced, direction_for, Begins}
+use Rattle.compose_moves.specs.Cursors.{NextStep, SameState, MovesPlaced, direction_for, Begins}
 use Rattle.compose_moves.specs.declared.moves.ComposeTr.{ComposeTr}
 use Rattle.compose_moves.specs.declared.MoveCursor.{MoveCursor}
-use Rattle.compose_moves.specs.declared.MovesStart.{MovesStart}
-use Rattle.compose_moves.specs.declared.MovesStart.TheVariants.{At, Refused as NoStart}
-use Rattle.compose_moves.specs.declared.NextStep.{NextStep}
-use Rattle.compose_moves.specs.declared.NextStep.TheVariants.{Step as AStep, Done, Refused}
 
 -- what an answer of the code gives; none: the end
 abbrev pub given_by : NextStep → Option (Checked Step)
-given_by (AStep r c) = Some (good (compose_tr_means r))
-given_by Done = None
-given_by (Refused n) = Some (refused n)
+given_by (Ok (Some (r, c))) = Some (good (compose_tr_means r))
+given_by (Ok None) = None
+given_by (Err r) = Some (refused (number_of r))
 
 -- The cursor to ask on with: the one that was handed back; the end and a refusal hand back none, and are asked again with the same.
 abbrev pub onward : MoveCursor → NextStep → MoveCursor
-onward c (AStep r d) = d
-onward c Done = c
-onward c (Refused n) = c
+onward c (Ok (Some (r, d))) = d
+onward c (Ok None) = c
+onward c (Err r) = c
 
 -- What asking number k is to give of a list of steps: the step at place k, and past the end none. Nothing after a refusal counts: where one stands, it is given, and ever after.
 abbrev pub answer_at : List (Checked Step) → ℕ → Option (Checked Step)
@@ -41,9 +39,9 @@ pub record GivesSteps (Answers : MoveCursor → NextStep → Type 0) (o : Compos
   pub in_order : (k : ℕ) (r : NextStep) → AskedOn Answers onward c k r → given_by r ≡ answer_at steps k
   -- the first cursor, and each that an asking hands back, holds the composed state, and a place of its walk
   pub begins : Begins o l tuple c
-  pub holds : (k : ℕ) (t : ComposeTr) (d : MoveCursor) → AskedOn Answers onward c k (AStep t d) → SameState c d × MovesPlaced o l d
+  pub holds : (k : ℕ) (t : ComposeTr) (d : MoveCursor) → AskedOn Answers onward c k (Ok (Some (t, d))) → SameState c d × MovesPlaced o l d
 
 -- The start b of a composed state: where the direction is refused, that refusal by its number, which is then all that the state has; else a cursor that gives the steps.
-pub record StartGivesSteps (Answers : MoveCursor → NextStep → Type 0) (o : ComposeFstOpOptions) (l : Lent) (tuple : ComposeStateTuple) (steps : List (Checked Step)) (b : MovesStart) : Type 0 where
-  pub refuses : (n : ℕ) → direction_for o l tuple ≡ refused n → (b ≡ NoStart n) × (steps ≡ refused n ∷ [])
-  pub gives : (d : MatchType) → direction_for o l tuple ≡ good d → (c : MoveCursor) × (b ≡ At c) × GivesSteps Answers o l tuple steps c
+pub record StartGivesSteps (Answers : MoveCursor → NextStep → Type 0) (o : ComposeFstOpOptions) (l : Lent) (tuple : ComposeStateTuple) (steps : List (Checked Step)) (b : Result MoveCursor Refusal) : Type 0 where
+  pub refuses : (n : ℕ) → direction_for o l tuple ≡ refused n → (k : Refusal) × (number_of k ≡ n) × (b ≡ Err k) × (steps ≡ refused n ∷ [])
+  pub gives : (d : MatchType) → direction_for o l tuple ≡ good d → (c : MoveCursor) × (b ≡ Ok c) × GivesSteps Answers o l tuple steps c

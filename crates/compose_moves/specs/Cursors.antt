@@ -1,5 +1,5 @@
 -- What a move cursor has still to give, and what the answers of the code stand for.
-use Rattle.std.specs.Prelude.{◌≡◌, List, [], ◌∷◌, ℕ}
+use Rattle.std.specs.Prelude.{◌≡◌, List, [], ◌∷◌, ℕ, Option, None, Some, Result, Ok, Err}
 use Rattle.words.specs.Labels.{Checked, good, refused}
 use Rattle.words.specs.Weights.{kind_of}
 use Rattle.words.specs.Matches.{MatchType, inputs, outputs}
@@ -10,10 +10,12 @@ use Rattle.words.specs.Sigmas.{Operand}
 use Rattle.words.specs.Settings.{Lent}
 use Rattle.words.specs.Steps.{Step}
 use Rattle.fst.specs.Meaning.{on_of}
+use Rattle.fst.specs.declared.refusals.Refusal.{Refusal}
+use Rattle.fst.specs.Refusals.{number_of}
 use Rattle.compose_filters.specs.Meaning.{facts_mean}
 use Rattle.compose_state_tuple.specs.Meaning.{tuple_means}
 use Rattle.compose_moves.specs.Moves.{Present, compose_tr_means}
-use Rattle.compose_moves.specs.Walks.{Walk, walk_left, Asked, gives, ends, refuses, Placed}
+use Rattle.compose_moves.specs.Walks.{Walk, walk_left, Asked, gives, ends, refuses, Along, Placed}
 use Rattle.matchers.specs.declared.Cursor.{Cursor}
 use Rattle.matchers.specs.Meaning.{operand_in}
 use Rattle.matchers.specs.Cursors.{held_words}
@@ -23,13 +25,8 @@ use Rattle.compose_fst_op.specs.declared.ComposeFstOpOptions.{ComposeFstOpOption
 use Rattle.match_type.specs.Chosen.{side_means}
 use Rattle.compose_fst_op.specs.Composing.{sigmas_of, replacing}
 use Rattle.compose_moves.specs.declared.moves.Walk.{Walk as Fixed}
-use Rattle.compose_moves.specs.declared.walks.Along.{Along}
-use Rattle.compose_moves.specs.declared.walks.Along.TheVariants.{Step as Onward, Done as AtEnd, Refused as Stopped}
+use Rattle.compose_moves.specs.declared.moves.ComposeTr.{ComposeTr}
 use Rattle.compose_moves.specs.declared.MoveCursor.{MoveCursor}
-use Rattle.compose_moves.specs.declared.MovesStart.{MovesStart}
-use Rattle.compose_moves.specs.declared.MovesStart.TheVariants.{At, Refused as NoStart}
-use Rattle.compose_moves.specs.declared.NextStep.{NextStep}
-use Rattle.compose_moves.specs.declared.NextStep.TheVariants.{Step as AStep, Done, Refused}
 
 -- the words of the two machines as they are read
 abbrev pub words1 : ComposeFstOpOptions → Lent → List ℕ
@@ -63,15 +60,19 @@ unfoldable pub steps_left : ComposeFstOpOptions → Lent → MoveCursor → List
 steps_left o l c = walk_left (cursor_walk o l c) c.walked c.matches
 
 -- the start's answer: what the cursor will give, or refusal 10 alone
-abbrev pub moves_start_means : ComposeFstOpOptions → Lent → MovesStart → List (Checked Step)
-moves_start_means o l (At c) = steps_left o l c
-moves_start_means o l (NoStart n) = refused n ∷ []
+abbrev pub moves_start_means : ComposeFstOpOptions → Lent → Result MoveCursor Refusal → List (Checked Step)
+moves_start_means o l (Ok c) = steps_left o l c
+moves_start_means o l (Err r) = refused (number_of r) ∷ []
 
--- the answer to one asking, by its number in the table of "Answers" where it is a refusal
+-- an answer to one asking: the next composed transition with the cursor to ask on with, none at the end, or a refusal
+abbrev pub NextStep : Type 0
+NextStep = Result (Option (ComposeTr × MoveCursor)) Refusal
+
+-- what it stands for, by its number in the table of "Answers" where it is a refusal
 abbrev pub next_means : ComposeFstOpOptions → Lent → NextStep → Asked
-next_means o l (AStep r c) = gives (compose_tr_means r) (steps_left o l c)
-next_means o l Done = ends
-next_means o l (Refused n) = refuses n
+next_means o l (Ok (Some (r, c))) = gives (compose_tr_means r) (steps_left o l c)
+next_means o l (Ok None) = ends
+next_means o l (Err r) = refuses (number_of r)
 
 -- the cursor at another place of its walk
 abbrev pub cursor_at : MoveCursor → ℕ → Cursor → MoveCursor
@@ -83,9 +84,9 @@ fixed_by o sigma c = record { kind = o.kind; filter = o.filter; facts = c.facts;
 
 -- the answer of a walk as the answer of the cursor that walks
 abbrev pub resumed : MoveCursor → Along → NextStep
-resumed c (Onward r t matches) = AStep r (cursor_at c t matches)
-resumed c AtEnd = Done
-resumed c (Stopped n) = Refused n
+resumed c (Ok (Some (r, t, matches))) = Ok (Some (r, cursor_at c t matches))
+resumed c (Ok None) = Ok None
+resumed c (Err r) = Err r
 
 -- The cursor d is c at another place: of the same composed state, with what the filter sees there, in the same direction.
 abbrev pub SameState : MoveCursor → MoveCursor → Type 0
@@ -97,9 +98,9 @@ MovesPlaced o l c = Placed (cursor_walk o l c) c.walked c.matches
 
 -- What an answer's cursor holds: the state of the cursor asked, and a place of its walk if that one did. The end and a refusal hand back no cursor.
 abbrev pub StaysPlaced : ComposeFstOpOptions → Lent → MoveCursor → NextStep → Type 0
-StaysPlaced o l c (AStep r d) = SameState c d × (MovesPlaced o l c → MovesPlaced o l d)
-StaysPlaced o l c Done = Unit {0}
-StaysPlaced o l c (Refused n) = Unit {0}
+StaysPlaced o l c (Ok (Some (r, d))) = SameState c d × (MovesPlaced o l c → MovesPlaced o l d)
+StaysPlaced o l c (Ok None) = Unit {0}
+StaysPlaced o l c (Err r) = Unit {0}
 
 -- the direction at a composed state, or refusal 10
 abbrev pub direction_for : ComposeFstOpOptions → Lent → ComposeStateTuple → Checked MatchType
@@ -113,6 +114,6 @@ pub record Begins (o : ComposeFstOpOptions) (l : Lent) (tuple : ComposeStateTupl
   pub place : MovesPlaced o l c
 
 -- the start: its cursor, or the refusal of the direction
-abbrev pub StartsPlaced : ComposeFstOpOptions → Lent → ComposeStateTuple → MovesStart → Type 0
-StartsPlaced o l tuple (At c) = Begins o l tuple c
-StartsPlaced o l tuple (NoStart n) = direction_for o l tuple ≡ refused n
+abbrev pub StartsPlaced : ComposeFstOpOptions → Lent → ComposeStateTuple → Result MoveCursor Refusal → Type 0
+StartsPlaced o l tuple (Ok c) = Begins o l tuple c
+StartsPlaced o l tuple (Err r) = direction_for o l tuple ≡ refused (number_of r)

@@ -1,17 +1,17 @@
 -- One move of the code: machine 1's match and machine 2's, each the loop or a whole transition.
-use Rattle.std.specs.Prelude.{cond, List, [], ◌∷◌, ℕ, eqb, Option, None, Some}
+use Rattle.std.specs.Prelude.{cond, List, [], ◌∷◌, ℕ, eqb, Option, None, Some, Result, Ok, Err}
 use Rattle.papers.specs.Filter.{MoveKind, lone1, lone2, bothEpsilon, aLabel, Facts, Filter}
 use Rattle.words.specs.Labels.{eps_label, Checked, good, refused}
 use Rattle.words.specs.Weights.{Kind, one, times, kind_of}
 use Rattle.words.specs.Matches.{MatchType, inputs, outputs, Tr as Transition}
 use Rattle.words.specs.Filters.{filter_of}
 use Rattle.words.specs.Steps.{Triple, Step, weighed}
+use Rattle.fst.specs.declared.refusals.Refusal.{Refusal}
+use Rattle.fst.specs.Refusals.{number_of}
 use Rattle.matchers.specs.Meaning.{Item, the_loop, whole}
 use Rattle.compose_filters.specs.Meaning.{facts_mean}
 use Rattle.compose_state_tuple.specs.Meaning.{tuple_means}
 use Rattle.compose_moves.specs.declared.moves.ComposeTr.{ComposeTr}
-use Rattle.compose_moves.specs.declared.moves.Made.{Made}
-use Rattle.compose_moves.specs.declared.moves.Made.TheVariants.{Step as AStep, Dropped, Refused}
 use Rattle.compose_moves.specs.declared.moves.Walk.{Walk}
 
 -- the present composed state: the kind of weight, the filter, what the filter sees there, the triple
@@ -53,8 +53,11 @@ pair_steps outputs p w m = steps_of p m w
 abbrev pub compose_tr_means : ComposeTr → Step
 compose_tr_means t = record { input = t.ilabel.0; output = t.olabel.0; weight = t.weight; to = tuple_means t.tuple }
 
--- the code's answer to one move
+-- what a move of the code makes: a transition, none where the filter drops it, or a refusal
+abbrev pub Made : Type 0
+Made = Result (Option ComposeTr) Refusal
+
 abbrev pub made_means : Made → List (Checked Step)
-made_means (AStep t) = good (compose_tr_means t) ∷ []
-made_means Dropped = []
-made_means (Refused n) = refused n ∷ []
+made_means (Ok (Some t)) = good (compose_tr_means t) ∷ []
+made_means (Ok None) = []
+made_means (Err r) = refused (number_of r) ∷ []

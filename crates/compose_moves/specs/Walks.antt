@@ -1,5 +1,5 @@
 -- The walk along one machine's list, looked up in the other: what is left of it from a place on.
-use Rattle.std.specs.Prelude.{Bool, true, false, ℕ, zero, suc}
+use Rattle.std.specs.Prelude.{ℕ, zero, suc, Option, None, Some, Result, Ok, Err}
 use mathlib.Core.List.{List, [], ◌∷◌, ◌++◌, flat_map}
 use Rattle.words.specs.Labels.{no_label, Checked, good, refused}
 use Rattle.words.specs.Matches.{MatchType, inputs, outputs, label_on, tr_of}
@@ -9,14 +9,15 @@ use Rattle.words.specs.Steps.{Triple, Step}
 use Rattle.words.specs.Ignored.{words_read}
 use Rattle.fst.specs.Meaning.{on_of, ignored_under, read_as}
 use Rattle.fst.specs.declared.Sigmas.{Sigmas}
+use Rattle.fst.specs.declared.refusals.Refusal.{Refusal}
+use Rattle.fst.specs.Refusals.{number_of}
 use Rattle.matchers.specs.declared.Cursor.{Cursor}
 use Rattle.matchers.specs.Meaning.{Item, the_loop, whole, allowed_of, operand_in, lookup_items}
 use Rattle.matchers.specs.Cursors.{held_words, items_left}
 use Rattle.matchers.specs.Asking.{LookUp, sorted_look_up, sigma_look_up, PlaceIn, Holds}
 use Rattle.compose_moves.specs.Moves.{Present, present_of, pair_steps, compose_tr_means}
 use Rattle.compose_moves.specs.declared.moves.Walk.{Walk as Fixed}
-use Rattle.compose_moves.specs.declared.walks.Along.{Along}
-use Rattle.compose_moves.specs.declared.walks.Along.TheVariants.{Step as AStep, Done, Refused}
+use Rattle.compose_moves.specs.declared.moves.ComposeTr.{ComposeTr}
 
 -- what stays the same through a walk
 pub record Walk : Type 0 where
@@ -114,18 +115,17 @@ asked [] = ends
 asked (good st ∷ l) = gives st l
 asked (refused n ∷ l) = refuses n
 
-abbrev pub is_done : Along → Bool
-is_done (AStep r t c) = false
-is_done Done = true
-is_done (Refused n) = false
+-- a walk's answer: the next composed transition with the walked record and the matches left of it, none at the end, or a refusal
+abbrev pub Along : Type 0
+Along = Result (Option (ComposeTr × ℕ × Cursor)) Refusal
 
--- The answer of a walk, where Done stands for what comes after it.
+-- what it stands for, where none stands for what comes after it
 abbrev pub along_means : Walk → Asked → Along → Asked
-along_means W after (AStep r t c) = gives (compose_tr_means r) (walk_left W t c)
-along_means W after Done = after
-along_means W after (Refused n) = refuses n
+along_means W after (Ok (Some (r, t, c))) = gives (compose_tr_means r) (walk_left W t c)
+along_means W after (Ok None) = after
+along_means W after (Err r) = refuses (number_of r)
 
--- an answer for the walked edge t: Done stands for what the list makes after it
+-- an answer for the walked edge t: none stands for what the list makes after it
 abbrev pub edge_answer : Walk → ℕ → Along → Asked
 edge_answer W t a = along_means W (asked (trs_steps W (next_edge W t))) a
 
@@ -142,6 +142,6 @@ pub record Placed (W : Walk) (t : ℕ) (c : Cursor) : Type 0 where
 
 -- that of an answer; the end and a refusal have none
 abbrev pub PlacedBy : Walk → Along → Type 0
-PlacedBy W (AStep r t c) = Placed W t c
-PlacedBy W Done = Unit {0}
-PlacedBy W (Refused n) = Unit {0}
+PlacedBy W (Ok (Some (r, t, c))) = Placed W t c
+PlacedBy W (Ok None) = Unit {0}
+PlacedBy W (Err r) = Unit {0}

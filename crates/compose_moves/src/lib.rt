@@ -20,8 +20,8 @@ ghost use Rattle.compose_moves.specs.Cursors.{fixed_by, resumed, steps_left, mov
 use compose_filters::{Facts, facts_at};
 use compose_fst_op::{ComposeFstOpOptions, sigmas_of};
 use compose_state_tuple::ComposeStateTuple;
-use fst::{MatchType, NO_LABEL, Sigmas};
-use match_input::{Direction, direction_at};
+use fst::{MatchType, NO_LABEL, Refusal, Sigmas};
+use match_input::direction_at;
 use matchers::{Cursor, Sigma, sorted_iter};
 pub use moves::ComposeTr;
 use moves::Walk;
@@ -41,22 +41,11 @@ pub struct MoveCursor {
     pub matches: Cursor,
 }
 
-// The cursor before the first move, or the number of the refusal.
-#[derive(Clone, Copy)]
-pub enum MovesStart {
-    At(MoveCursor),
-    Refused(u32),
-}
-
-// The next composed transition, with the cursor to ask on with; the end; or the number of a refusal.
-#[derive(Clone, Copy)]
-pub enum NextStep {
-    Step(ComposeTr, MoveCursor),
-    Done,
-    Refused(u32),
-}
+// The next composed transition, with the cursor to ask on with; None: the end.
+pub type NextStep = Result<Option<(ComposeTr, MoveCursor)>, Refusal>;
 
 // The matches of a walked machine that rests: the epsilon transitions of the other.
+#[tactic(auto, using(matchers::proofs::Held::first_holds))]
 fn rest_matches(
     m1: &[u32],
     m2: &[u32],
@@ -73,25 +62,9 @@ fn rest_matches(
         let words2 = read_as MatchInput sigmas ignored.now m2.now in
         Holds (looked_words (on_of on) words1 words2) (looked_state (on_of on) (tuple_means tuple)) (sorted_look_up (on_of on) sigmas no_label) result }
 {
-    let s1 = tuple.s1;
-    let s2 = tuple.s2;
     match on {
-        MatchType::MatchInput => sorted_iter(
-            m2,
-            MatchType::MatchInput,
-            sigmas,
-            ignored,
-            s2,
-            NO_LABEL,
-        ),
-        MatchType::MatchOutput => sorted_iter(
-            m1,
-            MatchType::MatchOutput,
-            sigmas,
-            ignored,
-            s1,
-            NO_LABEL,
-        ),
+        MatchType::MatchInput => sorted_iter(m2, on, sigmas, ignored, tuple.s2, NO_LABEL),
+        MatchType::MatchOutput => sorted_iter(m1, on, sigmas, ignored, tuple.s1, NO_LABEL),
     }
 }
 
@@ -102,7 +75,7 @@ pub fn moves_start(
     ignored: &[u32],
     options: ComposeFstOpOptions,
     tuple: ComposeStateTuple,
-) -> MovesStart
+) -> Result<MoveCursor, Refusal>
     ensures by_index { (a1 a2 : List ℕ) →
         let l = lent_of options m1.now m2.now a1 a2 ignored.now in
         let c = composing options m1.now m2.now a1 a2 ignored.now in
@@ -111,40 +84,27 @@ pub fn moves_start(
         let l = lent_of options m1.now m2.now a1 a2 ignored.now in
         StartsPlaced options l tuple result }
 {
-    let side = options.side;
     let sigmas = sigmas_of(options);
-    let s1 = tuple.s1;
-    let s2 = tuple.s2;
-    let direction = direction_at(side, m1, m2, sigmas, ignored, s1, s2);
-    match direction {
-        Direction::Refused(n) => MovesStart::Refused(n),
-        Direction::Match(on) => {
-            let facts = facts_at(m1, m2, sigmas, ignored, s1, s2);
-            let matches = rest_matches(m1, m2, sigmas, ignored, on, tuple);
-            MovesStart::At(MoveCursor {
-                tuple,
-                facts,
-                on,
-                walked: 0,
-                matches,
-            })
-        }
-    }
+    let on = direction_at(options.side, m1, m2, sigmas, ignored, tuple.s1, tuple.s2)?;
+    Ok(MoveCursor {
+        tuple,
+        facts: facts_at(m1, m2, sigmas, ignored, tuple.s1, tuple.s2),
+        on,
+        walked: 0,
+        matches: rest_matches(m1, m2, sigmas, ignored, on, tuple),
+    })
 }
 
 // What stays the same while a cursor goes on, with the sigma settings of the machine that is looked up.
 fn walk_of(options: ComposeFstOpOptions, sigma: Sigma, cursor: MoveCursor) -> Walk
     ensures { result ≡ fixed_by options sigma cursor }
 {
-    let facts = cursor.facts;
-    let tuple = cursor.tuple;
-    let on = cursor.on;
     Walk {
         kind: options.kind,
         filter: options.filter,
-        facts,
-        tuple,
-        on,
+        facts: cursor.facts,
+        tuple: cursor.tuple,
+        on: cursor.on,
         sigma,
         labels: sigmas_of(options),
     }
@@ -154,23 +114,14 @@ fn walk_of(options: ComposeFstOpOptions, sigma: Sigma, cursor: MoveCursor) -> Wa
 fn resume(cursor: MoveCursor, along: Along) -> NextStep
     ensures { result ≡ resumed cursor along }
 {
-    let tuple = cursor.tuple;
-    let facts = cursor.facts;
-    let on = cursor.on;
-    match along {
-        Along::Step(tr, walked, matches) => NextStep::Step(
-            tr,
-            MoveCursor {
-                tuple,
-                facts,
-                on,
-                walked,
-                matches,
-            },
-        ),
-        Along::Done => NextStep::Done,
-        Along::Refused(n) => NextStep::Refused(n),
-    }
+    Ok(along?.map(|(tr, walked, matches)| {
+        let onward = MoveCursor {
+            walked,
+            matches,
+            ..cursor
+        };
+        (tr, onward)
+    }))
 }
 
 // The next composed transition of a state; 11 where a walked label is sigma, 12 where the weight of a kept move is too large. Dropped moves are passed over. Asked on with the cursor that
@@ -189,34 +140,16 @@ pub fn next_step(
     ensures place { let l = lent_of options m1.now m2.now a1.now a2.now ignored.now in
         StaysPlaced options l cursor result }
 {
-    let on = cursor.on;
-    let matches = cursor.matches;
-    let sigma1 = options.sigma1;
-    let sigma2 = options.sigma2;
-    match on {
-        MatchType::MatchInput => resume(
-            cursor,
-            ordered_expand(
-                m1,
-                m2,
-                a2,
-                ignored,
-                walk_of(options, sigma2, cursor),
-                cursor.walked,
-                matches,
-            ),
-        ),
-        MatchType::MatchOutput => resume(
-            cursor,
-            ordered_expand(
-                m2,
-                m1,
-                a1,
-                ignored,
-                walk_of(options, sigma1, cursor),
-                cursor.walked,
-                matches,
-            ),
-        ),
+    match cursor.on {
+        MatchType::MatchInput => {
+            let walk = walk_of(options, options.sigma2, cursor);
+            let along = ordered_expand(m1, m2, a2, ignored, walk, cursor.walked, cursor.matches);
+            resume(cursor, along)
+        }
+        MatchType::MatchOutput => {
+            let walk = walk_of(options, options.sigma1, cursor);
+            let along = ordered_expand(m2, m1, a1, ignored, walk, cursor.walked, cursor.matches);
+            resume(cursor, along)
+        }
     }
 }

@@ -6,22 +6,18 @@ ghost use Rattle.words.specs.Machines.{list_of};
 ghost use Rattle.fst.specs.Meaning.{on_of, read_as};
 ghost use Rattle.compose_state_tuple.specs.Meaning.{tuple_means};
 ghost use Rattle.matchers.specs.Meaning.{match_means};
-ghost use Rattle.compose_moves.specs.Walks.{walk_means, walked_state, looked_state, walked_side, edge_item, edge_after, walk_left, from_tr, asked, ends, is_done, along_means, edge_answer, Placed, PlacedBy};
+ghost use Rattle.compose_moves.specs.Walks.{walk_means, walked_state, looked_state, walked_side, edge_item, edge_after, walk_left, from_tr, asked, ends, along_means, edge_answer, Placed, PlacedBy};
 
-use crate::moves::{ComposeTr, Made, Walk, pair_step};
+use crate::moves::{ComposeTr, Walk, pair_step};
 use compose_state_tuple::ComposeStateTuple;
-use fst::{MatchType, Sigmas, StateId, first_tr, get_tr, inner_label, next_tr};
-use matchers::{Cursor, IterItemMatcher, SigmaIter, Step, ask, sigma_iter};
+use fst::{MatchType, Refusal, Sigmas, StateId, first_tr, get_tr, inner_label, next_tr};
+use matchers::{Cursor, IterItemMatcher, ask, sigma_iter};
 
-// The next composed transition, with the walked record and the matches left of it; the end; or the number of a refusal.
-#[derive(Clone, Copy)]
-pub enum Along {
-    Step(ComposeTr, u32, Cursor),
-    Done,
-    Refused(u32),
-}
+// The next composed transition, with the walked record and the matches left of it; None: the end.
+pub type Along = Result<Option<(ComposeTr, u32, Cursor)>, Refusal>;
 
 // The walked edge as a match, of a machine that is matched on a side; 0: the machine rests.
+#[tactic(auto, using(crate::proofs::Edges::edge_taken))]
 fn edge_item(mw: &[u32], on: MatchType, sigmas: Sigmas, ignored: &[u32], t: u32) -> IterItemMatcher
     ensures { match_means result ≡ edge_item (read_as on sigmas ignored.now mw.now) t }
 {
@@ -60,6 +56,7 @@ fn walked_side(on: MatchType) -> MatchType
 }
 
 // The walked edge after t: first the rest, then along the list; 0: none.
+#[tactic(auto, using(crate::proofs::Edges::after_taken))]
 fn edge_after(mw: &[u32], s: StateId, t: u32) -> u32
     ensures { result ≡ edge_after mw.now s.0 t }
 {
@@ -69,17 +66,7 @@ fn edge_after(mw: &[u32], s: StateId, t: u32) -> u32
     next_tr(mw, t)
 }
 
-fn is_done(along: Along) -> bool
-    ensures { result ≡ is_done along }
-{
-    match along {
-        Along::Step(_, _, _) => false,
-        Along::Done => true,
-        Along::Refused(_) => false,
-    }
-}
-
-// The next transition that the walked edge t makes with the matches left of it; Done: it makes no more.
+// The next transition that the walked edge t makes with the matches left of it; None: it makes no more.
 fn match_tr_selected(
     mw: &[u32],
     mm: &[u32],
@@ -95,28 +82,15 @@ fn match_tr_selected(
         let w = walk_means walk mw.now mm.now am ignored.now in
         Placed w t matches → PlacedBy w result }
 {
-    let on = walk.on;
-    let labels = walk.labels;
-    let edge = edge_item(mw, walked_side(on), labels, ignored, t);
+    let edge = edge_item(mw, walked_side(walk.on), walk.labels, ignored, t);
     let mut left = matches;
-    loop {
-        let step = ask(mm, left, ignored);
-        let Step::Match(found, rest) = step else {
-            return Along::Done;
-        };
-        let made = pair_step(walk, edge, found);
-        match made {
-            Made::Step(tr) => {
-                return Along::Step(tr, t, rest);
-            }
-            Made::Refused(n) => {
-                return Along::Refused(n);
-            }
-            Made::Dropped => {
-                left = rest;
-            }
+    while let (Some(found), rest) = ask(mm, left, ignored) {
+        if let Some(tr) = pair_step(walk, edge, found)? {
+            return Ok(Some((tr, t, rest)));
         }
+        left = rest;
     }
+    Ok(None)
 }
 
 // The same for transition t of the walked list, with all its matches, or refusal 11.
@@ -126,28 +100,13 @@ fn match_tr(mw: &[u32], mm: &[u32], am: &[u32], ignored: &[u32], walk: Walk, t: 
     ensures place { let w = walk_means walk mw.now mm.now am.now ignored.now in
         In t (list_of mw.now (walked_state (on_of walk.on) (tuple_means walk.tuple))) → PlacedBy w result }
 {
-    let on = walk.on;
-    let tuple = walk.tuple;
-    let sigma = walk.sigma;
-    let labels = walk.labels;
-    let label = inner_label(mw, walked_side(on), labels, ignored, t);
-    let found = sigma_iter(
-        mm,
-        on,
-        labels,
-        ignored,
-        sigma,
-        am,
-        looked_state(on, tuple),
-        label,
-    );
-    match found {
-        SigmaIter::At(matches) => match_tr_selected(mw, mm, ignored, walk, t, matches),
-        SigmaIter::Refused(n) => Along::Refused(n),
-    }
+    let label = inner_label(mw, walked_side(walk.on), walk.labels, ignored, t);
+    let s = looked_state(walk.on, walk.tuple);
+    let matches = sigma_iter(mm, walk.on, walk.labels, ignored, walk.sigma, am, s, label)?;
+    match_tr_selected(mw, mm, ignored, walk, t, matches)
 }
 
-// The next transition of the walk where edge `walked` has these matches left; Done: the list is at its end.
+// The next transition of the walk where edge `walked` has these matches left; None: the list is at its end.
 pub fn ordered_expand(
     mw: &[u32],
     mm: &[u32],
@@ -162,16 +121,11 @@ pub fn ordered_expand(
     ensures place { let w = walk_means walk mw.now mm.now am.now ignored.now in
         Placed w walked matches → PlacedBy w result }
 {
-    let on = walk.on;
-    let tuple = walk.tuple;
-    let mut along = match_tr_selected(mw, mm, ignored, walk, walked, matches);
-    let mut t = edge_after(mw, walked_state(on, tuple), walked);
-    while t != 0 {
-        if !is_done(along) {
-            return along;
-        }
-        along = match_tr(mw, mm, am, ignored, walk, t);
+    let mut along = match_tr_selected(mw, mm, ignored, walk, walked, matches)?;
+    let mut t = edge_after(mw, walked_state(walk.on, walk.tuple), walked);
+    while along.is_none() && t != 0 {
+        along = match_tr(mw, mm, am, ignored, walk, t)?;
         t = next_tr(mw, t);
     }
-    along
+    Ok(along)
 }

@@ -2,7 +2,9 @@
 use mathlib.Core.Path.{◌≡◌, refl, sym, ap, ◌∙◌}
 use mathlib.Core.List.{List}
 use Prim.Native.Nat.{ℕ}
-use Rattle.words.specs.Labels.{no_label, good, refused}
+use borrow.Author.Rules.{rules}
+use Rattle.std.specs.Prelude.{Err}
+use Rattle.words.specs.Labels.{no_label}
 use Rattle.words.specs.Filters.{none_at, all_at}
 use Rattle.fst.specs.Meaning.{on_of, as_operand}
 use Rattle.words.specs.Matches.{inputs, outputs}
@@ -33,35 +35,51 @@ read-direction o l t = go (side_means o.side)
     go (only on) = refl
     go both = refl
 
-pub returns-in-Refused : goal.returns-in-Refused
-returns-in-Refused c =
+pub returns-in_err-on-clause-by_index : goal.returns-in_err-on-clause-by_index
+returns-in_err-on-clause-by_index c =
     let a = c.args in
     let o = a.options in
-    let lent : (a1 a2 : List ℕ) → Lent = λ a1 a2. lent_of o a.m1.now a.m2.now a1 a2 a.ignored.now in
-    let found = rw (c.in-Refused.is, c.sigmas_of-sigmas.ensures) at c.direction_at-direction.ensures in
-    let ten : (a1 a2 : List ℕ) → direction_for o (lent a1 a2) a.tuple ≡ refused c.in-Refused.n = λ a1 a2. read-direction o (lent a1 a2) a.tuple ∙ sym found in
-    record { by_index = λ a1 a2. no_steps o (lent a1 a2) (tuple_means a.tuple) _ (ten a1 a2); place = λ a1 a2. ten a1 a2 }
+    let found = rw c.sigmas_of-sigmas.ensures at c.in_err-on.ensures in
+    let e : c.from_residual.result ≡ Err c.in_err-on.field-0.0 = search rules in
+    rw e (λ a1 a2. let l = lent_of o a.m1.now a.m2.now a1 a2 a.ignored.now in no_steps o l (tuple_means a.tuple) _ (read-direction o l a.tuple ∙ sym found))
 
-pub returns-in-Match : goal.returns-in-Match
+pub returns-in_err-on-clause-place : goal.returns-in_err-on-clause-place
+returns-in_err-on-clause-place c =
+    let a = c.args in
+    let o = a.options in
+    let found = rw c.sigmas_of-sigmas.ensures at c.in_err-on.ensures in
+    let e : c.from_residual.result ≡ Err c.in_err-on.field-0.0 = search rules in
+    rw e (λ a1 a2. read-direction o (lent_of o a.m1.now a.m2.now a1 a2 a.ignored.now) a.tuple ∙ sym found)
+
+pub returns-clause-by_index : goal.returns-clause-by_index
 unfolding steps_left none_at all_at
-returns-in-Match c =
+returns-clause-by_index c =
     let a = c.args in
     let o = a.options in
     let t = tuple_means a.tuple in
-    let on = c.in-Match.on in
+    let on = c.in_ok-on.on in
+    let matches = c.rest_matches.result in
+    let found = rw c.sigmas_of-sigmas.ensures at c.in_ok-on.ensures in
+    let facts = rw c.sigmas_of-sigmas.ensures at c.facts_at.ensures in
+    let rest_items = rw c.sigmas_of-sigmas.ensures at c.rest_matches.ensures.result_value in
+    let rest_place = rw c.sigmas_of-sigmas.ensures at c.rest_matches.ensures.place in
     let lent : (a1 a2 : List ℕ) → Lent = λ a1 a2. lent_of o a.m1.now a.m2.now a1 a2 a.ignored.now in
-    let found = rw (c.in-Match.is, c.sigmas_of-sigmas.ensures) at c.direction_at-direction.ensures in
-    let facts = rw c.sigmas_of-sigmas.ensures at c.facts_at-facts.ensures in
-    let rest_items = rw c.sigmas_of-sigmas.ensures at c.rest_matches-matches.ensures.result_value in
-    let rest_place = rw c.sigmas_of-sigmas.ensures at c.rest_matches-matches.ensures.place in
-    let way : (a1 a2 : List ℕ) → direction_for o (lent a1 a2) a.tuple ≡ good (on_of on) = λ a1 a2. read-direction o (lent a1 a2) a.tuple ∙ sym found in
-    let items : (a1 a2 : List ℕ) → items_left ((walk_in o (lent a1 a2) (here (C o (lent a1 a2) t) t) (on_of on)).held c.rest_matches-matches.result) c.rest_matches-matches.result ≡ sorted_items (on_of on) (looked_words (on_of on) (words1 o (lent a1 a2)) (words2 o (lent a1 a2))) (looked_state (on_of on) t) no_label = λ a1 a2.
-    ap (λ (w : List ℕ). items_left w c.rest_matches-matches.result) (rest_held o (lent a1 a2) (here (C o (lent a1 a2) t) t) (on_of on) _ _ c.rest_matches-matches.result rest_place) ∙ rest_items in record {
-      by_index = λ a1 a2. rw facts (all_steps o (lent a1 a2) t _ c.rest_matches-matches.result (way a1 a2) (items a1 a2));
-      place = λ a1 a2. record {
-        state = refl;
-        facts = facts;
-        direction = way a1 a2;
-        place = start_placed o (lent a1 a2) (record { tuple = a.tuple; facts = c.facts_at-facts.result; on = on; walked = 0; matches = c.rest_matches-matches.result }) refl rest_place;
-      };
+    let items : (a1 a2 : List ℕ) → items_left ((walk_in o (lent a1 a2) (here (C o (lent a1 a2) t) t) (on_of on)).held matches) matches ≡ sorted_items (on_of on) (looked_words (on_of on) (words1 o (lent a1 a2)) (words2 o (lent a1 a2))) (looked_state (on_of on) t) no_label = λ a1 a2.
+    ap (λ (w : List ℕ). items_left w matches) (rest_held o (lent a1 a2) (here (C o (lent a1 a2) t) t) (on_of on) _ _ matches rest_place) ∙ rest_items in
+    λ a1 a2. rw facts (all_steps o (lent a1 a2) t _ matches (read-direction o (lent a1 a2) a.tuple ∙ sym found) (items a1 a2))
+
+pub returns-clause-place : goal.returns-clause-place
+unfolding none_at all_at
+returns-clause-place c =
+    let a = c.args in
+    let o = a.options in
+    let matches = c.rest_matches.result in
+    let found = rw c.sigmas_of-sigmas.ensures at c.in_ok-on.ensures in
+    let facts = rw c.sigmas_of-sigmas.ensures at c.facts_at.ensures in
+    let rest_place = rw c.sigmas_of-sigmas.ensures at c.rest_matches.ensures.place in
+    λ a1 a2. let l = lent_of o a.m1.now a.m2.now a1 a2 a.ignored.now in record {
+      state = refl;
+      facts = facts;
+      direction = read-direction o l a.tuple ∙ sym found;
+      place = start_placed o l (record { tuple = a.tuple; facts = c.facts_at.result; on = c.in_ok-on.on; walked = 0; matches = matches }) refl rest_place;
     }

@@ -1,11 +1,11 @@
--- By the direction.
+-- The first place of a look-up in the other machine, by the direction.
 use mathlib.Core.Path.{refl}
 use mathlib.Core.Logic.{inl}
 use Rattle.matchers.proofs.Held.{first_holds}
 use Rattle.compose_moves.proofs.rest_matches.Goals as goal
 
-pub returns-in-MatchInput : goal.returns-in-MatchInput
-returns-in-MatchInput c = rw c.in-MatchInput.is record { result_value = c.sorted_iter.ensures.result_value; place = first_holds _ _ _ _ _ _ _ 0 _ c.sorted_iter.ensures.place (inl refl) }
+pub returns-in-MatchInput-clause-place : goal.returns-in-MatchInput-clause-place
+returns-in-MatchInput-clause-place c = rw c.in-MatchInput.is (first_holds _ _ _ _ _ _ _ 0 _ (rw c.in-MatchInput.is at c.sorted_iter.ensures.place) (inl refl))
 
-pub returns-in-MatchOutput : goal.returns-in-MatchOutput
-returns-in-MatchOutput c = rw c.in-MatchOutput.is record { result_value = c.sorted_iter-in-MatchOutput.ensures.result_value; place = first_holds _ _ _ _ _ _ _ 0 _ c.sorted_iter-in-MatchOutput.ensures.place (inl refl) }
+pub returns-in-MatchOutput-clause-place : goal.returns-in-MatchOutput-clause-place
+returns-in-MatchOutput-clause-place c = rw c.in-MatchOutput.is (first_holds _ _ _ _ _ _ _ 0 _ (rw c.in-MatchOutput.is at c.sorted_iter-in-MatchOutput.ensures.place) (inl refl))
