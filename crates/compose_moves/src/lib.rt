@@ -7,8 +7,7 @@ mod walks;
 ghost use Rattle.std.specs.Prelude.{◌≡◌, List, ℕ};
 ghost use Rattle.words.specs.Labels.{no_label};
 ghost use Rattle.words.specs.Steps.{steps_at};
-ghost use Rattle.fst.specs.Meaning.{on_of, read_as};
-ghost use Rattle.fst.specs.declared.MatchType.TheVariants.{MatchInput, MatchOutput};
+ghost use Rattle.fst.specs.Meaning.{on_of, words_as_read, first_of_two, second_of_two};
 ghost use Rattle.compose_state_tuple.specs.Meaning.{tuple_means};
 ghost use Rattle.matchers.specs.Meaning.{sorted_items};
 ghost use Rattle.matchers.specs.Cursors.{items_left};
@@ -20,7 +19,7 @@ ghost use Rattle.compose_moves.specs.Cursors.{fixed_by, resumed, steps_left, mov
 use compose_filters::{Facts, facts_at};
 use compose_fst_op::{ComposeFstOpOptions, sigmas_of};
 use compose_state_tuple::ComposeStateTuple;
-use fst::{MatchType, NO_LABEL, Refusal, Sigmas};
+use fst::{Machines, MatchType, NO_LABEL, Refusal};
 use match_input::direction_at;
 use matchers::{Cursor, Sigma, sorted_iter};
 pub use moves::ComposeTr;
@@ -46,25 +45,18 @@ pub type NextStep = Result<Option<(ComposeTr, MoveCursor)>, Refusal>;
 
 // The matches of a walked machine that rests: the epsilon transitions of the other.
 #[tactic(auto, using(matchers::proofs::Held::first_holds))]
-fn rest_matches(
-    m1: &[u32],
-    m2: &[u32],
-    sigmas: Sigmas,
-    ignored: &[u32],
-    on: MatchType,
-    tuple: ComposeStateTuple,
-) -> Cursor
-    ensures result_value { let words1 = read_as MatchOutput sigmas ignored.now m1.now in
-        let words2 = read_as MatchInput sigmas ignored.now m2.now in
+fn rest_matches(two: Machines<'_>, on: MatchType, tuple: ComposeStateTuple) -> Cursor
+    ensures result_value { let words1 = words_as_read (first_of_two two.entry) in
+        let words2 = words_as_read (second_of_two two.entry) in
         let words = looked_words (on_of on) words1 words2 in
         items_left words result ≡ sorted_items (on_of on) words (looked_state (on_of on) (tuple_means tuple)) no_label }
-    ensures place { let words1 = read_as MatchOutput sigmas ignored.now m1.now in
-        let words2 = read_as MatchInput sigmas ignored.now m2.now in
-        Holds (looked_words (on_of on) words1 words2) (looked_state (on_of on) (tuple_means tuple)) (sorted_look_up (on_of on) sigmas no_label) result }
+    ensures place { let words1 = words_as_read (first_of_two two.entry) in
+        let words2 = words_as_read (second_of_two two.entry) in
+        Holds (looked_words (on_of on) words1 words2) (looked_state (on_of on) (tuple_means tuple)) (sorted_look_up (on_of on) two.entry.sigmas no_label) result }
 {
     match on {
-        MatchType::MatchInput => sorted_iter(m2, on, sigmas, ignored, tuple.s2, NO_LABEL),
-        MatchType::MatchOutput => sorted_iter(m1, on, sigmas, ignored, tuple.s1, NO_LABEL),
+        MatchType::MatchInput => sorted_iter(two.second(), tuple.s2, NO_LABEL),
+        MatchType::MatchOutput => sorted_iter(two.first(), tuple.s1, NO_LABEL),
     }
 }
 
@@ -84,14 +76,19 @@ pub fn moves_start(
         let l = lent_of options m1.now m2.now a1 a2 ignored.now in
         StartsPlaced options l tuple result }
 {
-    let sigmas = sigmas_of(options);
-    let on = direction_at(options.side, m1, m2, sigmas, ignored, tuple.s1, tuple.s2)?;
+    let two = Machines {
+        m1,
+        m2,
+        sigmas: sigmas_of(options),
+        ignored,
+    };
+    let on = direction_at(options.side, two, tuple.s1, tuple.s2)?;
     Ok(MoveCursor {
         tuple,
-        facts: facts_at(m1, m2, sigmas, ignored, tuple.s1, tuple.s2),
+        facts: facts_at(two, tuple.s1, tuple.s2),
         on,
         walked: 0,
-        matches: rest_matches(m1, m2, sigmas, ignored, on, tuple),
+        matches: rest_matches(two, on, tuple),
     })
 }
 

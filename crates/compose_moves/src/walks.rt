@@ -3,14 +3,14 @@
 ghost use Rattle.std.specs.Prelude.{◌≡◌, ℕ};
 ghost use mathlib.Core.List.{List, Memᴰ as In};
 ghost use Rattle.words.specs.Machines.{list_of};
-ghost use Rattle.fst.specs.Meaning.{on_of, read_as};
+ghost use Rattle.fst.specs.Meaning.{on_of, words_as_read};
 ghost use Rattle.compose_state_tuple.specs.Meaning.{tuple_means};
 ghost use Rattle.matchers.specs.Meaning.{match_means};
 ghost use Rattle.compose_moves.specs.Walks.{walk_means, walked_state, looked_state, walked_side, edge_item, edge_after, walk_left, from_tr, asked, ends, along_means, edge_answer, Placed, PlacedBy};
 
 use crate::moves::{ComposeTr, Walk, pair_step};
 use compose_state_tuple::ComposeStateTuple;
-use fst::{MatchType, Refusal, Sigmas, StateId, first_tr, get_tr, inner_label, next_tr};
+use fst::{MatchType, Matched, Refusal, StateId, first_tr, get_tr, inner_label, next_tr};
 use matchers::{Cursor, IterItemMatcher, ask, sigma_iter};
 
 // The next composed transition, with the walked record and the matches left of it; None: the end.
@@ -18,13 +18,13 @@ pub type Along = Result<Option<(ComposeTr, u32, Cursor)>, Refusal>;
 
 // The walked edge as a match, of a machine that is matched on a side; 0: the machine rests.
 #[tactic(auto, using(crate::proofs::Edges::edge_taken))]
-fn edge_item(mw: &[u32], on: MatchType, sigmas: Sigmas, ignored: &[u32], t: u32) -> IterItemMatcher
-    ensures { match_means result ≡ edge_item (read_as on sigmas ignored.now mw.now) t }
+fn edge_item(walked: Matched<'_>, t: u32) -> IterItemMatcher
+    ensures { match_means result ≡ edge_item (words_as_read walked.entry) t }
 {
     if t == 0 {
         return IterItemMatcher::EpsLoop;
     }
-    IterItemMatcher::Tr(get_tr(mw, on, sigmas, ignored, t))
+    IterItemMatcher::Tr(get_tr(walked, t))
 }
 
 fn walked_state(on: MatchType, tuple: ComposeStateTuple) -> StateId
@@ -82,7 +82,13 @@ fn match_tr_selected(
         let w = walk_means walk mw.now mm.now am ignored.now in
         Placed w t matches → PlacedBy w result }
 {
-    let edge = edge_item(mw, walked_side(walk.on), walk.labels, ignored, t);
+    let walked = Matched {
+        words: mw,
+        on: walked_side(walk.on),
+        sigmas: walk.labels,
+        ignored,
+    };
+    let edge = edge_item(walked, t);
     let mut left = matches;
     while let (Some(found), rest) = ask(mm, left, ignored) {
         if let Some(tr) = pair_step(walk, edge, found)? {
@@ -100,9 +106,20 @@ fn match_tr(mw: &[u32], mm: &[u32], am: &[u32], ignored: &[u32], walk: Walk, t: 
     ensures place { let w = walk_means walk mw.now mm.now am.now ignored.now in
         In t (list_of mw.now (walked_state (on_of walk.on) (tuple_means walk.tuple))) → PlacedBy w result }
 {
-    let label = inner_label(mw, walked_side(walk.on), walk.labels, ignored, t);
+    let looked = Matched {
+        words: mm,
+        on: walk.on,
+        sigmas: walk.labels,
+        ignored,
+    };
+    let walked = Matched {
+        words: mw,
+        on: walked_side(walk.on),
+        ..looked
+    };
+    let label = inner_label(walked, t);
     let s = looked_state(walk.on, walk.tuple);
-    let matches = sigma_iter(mm, walk.on, walk.labels, ignored, walk.sigma, am, s, label)?;
+    let matches = sigma_iter(looked, walk.sigma, am, s, label)?;
     match_tr_selected(mw, mm, ignored, walk, t, matches)
 }
 

@@ -10,7 +10,7 @@ ghost use Rattle.counted_iter.specs.Counted.{count_of};
 ghost use Rattle.fan_out_call.specs.Meaning.{Word, Limited};
 
 use counted_iter::{CountedIter, counted_iter};
-use fst::{Label, MatchType, Refusal, Sigmas, StateId, num_states};
+use fst::{Label, Machines, Refusal, Sigmas, StateId, num_states};
 use lazy_fst::AllowedLists;
 use matchers::Sigma;
 use session_checks::{Settings, side_for};
@@ -55,9 +55,14 @@ fn look_up(
     ensures { let l = lent_with m1.now m2.now allowed1.now allowed2.now ignored.now listed in
         checked_by (λ n. n) result ≡ fan_out (operand_numbered (settings_means settings) l machine) s.0 label.0 }
 {
-    let sigmas = Sigmas {
-        first: settings.sigma1,
-        second: settings.sigma2,
+    let two = Machines {
+        m1,
+        m2,
+        sigmas: Sigmas {
+            first: settings.sigma1,
+            second: settings.sigma2,
+        },
+        ignored,
     };
     if machine == 1 {
         let sigma1 = Sigma {
@@ -66,16 +71,7 @@ fn look_up(
             listed: listed.first,
             acceptor: 0,
         };
-        return stated(counted_iter(
-            m1,
-            MatchType::MatchOutput,
-            sigmas,
-            ignored,
-            sigma1,
-            allowed1,
-            s,
-            label,
-        ));
+        return stated(counted_iter(two.first(), sigma1, allowed1, s, label));
     }
     let sigma2 = Sigma {
         label: settings.sigma2,
@@ -83,16 +79,7 @@ fn look_up(
         listed: listed.second,
         acceptor: 0,
     };
-    stated(counted_iter(
-        m2,
-        MatchType::MatchInput,
-        sigmas,
-        ignored,
-        sigma2,
-        allowed2,
-        s,
-        label,
-    ))
+    stated(counted_iter(two.second(), sigma2, allowed2, s, label))
 }
 
 // After the checks 1 to 7.

@@ -39,7 +39,7 @@ pub returns-in_err-on-clause-by_index : goal.returns-in_err-on-clause-by_index
 returns-in_err-on-clause-by_index c =
     let a = c.args in
     let o = a.options in
-    let found = rw c.sigmas_of-sigmas.ensures at c.in_err-on.ensures in
+    let found = rw c.sigmas_of.ensures at c.in_err-on.ensures in
     let e : c.from_residual.result ≡ Err c.in_err-on.field-0.0 = search rules in
     rw e (λ a1 a2. let l = lent_of o a.m1.now a.m2.now a1 a2 a.ignored.now in no_steps o l (tuple_means a.tuple) _ (read-direction o l a.tuple ∙ sym found))
 
@@ -47,7 +47,7 @@ pub returns-in_err-on-clause-place : goal.returns-in_err-on-clause-place
 returns-in_err-on-clause-place c =
     let a = c.args in
     let o = a.options in
-    let found = rw c.sigmas_of-sigmas.ensures at c.in_err-on.ensures in
+    let found = rw c.sigmas_of.ensures at c.in_err-on.ensures in
     let e : c.from_residual.result ≡ Err c.in_err-on.field-0.0 = search rules in
     rw e (λ a1 a2. read-direction o (lent_of o a.m1.now a.m2.now a1 a2 a.ignored.now) a.tuple ∙ sym found)
 
@@ -59,10 +59,10 @@ returns-clause-by_index c =
     let t = tuple_means a.tuple in
     let on = c.in_ok-on.on in
     let matches = c.rest_matches.result in
-    let found = rw c.sigmas_of-sigmas.ensures at c.in_ok-on.ensures in
-    let facts = rw c.sigmas_of-sigmas.ensures at c.facts_at.ensures in
-    let rest_items = rw c.sigmas_of-sigmas.ensures at c.rest_matches.ensures.result_value in
-    let rest_place = rw c.sigmas_of-sigmas.ensures at c.rest_matches.ensures.place in
+    let found = rw c.sigmas_of.ensures at c.in_ok-on.ensures in
+    let facts = rw c.sigmas_of.ensures at c.facts_at.ensures in
+    let rest_items = rw c.sigmas_of.ensures at c.rest_matches.ensures.result_value in
+    let rest_place = rw c.sigmas_of.ensures at c.rest_matches.ensures.place in
     let lent : (a1 a2 : List ℕ) → Lent = λ a1 a2. lent_of o a.m1.now a.m2.now a1 a2 a.ignored.now in
     let items : (a1 a2 : List ℕ) → items_left ((walk_in o (lent a1 a2) (here (C o (lent a1 a2) t) t) (on_of on)).held matches) matches ≡ sorted_items (on_of on) (looked_words (on_of on) (words1 o (lent a1 a2)) (words2 o (lent a1 a2))) (looked_state (on_of on) t) no_label = λ a1 a2.
     ap (λ (w : List ℕ). items_left w matches) (rest_held o (lent a1 a2) (here (C o (lent a1 a2) t) t) (on_of on) _ _ matches rest_place) ∙ rest_items in
@@ -74,9 +74,9 @@ returns-clause-place c =
     let a = c.args in
     let o = a.options in
     let matches = c.rest_matches.result in
-    let found = rw c.sigmas_of-sigmas.ensures at c.in_ok-on.ensures in
-    let facts = rw c.sigmas_of-sigmas.ensures at c.facts_at.ensures in
-    let rest_place = rw c.sigmas_of-sigmas.ensures at c.rest_matches.ensures.place in
+    let found = rw c.sigmas_of.ensures at c.in_ok-on.ensures in
+    let facts = rw c.sigmas_of.ensures at c.facts_at.ensures in
+    let rest_place = rw c.sigmas_of.ensures at c.rest_matches.ensures.place in
     λ a1 a2. let l = lent_of o a.m1.now a.m2.now a1 a2 a.ignored.now in record {
       state = refl;
       facts = facts;
