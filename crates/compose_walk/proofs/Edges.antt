@@ -5,9 +5,9 @@ use mathlib.Core.List.{List, [], ◌∷◌, ◌++◌, flat_map}
 use Rattle.std.specs.Prelude.{Option, None, Some}
 use Prim.Native.Nat.{ℕ, ◌≤◌}
 use native.Mathlib.Omega.{arith}
-use lib.Dec.{leb}
+use lib.Dec.{eqb, leb}
 use lib.ListN.{length}
-use borrow.Author.Tests.{eq-eqb, ne_eqb, leb-true, leb-false}
+use borrow.Author.Tests.{leb-true, leb-false}
 use Rattle.words.specs.Labels.{eps_label, Checked, good}
 use Rattle.words.specs.Weights.{Kind, kind_of}
 use Rattle.words.specs.Matches.{MatchType, inputs, outputs, Tr as Transition, tr_of}
@@ -18,9 +18,6 @@ use Rattle.calls.specs.Store.{Store}
 use Rattle.matchers.specs.Meaning.{the_loop}
 use Rattle.matchers.specs.Cursors.{with_label, head0}
 use Rattle.matchers.proofs.Seeks.{with_outside, sought_none, sought_again}
-use Rattle.compose_filters.specs.declared.Filtered.{Filtered}
-use Rattle.compose_filters.specs.declared.Filtered.TheVariants.{Kept, Dropped}
-use Rattle.compose_filters.specs.Meaning.{filtered_means}
 use Rattle.store_records.specs.Meaning.{store_in}
 use Rattle.compose_moves.specs.Moves.{as_tr}
 use Rattle.store_records.specs.declared.Used.{Used}
@@ -101,38 +98,38 @@ module _ (on : MatchType) (mm : List ℕ) (x first from : ℕ) (e : from ≡ hea
 
 -- a walked epsilon alone, and with each epsilon of the list
 abbrev pub alone_by : Plan → Transition → List (Checked Step)
-alone_by v w = joined_by (side_by v) (kind_of v.kind) w (as_tr (kind_of v.kind) v.looked.0 the_loop) (filtered_means v.lone_walked)
+alone_by v w = joined_by (side_by v) (kind_of v.kind) w (as_tr (kind_of v.kind) v.looked.0 the_loop) v.lone_walked
 
 abbrev pub both_by : Plan → List ℕ → Transition → List (Checked Step)
-both_by v mm w = with_labelled v mm w (filtered_means v.both) eps_label
+both_by v mm w = with_labelled v mm w v.both eps_label
 
 -- the first as the code has it
-pub alone_is : (v : Plan) (w u : Transition) (f : ℕ) → u ≡ as_tr (kind_of v.kind) v.looked.0 the_loop → v.lone_walked ≡ Kept f → joined_by (side_by v) (kind_of v.kind) w u (Some f) ≡ alone_by v w
-alone_is v w u f p q = ap₂ (λ (z : Transition) (o : Filtered). joined_by (side_by v) (kind_of v.kind) w z (filtered_means o)) p (sym q)
+pub alone_is : (v : Plan) (w u : Transition) (f : ℕ) → u ≡ as_tr (kind_of v.kind) v.looked.0 the_loop → v.lone_walked ≡ Some f → joined_by (side_by v) (kind_of v.kind) w u (Some f) ≡ alone_by v w
+alone_is v w u f p q = ap₂ (joined_by (side_by v) (kind_of v.kind) w) p (sym q)
 
-pub alone_none : (v : Plan) (w : Transition) → v.lone_walked ≡ Dropped → alone_by v w ≡ []
-alone_none v w q = no_pair (side_by v) (kind_of v.kind) w (as_tr (kind_of v.kind) v.looked.0 the_loop) (filtered_means v.lone_walked) (ap filtered_means q)
+pub alone_none : (v : Plan) (w : Transition) → v.lone_walked ≡ None → alone_by v w ≡ []
+alone_none v w q = no_pair (side_by v) (kind_of v.kind) w (as_tr (kind_of v.kind) v.looked.0 the_loop) v.lone_walked q
 
-pub both_is : (v : Plan) (mm : List ℕ) (w : Transition) (f : ℕ) → v.both ≡ Kept f → with_labelled v mm w (Some f) eps_label ≡ both_by v mm w
-both_is v mm w f q = ap (λ (o : Filtered). with_labelled v mm w (filtered_means o) eps_label) (sym q)
+pub both_is : (v : Plan) (mm : List ℕ) (w : Transition) (f : ℕ) → v.both ≡ Some f → with_labelled v mm w (Some f) eps_label ≡ both_by v mm w
+both_is v mm w f q = ap (λ (o : Option ℕ). with_labelled v mm w o eps_label) (sym q)
 
 module _ (v : Plan) (mm : List ℕ) (w : Transition) where
   -- a walked epsilon, and another label
-  pub edge_eps : (x : ℕ) → x ≡ eps_label → edge_by v mm w x ≡ eps_by v mm w
+  pub edge_eps : (x : ℕ) → eqb x eps_label ≡ true → edge_by v mm w x ≡ eps_by v mm w
   unfolding edge_by
-  edge_eps x e = rw (eq-eqb x eps_label e)
+  edge_eps x e = rw e
 
-  pub edge_label : (x : ℕ) → (x ≡ eps_label → ⊥) → edge_by v mm w x ≡ with_labelled v mm w (Some 0) x
+  pub edge_label : (x : ℕ) → eqb x eps_label ≡ false → edge_by v mm w x ≡ with_labelled v mm w (Some 0) x
   unfolding edge_by
-  edge_label x e = rw (ne_eqb x eps_label e)
+  edge_label x e = rw e
 
-  pub edge_from : (x from : ℕ) → (x ≡ eps_label → ⊥) → from ≡ head0 (with_label (side_by v) mm x v.list.first)
+  pub edge_from : (x from : ℕ) → eqb x eps_label ≡ false → from ≡ head0 (with_label (side_by v) mm x v.list.first)
       → edge_by v mm w x ≡ with_records (side_by v) (kind_of v.kind) mm w (Some 0) (with_label (side_by v) mm x from)
   edge_from x from n e = edge_label x n ∙ ap (with_records (side_by v) (kind_of v.kind) mm w (Some 0)) (sym (from_again (side_by v) mm x v.list.first from e))
 
 -- the rest as the code has it
-pub rest_is : (v : Plan) (mm : List ℕ) (w : Transition) (f : ℕ) → w ≡ as_tr (kind_of v.kind) v.walked.0 the_loop → v.lone_looked ≡ Kept f → with_labelled v mm w (Some f) eps_label ≡ rest_by v mm
-rest_is v mm w f p q = ap₂ (λ (z : Transition) (o : Filtered). with_labelled v mm z (filtered_means o) eps_label) p (sym q)
+pub rest_is : (v : Plan) (mm : List ℕ) (w : Transition) (f : ℕ) → w ≡ as_tr (kind_of v.kind) v.walked.0 the_loop → v.lone_looked ≡ Some f → with_labelled v mm w (Some f) eps_label ≡ rest_by v mm
+rest_is v mm w f p q = ap₂ (λ (z : Transition) (o : Option ℕ). with_labelled v mm z o eps_label) p (sym q)
 
 module _ (v : Plan) (mw mm : List ℕ) where
   -- a walked record as it is read

@@ -3,7 +3,7 @@ use mathlib.Core.Path.{◌≡◌, ap}
 use mathlib.Core.List.{List}
 use Prim.Native.Nat.{ℕ, ◌+◌, ◌-◌, ◌*◌}
 use lib.ListN.{set}
-use borrow.Author.Tests.{eq-eqb, ne_eqb}
+use borrow.Author.Tests.{ne_eqb}
 use Rattle.lists.specs.Lists.{put}
 use Rattle.words.specs.Steps.{Step}
 use Rattle.calls.specs.Store.{Store, tr_size, append}
@@ -15,10 +15,6 @@ use Rattle.stored_steps.specs.Storing.{place, store_one, end_link, end_from}
 pub one_is : (d : Store) (st : Step) (r : Reached) → r ≡ place d st.to → append r.store st r.state (d.used.trs + 2) ≡ store_one d st
 unfolding store_one
 one_is d st r e = ap (λ (q : Reached). append q.store st q.state (d.used.trs + 2)) e
-
--- no link to end
-pub end_none : (before : ℕ) (d : Store) → d.used.trs ≡ before → d ≡ end_from before d
-end_none before d e = rw (eq-eqb d.used.trs before e)
 
 -- the last link
 pub end_some : (heads states trs last : List ℕ) (before n after : ℕ) → (after ≡ before → ⊥) → last ≡ set trs (tr_size * after - 1) 0

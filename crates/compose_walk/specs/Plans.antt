@@ -10,7 +10,6 @@ use Rattle.fst.specs.Meaning.{on_of}
 use Rattle.matchers.specs.Meaning.{the_loop}
 use Rattle.matchers.specs.Cursors.{with_label}
 use Rattle.sorted_lists.specs.Known.{Known}
-use Rattle.compose_filters.specs.Meaning.{filtered_means}
 use Rattle.compose_moves.specs.Moves.{as_tr, step_if}
 use Rattle.compose_walk.specs.declared.Plan.{Plan}
 
@@ -34,8 +33,8 @@ with_labelled v mm w cell x = with_records (side_by v) (kind_of v.kind) mm w cel
 -- "for output 0, s1 alone and then a pair with each epsilon of s2"
 abbrev pub eps_by : Plan → List ℕ → Transition → List (Checked Step)
 eps_by v mm w =
-    joined_by (side_by v) (kind_of v.kind) w (as_tr (kind_of v.kind) v.looked.0 the_loop) (filtered_means v.lone_walked)
-    ++ with_labelled v mm w (filtered_means v.both) eps_label
+    joined_by (side_by v) (kind_of v.kind) w (as_tr (kind_of v.kind) v.looked.0 the_loop) v.lone_walked
+    ++ with_labelled v mm w v.both eps_label
 
 -- all that a walked transition makes; "for another label, each match", and f becomes 0
 unfoldable pub edge_by : Plan → List ℕ → Transition → ℕ → List (Checked Step)
@@ -56,7 +55,7 @@ edges_by v mw mm t = flat_map (record_by v mw mm) (list_from mw t)
 
 -- "first each epsilon-input transition of s2 alone"
 abbrev pub rest_by : Plan → List ℕ → List (Checked Step)
-rest_by v mm = with_labelled v mm (as_tr (kind_of v.kind) v.walked.0 the_loop) (filtered_means v.lone_looked) eps_label
+rest_by v mm = with_labelled v mm (as_tr (kind_of v.kind) v.walked.0 the_loop) v.lone_looked eps_label
 
 -- "then along s1's list"
 unfoldable pub plan_steps : Plan → (mw mm : List ℕ) → List (Checked Step)

@@ -18,7 +18,6 @@ ghost use Rattle.stored_steps.specs.Storing.{store_all, end_from, Fits};
 ghost use Rattle.stored_steps.specs.Chains.{Chained};
 ghost use Rattle.compose_walk.specs.Plans.{with_records, eps_by, edge_by, rest_by, walked_label, plan_steps, Planned};
 
-use compose_filters::Filtered;
 use fst::{EPS_LABEL, Label, MatchType, StateId, Tr};
 use fst_reads::{first_at, next_at, record_base, tr_at, word_at, word_on};
 use pairs::{joined, push, resting};
@@ -31,9 +30,9 @@ pub struct Plan {
     // 0: cost; 1: count.
     pub kind: u32,
     // What the filter says of a lone move of the walked machine, of a lone move of the other, and of a pair of epsilons.
-    pub lone_walked: Filtered,
-    pub lone_looked: Filtered,
-    pub both: Filtered,
+    pub lone_walked: Option<u32>,
+    pub lone_looked: Option<u32>,
+    pub both: Option<u32>,
     // The states of the two machines.
     pub walked: StateId,
     pub looked: StateId,
@@ -65,10 +64,7 @@ fn with_label(
     let k = word_on(on);
     let mut grown = used;
     let mut u = from;
-    while u != 0 {
-        if word_at(mm, base, u, k) != x.0 {
-            return grown;
-        }
+    while u != 0 && word_at(mm, base, u, k) == x.0 {
         let found = tr_at(mm, base, u);
         grown = push(heads, states, trs, grown, joined(kind, on, edge, found, 0));
         u = next_at(mm, base, u);
@@ -101,12 +97,10 @@ fn with_eps(
 {
     let mut grown = used;
     let mut u = first;
-    let mut left = count;
-    while left > 0 {
+    for _ in 0..count {
         let found = tr_at(mm, base, u);
         grown = push(heads, states, trs, grown, joined(kind, on, edge, found, fs));
         u = next_at(mm, base, u);
-        left -= 1;
     }
     grown
 }
@@ -127,29 +121,18 @@ fn eps_moves(
         store_in heads.new states.new trs.new result ≡ store_all d (eps_by plan mm.now (tr_means edge)) }
 {
     let list = plan.list;
-    let on = list.on;
-    let looked = plan.looked;
-    let lone = plan.lone_walked;
-    let both = plan.both;
     let mut grown = used;
-    match lone {
-        Filtered::Kept(fs) => {
-            let rest = resting(plan.kind, looked);
-            grown = push(
-                heads,
-                states,
-                trs,
-                grown,
-                joined(plan.kind, on, edge, rest, fs),
-            );
-        }
-        Filtered::Dropped => {}
+    if let Some(fs) = plan.lone_walked {
+        let rest = resting(plan.kind, plan.looked);
+        let tr = joined(plan.kind, list.on, edge, rest, fs);
+        grown = push(heads, states, trs, grown, tr);
     }
-    match both {
-        Filtered::Kept(fs) => with_eps(
-            mm, heads, states, trs, plan.kind, on, list.base, grown, edge, fs, list.first, list.eps,
+    match plan.both {
+        Some(fs) => with_eps(
+            mm, heads, states, trs, plan.kind, list.on, list.base, grown, edge, fs, list.first,
+            list.eps,
         ),
-        Filtered::Dropped => grown,
+        None => grown,
     }
 }
 
@@ -169,17 +152,16 @@ fn edge_moves(
     ensures { let d = store_in heads.old states.old trs.old used in
         store_in heads.new states.new trs.new result ≡ store_all d (edge_by plan mm.now (tr_means edge) x.0) }
 {
-    if x.0 == EPS_LABEL.0 {
+    if x == EPS_LABEL {
         return eps_moves(mm, heads, states, trs, plan, used, edge);
     }
     let list = plan.list;
-    let on = list.on;
     let from = find(mm, list, x);
     if from == 0 {
         return used;
     }
     with_label(
-        mm, heads, states, trs, plan.kind, on, list.base, used, edge, x, from,
+        mm, heads, states, trs, plan.kind, list.on, list.base, used, edge, x, from,
     )
 }
 
@@ -198,28 +180,18 @@ fn rest_moves(
         store_in heads.new states.new trs.new result ≡ store_all d (rest_by plan mm.now) }
 {
     let list = plan.list;
-    let on = list.on;
-    let walked = plan.walked;
-    let lone = plan.lone_looked;
     if list.eps == 0 {
         return used;
     }
-    match lone {
-        Filtered::Kept(fs) => with_eps(
-            mm,
-            heads,
-            states,
-            trs,
-            plan.kind,
-            on,
-            list.base,
-            used,
-            resting(plan.kind, walked),
-            fs,
-            list.first,
-            list.eps,
-        ),
-        Filtered::Dropped => used,
+    match plan.lone_looked {
+        Some(fs) => {
+            let rest = resting(plan.kind, plan.walked);
+            with_eps(
+                mm, heads, states, trs, plan.kind, list.on, list.base, used, rest, fs, list.first,
+                list.eps,
+            )
+        }
+        None => used,
     }
 }
 
@@ -227,11 +199,9 @@ fn rest_moves(
 pub fn walked_label(on: MatchType, edge: Tr) -> Label
     ensures { result.0 ≡ walked_label (on_of on) (tr_means edge) }
 {
-    let ilabel = edge.ilabel;
-    let olabel = edge.olabel;
     match on {
-        MatchType::MatchInput => olabel,
-        MatchType::MatchOutput => ilabel,
+        MatchType::MatchInput => edge.olabel,
+        MatchType::MatchOutput => edge.ilabel,
     }
 }
 
@@ -250,15 +220,12 @@ pub fn walk_list(
     ensures { let d = store_in heads.old states.old trs.old used in
         store_in heads.new states.new trs.new result ≡ store_all d (plan_steps plan mw.now mm.now) }
 {
-    let list = plan.list;
-    let on = list.on;
-    let walked = plan.walked;
     let base = record_base(mw);
     let mut grown = rest_moves(mm, heads, states, trs, plan, used);
-    let mut t = first_at(mw, walked);
+    let mut t = first_at(mw, plan.walked);
     while t != 0 {
         let edge = tr_at(mw, base, t);
-        let x = walked_label(on, edge);
+        let x = walked_label(plan.list.on, edge);
         grown = edge_moves(mm, heads, states, trs, plan, grown, edge, x);
         t = next_at(mw, base, t);
     }

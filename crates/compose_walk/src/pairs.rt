@@ -16,7 +16,7 @@ ghost use Rattle.compose_walk.specs.Plans.{joined_by};
 use compose_moves::ComposeTr;
 use compose_state_tuple::ComposeStateTuple;
 use fst::{EPS_LABEL, MatchType, StateId, Tr};
-use semirings::{Product, one, times};
+use semirings::{one, times};
 use state_table::{Reached, find_or_add};
 use store_records::{Used, push_tr};
 
@@ -54,37 +54,21 @@ pub fn push(
     ensures { let d = store_in heads.old states.old trs.old used in
         store_in heads.new states.new trs.new result ≡ store_one d (compose_tr_means tr) }
 {
-    let ilabel = tr.ilabel;
-    let olabel = tr.olabel;
-    let tuple = tr.tuple;
-    let reached = place(heads, states, used.states, tuple);
-    let nextstate = reached.state;
+    let reached = place(heads, states, used.states, tr.tuple);
     push_tr(
         trs,
         used.trs,
         Tr {
-            ilabel,
-            olabel,
+            ilabel: tr.ilabel,
+            olabel: tr.olabel,
             weight: tr.weight,
-            nextstate,
+            nextstate: reached.state,
         },
         used.trs + 2,
     );
     Used {
         states: reached.used,
         trs: used.trs + 1,
-    }
-}
-
-// A product that is not too large.
-fn product(kind: u32, a: u32, b: u32) -> u32
-    requires { (w : ℕ) × (timesOf (kind_of kind) a b ≡ Some w) }
-    ensures { timesOf (kind_of kind) a b ≡ Some result }
-{
-    let found = times(kind, a, b);
-    match found {
-        Product::Weight(w) => w,
-        Product::TooLarge => 0,
     }
 }
 
@@ -105,29 +89,27 @@ pub fn joined(kind: u32, on: MatchType, walked: Tr, looked: Tr, fs: u32) -> Comp
     requires { (w : ℕ) × (timesOf (kind_of kind) walked.weight looked.weight ≡ Some w) }
     ensures { joined_by (on_of on) (kind_of kind) (tr_means walked) (tr_means looked) (Some fs) ≡ good (compose_tr_means result) ∷ [] }
 {
-    let weight = product(kind, walked.weight, looked.weight);
-    let s = walked.nextstate;
-    let t = looked.nextstate;
+    let weight = times(kind, walked.weight, looked.weight).unwrap();
     match on {
-        MatchType::MatchInput => {
-            let ilabel = walked.ilabel;
-            let olabel = looked.olabel;
-            ComposeTr {
-                ilabel,
-                olabel,
-                weight,
-                tuple: ComposeStateTuple { fs, s1: s, s2: t },
-            }
-        }
-        MatchType::MatchOutput => {
-            let ilabel = looked.ilabel;
-            let olabel = walked.olabel;
-            ComposeTr {
-                ilabel,
-                olabel,
-                weight,
-                tuple: ComposeStateTuple { fs, s1: t, s2: s },
-            }
-        }
+        MatchType::MatchInput => ComposeTr {
+            ilabel: walked.ilabel,
+            olabel: looked.olabel,
+            weight,
+            tuple: ComposeStateTuple {
+                fs,
+                s1: walked.nextstate,
+                s2: looked.nextstate,
+            },
+        },
+        MatchType::MatchOutput => ComposeTr {
+            ilabel: looked.ilabel,
+            olabel: walked.olabel,
+            weight,
+            tuple: ComposeStateTuple {
+                fs,
+                s1: looked.nextstate,
+                s2: walked.nextstate,
+            },
+        },
     }
 }

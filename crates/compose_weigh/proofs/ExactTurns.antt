@@ -1,16 +1,17 @@
 -- The weighing window by window: the weighing from here on, with some used states that leave `left` records, answers what all of it does.
 use mathlib.Core.Path.{◌≡◌, refl, sym, ◌∙◌, subst}
 use mathlib.Core.List.{List}
+use Rattle.std.specs.Prelude.{Option, Result}
 use Prim.Native.Nat.{ℕ, ◌+◌, ◌-◌, ◌≤◌, ◌<◌}
 use native.Mathlib.Omega.{arith}
 use borrow.Author.Tests.{lt-ltb, le-ltb}
 use Rattle.words.specs.Labels.{Checked, refused}
 use Rattle.words.specs.Steps.{Step}
+use Rattle.fst.specs.declared.refusals.Refusal.{Refusal}
 use Rattle.calls.specs.Store.{Store, state_room}
 use Rattle.compose_weigh.specs.Weigh.{is_new, weigh_from, weigh_of}
 use Rattle.compose_weigh.specs.Windows.{new_within, Ahead}
 use Rattle.compose_weigh.specs.Meaning.{Tells, Spans}
-use Rattle.compose_weigh.specs.declared.Ending.{Ending}
 use Rattle.compose_weigh.proofs.WindowLaws.{after_new, ahead_more, weigh_window}
 
 pub record Weighs (d : Store) (all : List (Checked Step)) (i left : ℕ) (rest : List (Checked Step)) : Type 0 where
@@ -24,7 +25,7 @@ unfolding weigh_of
 weighs_start d all left e = record { u = d.used.states; spare = e; ahead = refl; same = refl }
 
 module _ (d : Store) (all : List (Checked Step)) (i left : ℕ) (steps : List (Checked Step)) (w : Weighs d all i left steps)
-    (k j : ℕ) (rest : List (Checked Step)) (e : Ending) (s : Spans d i k steps rest j e) (n : ℕ) (counted : n ≡ new_within (is_new d all i) k steps) where
+    (k j : ℕ) (rest : List (Checked Step)) (e : Option (Result (Unit {0}) Refusal)) (s : Spans d i k steps rest j e) (n : ℕ) (counted : n ≡ new_within (is_new d all i) k steps) where
   abbrev R : ℕ
   R = state_room d.memory
 

@@ -1,6 +1,6 @@
 -- A set while it is filled, and the marks of its triples while the earlier steps are walked.
 use mathlib.Core.Path.{◌≡◌, refl, sym, ◌∙◌, ap, subst}
-use mathlib.Core.Bool.{Bool, true, false, not, ◌&&◌, ◌||◌, and-true, and-false, or-false, or_assoc, true≢false, false≢true}
+use mathlib.Core.Bool.{Bool, true, false, not, ◌&&◌, ◌||◌, and-true, and-false, or-false, or-true, or_assoc, true≢false, false≢true}
 use mathlib.Core.List.{List, ◌∷◌}
 use Rattle.std.specs.Prelude.{Option, None, Some}
 use Rattle.std.proofs.lemmas.Option.{none-some, same_Some}
@@ -26,10 +26,6 @@ use Rattle.compose_weigh.specs.Windows.{set_room, new_within, Ahead, Filled}
 use Rattle.compose_weigh.proofs.WeighLaws.{ahead_next, within_next, less}
 use Rattle.compose_weigh.proofs.AskedLaws.{within_step}
 use Rattle.compose_weigh.proofs.CountLaws.{one, but, and_swap, new_same, new_most, new_step, new_but}
-
-or_true : (b : Bool) → b || true ≡ true
-or_true true = refl
-or_true false = refl
 
 once : (p r : Bool) → p && not (p && r) ≡ p && not r
 once true r = refl
@@ -61,7 +57,7 @@ module _ (P : Triple → Bool) (k : ℕ) (steps : List (Checked Step)) (room : �
     within_other u p = within_next u k steps s others ahead ∙ (ap (λ b. reached_within u k steps || b) p ∙ or-false (reached_within u k steps))
 
     within_this : reached_within s.to (suc k) steps ≡ true
-    within_this = within_next s.to k steps s others ahead ∙ (ap (λ b. earlier || b) (same_self s.to) ∙ or_true earlier)
+    within_this = within_next s.to k steps s others ahead ∙ (ap (λ b. earlier || b) (same_self s.to) ∙ or-true earlier)
 
     -- its target lacks P or was held before
     skipped : (P s.to && not earlier) ≡ false → Filled P (suc k) steps room d
@@ -91,7 +87,7 @@ module _ (P : Triple → Bool) (k : ℕ) (steps : List (Checked Step)) (room : �
         by_same : (u : Triple) (b : Bool) → same_triple s.to u ≡ b → (holds d u || same_triple s.to u) ≡ (P u && reached_within u (suc k) steps)
         by_same u false p = ap (λ b. holds d u || b) p ∙ (or-false (holds d u) ∙ (fill.holding u ∙ ap (λ x. P u && x) (sym (within_other u p))))
         by_same u true p = subst (λ x. (holds d x || same_triple s.to x) ≡ (P x && reached_within x (suc k) steps)) (same_triple_lem s.to u p)
-            (ap (λ b. holds d s.to || b) (same_self s.to) ∙ (or_true (holds d s.to) ∙ and_first (P s.to) (not earlier) e ∙ sym (ap (λ x. P s.to && x) within_this ∙ and-true (P s.to))))
+            (ap (λ b. holds d s.to || b) (same_self s.to) ∙ (or-true (holds d s.to) ∙ and_first (P s.to) (not earlier) e ∙ sym (ap (λ x. P s.to && x) within_this ∙ and-true (P s.to))))
 
     abbrev Turn : Bool × Store → Type 0
     Turn x = (x.0 ≡ true → (x.1 ≡ d) × (room ≤ d.used.states)) × (x.0 ≡ false → Filled P (suc k) steps room x.1)
@@ -166,13 +162,13 @@ module _ (d : Store) (marks : List ℕ) (Q : Triple → Bool) (a : Triple) (mark
             let z : m ≡ n = same_Some m n (sym (this marked q) ∙ f) in
             let l = (set_sound d chained a n f).0 in
             let g : get_or (set marks n 1) n 0 ≡ 1 = get_or-set_same marks n 1 0 (omega (arith, l, long)) in
-            rw (z, g, q, or_true (Q t)) refl
+            rw (z, g, q, or-true (Q t)) refl
         by_mark n f true p false q =
             let apart : m ≡ n → ⊥ = λ z. true≢false (sym (ap (λ u. same_triple u t) (sym (set_sound d chained a n f).1 ∙ (ap (triple_at d.memory.states) (sym z) ∙ (set_sound d chained t m e).1)) ∙ same_self t) ∙ q) in
             ap (λ x. eqb x 0) (get_or-set_other marks n m 1 0 apart) ∙ (marked t m e ∙ other_mark t q)
         by_mark n f false p true q =
             let z : n ≡ m = same_Some n m (sym f ∙ this marked q) in
-            rw (← z, p, q, or_true (Q t)) refl
+            rw (← z, p, q, or-true (Q t)) refl
         by_mark n f false p false q = marked t m e ∙ other_mark t q
 
         by_found : (o : Option ℕ) → find d a ≡ o → (c : Bool) → same_triple a t ≡ c → eqb (get_or (mark_at o marks).1 m 0) 0 ≡ not (or_this Q a t)

@@ -6,36 +6,32 @@ ghost use Rattle.words.specs.Labels.{Checked};
 ghost use Rattle.words.specs.Steps.{Triple, Step};
 ghost use Rattle.calls.specs.Store.{room_of, state_size, find};
 ghost use Rattle.compose_state_tuple.specs.Meaning.{tuple_means};
+ghost use Rattle.fst.specs.Refusals.{checked_by};
 ghost use Rattle.store_records.specs.Meaning.{store_in};
 ghost use Rattle.triple_set.specs.Sets.{set_of, Headed};
 ghost use Rattle.compose_weigh.specs.Weigh.{reached_within, missing, is_new, count_state, weigh_of};
 ghost use Rattle.compose_weigh.specs.Windows.{set_room, new_within, Filled};
-ghost use Rattle.compose_weigh.specs.Meaning.{steps_from, counted_means, weighed_means, Tells, KeptAt, Spans};
+ghost use Rattle.compose_weigh.specs.Meaning.{steps_from, counted_means, Tells, KeptAt, Spans};
 
 use compose_fst_op::ComposeFstOpOptions;
-use compose_moves::{MoveCursor, NextStep, next_step};
+use compose_moves::{MoveCursor, next_step};
 use compose_state_tuple::ComposeStateTuple;
-use fst::REFUSED_NO_ROOM;
-use state_table::{FoundState, find_id};
+use fst::Refusal;
+use state_table::find_id;
 use store_records::{Used, state_room, tr_room};
 use triple_set::{SET_HEADS, SET_WORDS, mark, take};
 
 // The triples that the set of a window holds at most.
 const SET_ROOM: usize = 2048;
 
-// No refusal stands, or the number of the first.
-#[derive(Clone, Copy)]
-pub enum Weighed {
-    Clear,
-    Refused(u32),
-}
+// No refusal stands, or the first.
+pub type Weighed = Result<(), Refusal>;
 
-// The used states after a step, or no record for a new one.
-#[derive(Clone, Copy)]
-enum Counted {
-    States(u32),
-    Lacking,
-}
+// A step that has a transition record: its target, and the cursor after it. Else what the weighing ends with there.
+type Kept = Result<(ComposeStateTuple, MoveCursor), Weighed>;
+
+// What a walk over the steps met; None: it was left before their end.
+type Ending = Option<Weighed>;
 
 // What stays the same through a weighing: the steps are those from the cursor `start` on.
 #[derive(Clone, Copy)]
@@ -43,20 +39,6 @@ struct Weighing {
     options: ComposeFstOpOptions,
     used: Used,
     start: MoveCursor,
-}
-
-// A step that has a transition record: its target, and the cursor after it. Else the weighing ends there.
-#[derive(Clone, Copy)]
-enum Kept {
-    To(ComposeStateTuple, MoveCursor),
-    Ends(Weighed),
-}
-
-// What a walk over the steps met, or that it was left before their end.
-#[derive(Clone, Copy)]
-enum Ending {
-    Ends(Weighed),
-    Open,
 }
 
 // A number of states for some steps, the number of steps up to the cursor after them, and why they end there.
@@ -84,18 +66,14 @@ fn kept_step(
     ensures { (heads states : List ℕ) →
         KeptAt w.options m1.now m2.now a1.now a2.now ignored.now (store_in heads states trs.now w.used) count cursor result }
 {
-    let used = w.used;
-    let options = w.options;
-    let next = next_step(m1, m2, a1, a2, ignored, options, cursor);
-    match next {
-        NextStep::Done => Kept::Ends(Weighed::Clear),
-        NextStep::Refused(n) => Kept::Ends(Weighed::Refused(n)),
-        NextStep::Step(tr, after) => {
-            if tr_room(trs) <= used.trs + count {
-                return Kept::Ends(Weighed::Refused(REFUSED_NO_ROOM));
+    match next_step(m1, m2, a1, a2, ignored, w.options, cursor) {
+        Err(refusal) => Err(Err(refusal)),
+        Ok(None) => Err(Ok(())),
+        Ok(Some((tr, after))) => {
+            if tr_room(trs) <= w.used.trs + count {
+                return Err(Err(Refusal::NoRoom));
             }
-            let to = tr.tuple;
-            Kept::To(to, after)
+            Ok((tr.tuple, after))
         }
     }
 }
@@ -104,24 +82,21 @@ fn kept_step(
 pub fn lacks(heads: &[u32], states: &[u32], used: Used, tuple: ComposeStateTuple) -> bool
     ensures { (trs : List ℕ) → result ≡ missing (find (store_in heads.now states.now trs used) (tuple_means tuple)) }
 {
-    let found = find_id(heads, states, used.states, tuple);
-    match found {
-        FoundState::At(_) => false,
-        FoundState::Missing => true,
-    }
+    find_id(heads, states, used.states, tuple).is_none()
 }
 
-// The used states with a new one, where there is room for it.
-fn count_state(new: bool, room: u32, states: u32) -> Counted
+// The used states with a new one; None: there is no record for it.
+#[tactic(auto, unfolding(crate::specs::Weigh::count_state))]
+fn count_state(new: bool, room: u32, states: u32) -> Option<u32>
     ensures { counted_means result ≡ count_state new room states }
 {
     if !new {
-        return Counted::States(states);
+        return Some(states);
     }
     if room <= states {
-        return Counted::Lacking;
+        return None;
     }
-    Counted::States(states + 1)
+    Some(states + 1)
 }
 
 // What the steps meet where every target that the table lacks is counted as a new state; open where a state's record is lacking then.
@@ -140,21 +115,15 @@ fn weigh_quickly(
         let steps = steps_from w.options m1.now m2.now a1.now a2.now ignored.now w.start in
         Tells (weigh_of d steps) result }
 {
-    let used = w.used;
     let mut cursor = w.start;
     let mut count: u32 = 0;
-    let mut grown = used.states;
+    let mut grown = w.used.states;
     loop {
-        let kept = kept_step(m1, m2, a1, a2, ignored, trs, w, cursor, count);
-        match kept {
-            Kept::Ends(x) => return Ending::Ends(x),
-            Kept::To(to, after) => {
-                let new = lacks(heads, states, used, to);
-                let counted = count_state(new, state_room(states), grown);
-                let Counted::States(n) = counted else {
-                    return Ending::Open;
-                };
-                grown = n;
+        match kept_step(m1, m2, a1, a2, ignored, trs, w, cursor, count) {
+            Err(weighed) => return Some(weighed),
+            Ok((to, after)) => {
+                let new = lacks(heads, states, w.used, to);
+                grown = count_state(new, state_room(states), grown)?;
                 count += 1;
                 cursor = after;
             }
@@ -187,29 +156,28 @@ fn fill(
         (k : ℕ) × Spans d before k steps rest result.count result.ending
         × Filled (λ t. missing (find d t)) k steps (room_of state_size records.old) (set_of chains.new records.new result.states) }
 {
-    let used = w.used;
     let mut cursor = from;
     let mut count = before;
     let mut held: u32 = 0;
     loop {
-        let kept = kept_step(m1, m2, a1, a2, ignored, trs, w, cursor, count);
-        match kept {
-            Kept::Ends(x) => {
+        match kept_step(m1, m2, a1, a2, ignored, trs, w, cursor, count) {
+            Err(weighed) => {
                 return Passed {
                     states: held,
                     count,
                     cursor,
-                    ending: Ending::Ends(x),
+                    ending: Some(weighed),
                 };
             }
-            Kept::To(to, after) => {
-                let taken = take(chains, records, held, lacks(heads, states, used, to), to);
+            Ok((to, after)) => {
+                let new = lacks(heads, states, w.used, to);
+                let taken = take(chains, records, held, new, to);
                 if taken.full {
                     return Passed {
                         states: taken.held,
                         count,
                         cursor,
-                        ending: Ending::Open,
+                        ending: None,
                     };
                 }
                 held = taken.held;
@@ -241,20 +209,16 @@ fn count_earlier(
 {
     let mut marks = [0u32; SET_ROOM];
     let mut cursor = start;
-    let mut left = count;
     let mut old: u32 = 0;
-    while left > 0 {
-        let next = next_step(m1, m2, a1, a2, ignored, options, cursor);
-        match next {
-            NextStep::Done => return old,
-            NextStep::Refused(_) => return old,
-            NextStep::Step(tr, after) => {
-                let to = tr.tuple;
-                old += mark(chains, records, held, &mut marks, to);
+    for _ in 0..count {
+        match next_step(m1, m2, a1, a2, ignored, options, cursor) {
+            Ok(Some((tr, after))) => {
+                old += mark(chains, records, held, &mut marks, tr.tuple);
                 cursor = after;
             }
+            Ok(None) => return old,
+            Err(_) => return old,
         }
-        left -= 1;
     }
     old
 }
@@ -282,7 +246,7 @@ fn weigh_window(
 {
     let mut chains = [0u32; SET_HEADS];
     let mut records = [0u32; SET_WORDS];
-    let mut window = fill(
+    let window = fill(
         m1,
         m2,
         a1,
@@ -297,24 +261,30 @@ fn weigh_window(
         from,
         before,
     );
-    let held = window.states;
-    let options = w.options;
-    let start = w.start;
     let old = count_earlier(
-        m1, m2, a1, a2, ignored, options, start, before, &chains, &records, held,
+        m1,
+        m2,
+        a1,
+        a2,
+        ignored,
+        w.options,
+        w.start,
+        before,
+        &chains,
+        &records,
+        window.states,
     );
-    window.states = held - old;
-    window
+    Passed {
+        states: window.states - old,
+        ..window
+    }
 }
 
 // The records that are not used.
 pub fn spare(room: u32, used: u32) -> u32
     ensures { result ≡ room - used }
 {
-    if room <= used {
-        return 0;
-    }
-    room - used
+    room.saturating_sub(used)
 }
 
 // The first refusal that storing the steps meets, the new states counted window by window.
@@ -331,29 +301,24 @@ fn weigh_exactly(
 ) -> Weighed
     ensures { let d = store_in heads.now states.now trs.now w.used in
         let steps = steps_from w.options m1.now m2.now a1.now a2.now ignored.now w.start in
-        weighed_means result ≡ weigh_of d steps }
+        checked_by (λ w. w) result ≡ weigh_of d steps }
 {
-    let used = w.used;
     let mut cursor = w.start;
     let mut before: u32 = 0;
-    let mut left = spare(state_room(states), used.states);
+    let mut left = spare(state_room(states), w.used.states);
     loop {
         let passed = weigh_window(
             m1, m2, a1, a2, ignored, heads, states, trs, w, cursor, before,
         );
         if left < passed.states {
-            return Weighed::Refused(REFUSED_NO_ROOM);
+            return Err(Refusal::NoRoom);
         }
         left -= passed.states;
-        let ending = passed.ending;
-        match ending {
-            Ending::Ends(x) => return x,
-            Ending::Open => {
-                let after = passed.cursor;
-                before = passed.count;
-                cursor = after;
-            }
+        if let Some(weighed) = passed.ending {
+            return weighed;
         }
+        before = passed.count;
+        cursor = passed.cursor;
     }
 }
 
@@ -373,16 +338,15 @@ pub fn weigh(
 ) -> Weighed
     ensures { let d = store_in heads.now states.now trs.now used in
         let steps = steps_from options m1.now m2.now a1.now a2.now ignored.now start in
-        weighed_means result ≡ weigh_of d steps }
+        checked_by (λ w. w) result ≡ weigh_of d steps }
 {
     let w = Weighing {
         options,
         used,
         start,
     };
-    let quick = weigh_quickly(m1, m2, a1, a2, ignored, heads, states, trs, w);
-    match quick {
-        Ending::Ends(x) => x,
-        Ending::Open => weigh_exactly(m1, m2, a1, a2, ignored, heads, states, trs, w),
+    match weigh_quickly(m1, m2, a1, a2, ignored, heads, states, trs, w) {
+        Some(weighed) => weighed,
+        None => weigh_exactly(m1, m2, a1, a2, ignored, heads, states, trs, w),
     }
 }

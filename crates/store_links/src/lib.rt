@@ -13,10 +13,11 @@ use store_records::{TR_SIZE, TR_TARGET, first_of, tr_next};
 pub fn below(x: u32) -> u32
     ensures { result ≡ x - 1 }
 {
-    if x == 0 { 0 } else { x - 1 }
+    x.saturating_sub(1)
 }
 
 // The first record of state n's list; 0: none.
+#[tactic(auto, unfolding(searches::specs::StoreLinks::first_in))]
 pub fn first_record(states: &[u32], used: u32, n: u32) -> u32
     ensures { (heads trs : List ℕ) (u : ℕ) → result ≡ first_in (stored heads states.now trs u used) n }
 {
@@ -25,19 +26,18 @@ pub fn first_record(states: &[u32], used: u32, n: u32) -> u32
 }
 
 // The record after record r in its list; 0: none.
+#[tactic(auto, unfolding(searches::specs::StoreLinks::next_in))]
 pub fn next_record(trs: &[u32], used: u32, r: u32) -> u32
     ensures { (heads states : List ℕ) (u : ℕ) → result ≡ next_in (stored heads states trs.now u used) r }
 {
-    if r >= used {
-        return 0;
-    }
-    if tr_next(trs, below(r)) == 0 {
+    if r >= used || tr_next(trs, below(r)) == 0 {
         return 0;
     }
     r + 1
 }
 
 // The state that record r leads to.
+#[tactic(auto, unfolding(calls::specs::Store::target_at, calls::specs::Store::field_of))]
 pub fn target_record(trs: &[u32], r: u32) -> u32
     ensures { result ≡ target_at trs.now (r - 1) }
 {

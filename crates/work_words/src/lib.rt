@@ -26,18 +26,21 @@ pub fn store64(s: &mut [u64], i: usize, v: u64)
     }
 }
 
+#[tactic(auto, unfolding(searches::specs::WorkWords::low))]
 pub fn low_of(work: &[u64], i: usize) -> u32
     ensures { result ≡ low (get_or work.now i 0) }
 {
     (word64(work, i) % FIELD) as u32
 }
 
+#[tactic(auto, unfolding(searches::specs::WorkWords::middle))]
 pub fn middle_of(work: &[u64], i: usize) -> u32
     ensures { result ≡ middle (get_or work.now i 0) }
 {
     (word64(work, i) / FIELD % FIELD) as u32
 }
 
+#[tactic(auto, unfolding(searches::specs::WorkWords::high))]
 pub fn high_of(work: &[u64], i: usize) -> u32
     ensures { (result ≡ high (get_or work.now i 0)) × (result < 65536) }
 {
@@ -45,6 +48,7 @@ pub fn high_of(work: &[u64], i: usize) -> u32
 }
 
 // A field written, its value cut to the field; the other two stay.
+#[tactic(auto, using(crate::proofs::FieldLaws::low_changed), unfolding(searches::specs::WorkWords::with_low))]
 pub fn set_low(work: &mut [u64], i: usize, v: u32)
     ensures { work.new ≡ with_low work.old i v }
 {
@@ -53,6 +57,7 @@ pub fn set_low(work: &mut [u64], i: usize, v: u32)
     store64(work, i, cut + FIELD * (w / FIELD));
 }
 
+#[tactic(auto, using(crate::proofs::FieldLaws::middle_changed), unfolding(searches::specs::WorkWords::with_middle))]
 pub fn set_middle(work: &mut [u64], i: usize, v: u32)
     ensures { work.new ≡ with_middle work.old i v }
 {
@@ -65,6 +70,7 @@ pub fn set_middle(work: &mut [u64], i: usize, v: u32)
     );
 }
 
+#[tactic(auto, using(crate::proofs::FieldLaws::high_changed), unfolding(searches::specs::WorkWords::with_high))]
 pub fn set_high(work: &mut [u64], i: usize, v: u32)
     requires { v < 65536 }
     ensures { work.new ≡ with_high work.old i v }
@@ -75,6 +81,7 @@ pub fn set_high(work: &mut [u64], i: usize, v: u32)
 }
 
 // A counter that stops at the field's width.
+#[tactic(auto, using(crate::proofs::FieldLaws::up_below, crate::proofs::FieldLaws::up_not))]
 pub fn up_of(x: u32) -> u32
     ensures { result ≡ up x }
 {
@@ -85,11 +92,6 @@ pub fn up_of(x: u32) -> u32
 pub fn clear(work: &mut [u64], count: usize)
     ensures { work.new ≡ put work.old 0 (replicate count 0) }
 {
-    let len = work.len();
-    let end = if count < len { count } else { len };
-    let mut i: usize = 0;
-    while i < end {
-        work[i] = 0;
-        i += 1;
-    }
+    let end = count.min(work.len());
+    work[..end].fill(0);
 }

@@ -1,12 +1,8 @@
--- The last word of the last record; or none was stored.
-use Rattle.store_records.specs.Meaning.{stored}
-use Rattle.compose_walk.proofs.Stores.{end_none, end_some}
+-- The last word of the last record.
+use Rattle.compose_walk.proofs.Stores.{end_some}
 use Rattle.compose_walk.proofs.end_list.Goals as goal
 
 pub returns-then-after-before : goal.returns-then-after-before
 returns-then-after-before c =
     let a = c.args in
     λ heads states n. end_some heads states a.trs.now c.store.new.s a.before n a.after c.if-after-before.true c.store.ensures
-
-pub returns-else-after-before : goal.returns-else-after-before
-returns-else-after-before c = let a = c.args in λ heads states n. end_none a.before (stored heads states a.trs.now n a.after) c.if-after-before.false

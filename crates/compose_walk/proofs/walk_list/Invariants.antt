@@ -10,12 +10,12 @@ use Rattle.compose_walk.specs.Plans.{edges_by}
 use Rattle.compose_walk.proofs.walk_list.Given as goal
 
 abbrev pub invariant-loop-t : goal.invariant-loop-t
-invariant-loop-t l =
-    (length l.heads ≡ length l.initial.heads) × (length l.states ≡ length l.initial.states) × (length l.trs ≡ length l.initial.trs)
-    × (l.t ≤ tr_count l.mw)
-    × Fits (store_in l.heads l.states l.trs l.grown) (edges_by l.plan l.mw l.mm l.t)
-    × (store_all (store_in l.heads l.states l.trs l.grown) (edges_by l.plan l.mw l.mm l.t) ≡ store_all (store_in l.initial.heads l.initial.states l.initial.trs l.initial.grown) (edges_by l.plan l.mw l.mm l.initial.t))
-    × Chained (store_in l.heads l.states l.trs l.grown)
+invariant-loop-t l = record {
+  inside : l.t ≤ tr_count l.mw;
+  fits : Fits (store_in l.heads l.states l.trs l.grown) (edges_by l.plan l.mw l.mm l.t);
+  same : store_all (store_in l.heads l.states l.trs l.grown) (edges_by l.plan l.mw l.mm l.t) ≡ store_all (store_in l.initial.heads l.initial.states l.initial.trs l.initial.grown) (edges_by l.plan l.mw l.mm l.initial.t);
+  chained : Chained (store_in l.heads l.states l.trs l.grown);
+}
 
 abbrev pub decreases-loop-t : goal.decreases-loop-t
 decreases-loop-t l = length (list_from l.mw l.t)

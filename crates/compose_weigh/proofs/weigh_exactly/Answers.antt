@@ -1,5 +1,4 @@
 use mathlib.Core.Path.{sym}
-use native.Mathlib.Omega.{arith}
 use Rattle.calls.specs.Store.{state_room_with}
 use Rattle.store_records.specs.Meaning.{stored}
 use Rattle.compose_fst_op.specs.Composing.{lent_of}
@@ -15,7 +14,7 @@ loop-left-init c =
     let S = a.w.options in
     let L = lent_of a.w.options a.m1.now a.m2.now a.a1.now a.a2.now a.ignored.now in
     let d = stored a.heads.now a.states.now a.trs.now a.w.used.states a.w.used.trs in
-    (search rules, omega (arith, c.well_formed.1.1.1.1.1.1.1.1.0), weighs_start d (steps_left S L a.w.start) _ (rw c.state_room.ensures at c.spare-left.ensures))
+    (search rules, search rules, weighs_start d (steps_left S L a.w.start) _ (rw c.state_room.ensures at c.spare-left.ensures))
 
 pub returns-then-left-passed : goal.returns-then-left-passed
 returns-then-left-passed c =
@@ -27,23 +26,15 @@ returns-then-left-passed c =
     let v = c.weigh_window-passed.ensures in
     sym (weighs_lacks d (steps_left S L a.w.start) l.before l.left (steps_left S L l.cursor) l.invariant.2 v.0 _ _ _ v.1 _ v.2 c.if-left-passed.true)
 
-pub returns-in-Ends : goal.returns-in-Ends
-returns-in-Ends c =
+pub returns-in-Some : goal.returns-in-Some
+returns-in-Some c =
     let a = c.args in
     let l = c.loop-left in
     let S = a.w.options in
     let L = lent_of a.w.options a.m1.now a.m2.now a.a1.now a.a2.now a.ignored.now in
     let d = stored a.heads.now a.states.now a.trs.now a.w.used.states a.w.used.trs in
     let v = c.weigh_window-passed.ensures in
-    sym (rw c.in-Ends.is at (weighs_told d (steps_left S L a.w.start) l.before l.left (steps_left S L l.cursor) l.invariant.2 v.0 _ _ _ v.1 _ v.2 c.if-left-passed.false))
-
-pub loop-left-smaller : goal.loop-left-smaller
-loop-left-smaller c =
-    let v = c.weigh_window-passed.ensures in
-    let m = rw c.in-Open.is at v.1.moves in
-    let n = v.1.counts in
-    let s = v.1.small in
-    omega (arith, m, n, s)
+    sym (rw c.in-Some.is at (weighs_told d (steps_left S L a.w.start) l.before l.left (steps_left S L l.cursor) l.invariant.2 v.0 _ _ _ v.1 _ v.2 c.if-left-passed.false))
 
 pub loop-left-preserved : goal.loop-left-preserved
 loop-left-preserved c =

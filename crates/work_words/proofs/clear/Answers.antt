@@ -1,16 +1,14 @@
-use mathlib.Core.Logic.{⊎_elim}
-use mathlib.Core.Path.{refl, sym, ◌∙◌}
-use native.Mathlib.Nat.{sub-zero}
+-- The zeros, and what lies behind them.
+use mathlib.Core.Path.{◌≡◌}
 use native.Mathlib.Omega.{arith}
-use Rattle.work_words.proofs.ClearLaws.{clear_turn, clear_done}
-use borrow.Author.Rules.{rules}
+use lib.ListN.{length, take}
+use lib.Seq.{length-take-le}
+use Rattle.work_words.proofs.ClearLaws.{zeros_put}
 use Rattle.work_words.proofs.clear.Goals as goal
 
-pub loop-i-init : goal.loop-i-init
-loop-i-init c = (search rules, ⊎_elim (λ x. omega (arith, x.if-count-len.true, x.end-is)) (λ x. omega (arith, x.if-count-len.false, x.end-is)) c.if-count-len.branch-raw, rw (sub-zero) refl)
-
-pub loop-i-preserved : goal.loop-i-preserved
-loop-i-preserved c = (search rules, search rules, clear_turn _ _ _ (omega arith) ∙ c.loop-i.invariant.2)
-
 pub returns : goal.returns
-returns c = sym (clear_done _ _ _ (omega arith)) ∙ c.loop-i.invariant.2
+returns c =
+    let work = c.args.work.now in
+    let end = c.min-end.result in
+    let k : length (take end work) ≡ end = length-take-le end work (omega arith) in
+    rw (c.fill.ensures.after (λ y e. e), k) (zeros_put work c.args.count end c.min-end.ensures)
