@@ -12,13 +12,8 @@ use Rattle.calls.specs.Calls.{Outcome, settle, store_steps, new_part, expansion,
 use Rattle.calls.proofs.ExpandKept.{entered_is}
 use Rattle.compose_weigh.specs.Weigh.{weigh_of}
 use Rattle.compose_weigh.proofs.EnteredLaws.{weigh_entered}
-use Rattle.compose_store.specs.Meaning.{Accepted}
 
--- a clear weighing is accepted, and another refuses with its number
-pub clear_accepted : (x : Checked Store) → ◌≡◌ {A = Checked (Unit {0})} (good tt) (and_then x (λ d. good tt)) → Accepted x
-clear_accepted (good d) e = tt
-clear_accepted (refused n) e = absurd (good≢refused e)
-
+-- a weighing that refuses tells the number with which storing refuses
 pub refused_same : (x : Checked Store) (k : ℕ) → ◌≡◌ {A = Checked (Unit {0})} (refused k) (and_then x (λ d. good tt)) → x ≡ refused k
 refused_same (good d) k e = absurd (good≢refused (sym e))
 refused_same (refused n) k e = ap refused (sym (refused_is e))

@@ -4,6 +4,7 @@ use mathlib.Core.List.{List, [], ◌∷◌}
 use Prim.Native.Nat.{ℕ, ◌≤◌}
 use native.Mathlib.Omega.{arith}
 use lib.ListN.{length}
+use Rattle.std.specs.Prelude.{None, Some, Ok, Err}
 use Rattle.words.specs.Labels.{Checked, good, refused, and_then}
 use Rattle.words.specs.Settings.{Lent}
 use Rattle.compose_fst_op.specs.declared.ComposeFstOpOptions.{ComposeFstOpOptions}
@@ -13,9 +14,7 @@ use Rattle.calls.specs.Store.{Store}
 use Rattle.calls.specs.Calls.{next_for, store_step, store_steps, store_steps_with}
 use Rattle.stored_steps.proofs.OneStep.{accepted_then}
 use Rattle.compose_moves.specs.Walks.{Asked, gives, ends, refuses, asked}
-use Rattle.compose_moves.specs.Cursors.{next_means}
-use Rattle.compose_moves.specs.declared.NextStep.{NextStep}
-use Rattle.compose_moves.specs.declared.NextStep.TheVariants.{Step as AStep, Done, Refused}
+use Rattle.compose_moves.specs.Cursors.{NextStep, next_means}
 use Rattle.compose_store.specs.Meaning.{Accepted, goes_on}
 
 -- the steps that an answer tells of; nothing after a refusal counts
@@ -25,9 +24,9 @@ asked_left ends = []
 asked_left (refuses n) = refused n ∷ []
 
 goes_on_lem : (S : ComposeFstOpOptions) (L : Lent) (r : NextStep) → goes_on r ≡ non_empty (asked_left (next_means S L r))
-goes_on_lem S L (AStep r c) = refl
-goes_on_lem S L Done = refl
-goes_on_lem S L (Refused n) = refl
+goes_on_lem S L (Ok (Some p)) = refl
+goes_on_lem S L (Ok None) = refl
+goes_on_lem S L (Err refusal) = refl
 
 left_any : (l : List (Checked Step)) → non_empty (asked_left (asked l)) ≡ non_empty l
 left_any [] = refl

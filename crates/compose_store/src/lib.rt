@@ -19,20 +19,16 @@ ghost use Rattle.compose_weigh.specs.Meaning.{steps_from};
 ghost use Rattle.compose_store.specs.Meaning.{Accepted, goes_on, session_under, left_by};
 
 use compose_fst_op::ComposeFstOpOptions;
-use compose_moves::{ComposeTr, MoveCursor, MovesStart, NextStep, moves_start, next_step};
+use compose_moves::{ComposeTr, MoveCursor, NextStep, moves_start, next_step};
 use compose_state_tuple::ComposeStateTuple;
-use compose_weigh::{Weighed, weigh};
-use fst::{StateId, Tr};
-use state_table::{FoundState, Reached, add_state, find_id};
+use compose_weigh::weigh;
+use fst::{Refusal, StateId, Tr};
+use state_table::{Reached, add_state, find_id};
 use store_records::{Used, get_tuple, mark_expanded, push_tr};
 use tr_lists::Part;
 
-// The new records of a state's list with the used counts after it, or the number of the refusal.
-#[derive(Clone, Copy)]
-pub enum Expansion {
-    New(Part, Used),
-    Refused(u32),
-}
+// The new records of a state's list with the used counts after it, or the refusal.
+pub type Expansion = Result<(Part, Used), Refusal>;
 
 // The state found, else a new one.
 fn reach(heads: &mut [u32], states: &mut [u32], used: u32, tuple: ComposeStateTuple) -> Reached
@@ -41,16 +37,13 @@ fn reach(heads: &mut [u32], states: &mut [u32], used: u32, tuple: ComposeStateTu
         let d = stored heads.old states.old trs used k in
         good (reached_means heads.new states.new trs k result) ≡ reachOf d (tuple_means tuple) }
 {
-    let found = find_id(heads, states, used, tuple);
-    match found {
-        FoundState::At(n) => Reached { state: n, used },
-        FoundState::Missing => {
-            add_state(heads, states, used, tuple);
-            Reached {
-                state: StateId(used),
-                used: used + 1,
-            }
-        }
+    if let Some(state) = find_id(heads, states, used, tuple) {
+        return Reached { state, used };
+    }
+    add_state(heads, states, used, tuple);
+    Reached {
+        state: StateId(used),
+        used: used + 1,
     }
 }
 
@@ -77,20 +70,16 @@ fn store_step(
         let d' = store_in heads.new states.new trs.new result in
         good d' ≡ store_step d (next_for d follows) (compose_tr_means tr) }
 {
-    let ilabel = tr.ilabel;
-    let olabel = tr.olabel;
-    let tuple = tr.tuple;
     let next = link(used.trs, follows);
-    let reached = reach(heads, states, used.states, tuple);
-    let nextstate = reached.state;
+    let reached = reach(heads, states, used.states, tr.tuple);
     push_tr(
         trs,
         used.trs,
         Tr {
-            ilabel,
-            olabel,
+            ilabel: tr.ilabel,
+            olabel: tr.olabel,
             weight: tr.weight,
-            nextstate,
+            nextstate: reached.state,
         },
         next,
     );
@@ -104,11 +93,7 @@ fn store_step(
 fn goes_on(next: NextStep) -> bool
     ensures { result ≡ goes_on next }
 {
-    match next {
-        NextStep::Step(_, _) => true,
-        NextStep::Done => false,
-        NextStep::Refused(_) => true,
-    }
+    !matches!(next, Ok(None))
 }
 
 // The steps from a cursor on, each with the next one asked before it is stored: a record's link says whether another follows. Answers the used counts after them.
@@ -137,12 +122,12 @@ fn store_steps(
     let mut ahead = next_step(m1, m2, a1, a2, ignored, options, start);
     loop {
         match ahead {
-            NextStep::Done => return grown,
-            NextStep::Refused(_) => return grown,
-            NextStep::Step(tr, after) => {
+            Ok(Some((tr, after))) => {
                 ahead = next_step(m1, m2, a1, a2, ignored, options, after);
                 grown = store_step(heads, states, trs, grown, tr, goes_on(ahead));
             }
+            Ok(None) => return grown,
+            Err(_) => return grown,
         }
     }
 }
@@ -186,20 +171,15 @@ fn expand_from(
         steps_at c (triple_at states.old n.0) ≡ steps → left_by options used m' result
         ≡ settle (session_under options used) m (expansion c (session_under options used) m n.0) }
 {
-    let weighed = weigh(
+    weigh(
+        m1, m2, a1, a2, ignored, options, heads, states, trs, used, start,
+    )?;
+    let after = store_steps(
         m1, m2, a1, a2, ignored, options, heads, states, trs, used, start,
     );
-    match weighed {
-        Weighed::Refused(k) => Expansion::Refused(k),
-        Weighed::Clear => {
-            let after = store_steps(
-                m1, m2, a1, a2, ignored, options, heads, states, trs, used, start,
-            );
-            let part = new_part(used.trs, after.trs);
-            mark_expanded(states, n, part.first);
-            Expansion::New(part, after)
-        }
-    }
+    let part = new_part(used.trs, after.trs);
+    mark_expanded(states, n, part.first);
+    Ok((part, after))
 }
 
 // The expansion of state n, a found one, where the checks 1 to 8 passed: weighed, then stored.
@@ -225,11 +205,8 @@ pub fn expand_weighed(
         let c = composing options m1.now m2.now a1.now a2.now ignored.now in
         left_by options used m' result ≡ settle (session_under options used) m (expansion c (session_under options used) m n.0) }
 {
-    let begun = moves_start(m1, m2, ignored, options, get_tuple(states, n));
-    match begun {
-        MovesStart::Refused(k) => Expansion::Refused(k),
-        MovesStart::At(start) => expand_from(
-            m1, m2, a1, a2, ignored, options, heads, states, trs, used, n, start,
-        ),
-    }
+    let start = moves_start(m1, m2, ignored, options, get_tuple(states, n))?;
+    expand_from(
+        m1, m2, a1, a2, ignored, options, heads, states, trs, used, n, start,
+    )
 }

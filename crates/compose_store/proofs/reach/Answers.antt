@@ -16,26 +16,26 @@ unfolding state_room_with
 add_state-requires c =
     let p = c.requires in
     let a = c.args in
-    new_room (stored a.heads.now a.states.now [] a.used 0) (tuple_means a.tuple) (sym (rw c.in-Missing.is at (c.find_id-found.ensures [] 0))) (p [] 0)
+    new_room (stored a.heads.now a.states.now [] a.used 0) (tuple_means a.tuple) (sym (rw c.in_default.is at (c.find_id.ensures [] 0))) (p [] 0)
 
 pub overflow_add-result : goal.overflow_add-result
 unfolding state_room_with
 overflow_add-result c =
     let p = c.requires in
     let a = c.args in
-    let r = new_room (stored a.heads.now a.states.now [] a.used 0) (tuple_means a.tuple) (sym (rw c.in-Missing.is at (c.find_id-found.ensures [] 0))) (p [] 0) in
+    let r = new_room (stored a.heads.now a.states.now [] a.used 0) (tuple_means a.tuple) (sym (rw c.in_default.is at (c.find_id.ensures [] 0))) (p [] 0) in
     omega (arith, r, (room_words state_size a.states.now _ r).0)
 
-pub returns-in-At : goal.returns-in-At
-returns-in-At c =
+pub returns-in-Some : goal.returns-in-Some
+returns-in-Some c =
     let a = c.args in
-    λ trs k. sym (reach_found (stored a.heads.now a.states.now trs a.used k) (tuple_means a.tuple) _ (sym (rw c.in-At.is at (c.find_id-found.ensures trs k))))
+    λ trs k. sym (reach_found (stored a.heads.now a.states.now trs a.used k) (tuple_means a.tuple) _ (sym (c.in-Some.ensures trs k)))
 
-pub returns-in-Missing : goal.returns-in-Missing
-returns-in-Missing c =
+pub returns : goal.returns
+returns c =
     let p = c.requires in
     let a = c.args in
     λ trs k.
-    let lacks = sym (rw c.in-Missing.is at (c.find_id-found.ensures trs k)) in
+    let lacks = sym (rw c.in_default.is at (c.find_id.ensures trs k)) in
     let d = stored a.heads.now a.states.now trs a.used k in
     ap (λ (e : Store). good (record { store = e; state = a.used })) (c.add_state.ensures trs k) ∙ sym (reach_new d (tuple_means a.tuple) lacks (new_room d (tuple_means a.tuple) lacks (p trs k)))
