@@ -11,11 +11,9 @@ pub fn settle_open(work: &mut [u64], from: u32, to: u32, v: u32)
     requires { v < 65536 }
     ensures { work.new ≡ settled_of work.old v from (to - from) }
 {
-    let mut p = from;
-    while p < to {
+    for p in from..to {
         let s = middle_of(work, 2 * (p as usize));
         set_high(work, 2 * (s as usize), v);
-        p += 1;
     }
 }
 
@@ -23,18 +21,16 @@ pub fn settle_open(work: &mut [u64], from: u32, to: u32, v: u32)
 pub fn merge_frames(work: &[u64], b: u32, place: u32) -> u32
     ensures { result ≡ merged_to work.now place b }
 {
-    let mut n = b;
-    while n > 0 {
-        let f = n as usize - 1;
-        if middle_of(work, 2 * f + 1) <= place {
-            return n;
+    for f in (0..b).rev() {
+        if middle_of(work, 2 * (f as usize) + 1) <= place {
+            return f + 1;
         }
-        n -= 1;
     }
     0
 }
 
 // State t is open, at place o and in frame b.
+#[tactic(auto, unfolding(searches::specs::UsefulSearch::opened_of))]
 pub fn open_state(work: &mut [u64], t: u32, o: u32, b: u32)
     ensures { work.new ≡ opened_of work.old t o b }
 {
@@ -46,6 +42,7 @@ pub fn open_state(work: &mut [u64], t: u32, o: u32, b: u32)
 }
 
 // The same where record r led to it, from depth d.
+#[tactic(auto, unfolding(searches::specs::UsefulSearch::entered_of))]
 pub fn enter_state(work: &mut [u64], d: u32, r: u32, t: u32, o: u32, b: u32)
     ensures { work.new ≡ entered_of work.old d r t o b }
 {
