@@ -30,6 +30,7 @@ pub struct Found {
 }
 
 // Record p.r leads to a state t that is not seen.
+#[tactic(auto, unfolding(searches::specs::UsefulSearch::on_white))]
 fn on_white(states: &[u32], used: u32, work: &mut [u64], p: Place, t: u32) -> Found
     ensures { (heads trs : List ℕ) (u : ℕ) →
         t ≡ target_at trs (p.r - 1) →
@@ -47,6 +48,7 @@ fn on_white(states: &[u32], used: u32, work: &mut [u64], p: Place, t: u32) -> Fo
 }
 
 // The same where t is final: every open state is alive.
+#[tactic(auto, unfolding(searches::specs::UsefulSearch::on_final))]
 fn on_final(states: &[u32], used: u32, work: &mut [u64], p: Place, t: u32) -> Found
     ensures { (heads trs : List ℕ) (u : ℕ) →
         t ≡ target_at trs (p.r - 1) →
@@ -65,21 +67,20 @@ fn on_final(states: &[u32], used: u32, work: &mut [u64], p: Place, t: u32) -> Fo
 }
 
 // It leads to a dead state.
+#[tactic(auto, unfolding(searches::specs::UsefulSearch::on_dead))]
 fn on_dead(trs: &[u32], used: u32, p: Place) -> Found
     ensures { (heads states w : List ℕ) (u : ℕ) →
         found_means result w ≡ on_dead (links_of (stored heads states trs.now u used)) w (place_means p) }
 {
     let at = Place {
-        d: p.d,
-        s: p.s,
         r: next_record(trs, used, p.r),
-        o: p.o,
-        b: p.b,
+        ..p
     };
     Found { at, done: false }
 }
 
 // It leads to an open state t.
+#[tactic(auto, unfolding(searches::specs::UsefulSearch::on_open))]
 fn on_open(trs: &[u32], used: u32, work: &[u64], p: Place, t: u32) -> Found
     ensures { (heads states : List ℕ) (u : ℕ) →
         t ≡ target_at trs.now (p.r - 1) →
@@ -87,16 +88,15 @@ fn on_open(trs: &[u32], used: u32, work: &[u64], p: Place, t: u32) -> Found
 {
     let place = low_of(work, 2 * (t as usize) + 1);
     let at = Place {
-        d: p.d,
-        s: p.s,
         r: next_record(trs, used, p.r),
-        o: p.o,
         b: merge_frames(work, p.b, place),
+        ..p
     };
     Found { at, done: false }
 }
 
 // It leads to a state that is alive: so is every open one, if p.s is open.
+#[tactic(auto, unfolding(searches::specs::UsefulSearch::on_alive))]
 fn on_alive(trs: &[u32], used: u32, work: &mut [u64], p: Place) -> Found
     ensures { (heads states : List ℕ) (u : ℕ) →
         found_means result work.new ≡ on_alive (links_of (stored heads states trs.now u used)) work.old (place_means p) }
@@ -106,16 +106,16 @@ fn on_alive(trs: &[u32], used: u32, work: &mut [u64], p: Place) -> Found
     }
     settle_open(work, 0, p.o, 2);
     let at = Place {
-        d: p.d,
-        s: p.s,
         r: next_record(trs, used, p.r),
         o: 0,
         b: 0,
+        ..p
     };
     Found { at, done: false }
 }
 
 // The state of the path at depth d.
+#[tactic(auto, using(crate::proofs::StepLaws::state_on), unfolding(searches::specs::UsefulSearch::state_at))]
 fn state_at(trs: &[u32], work: &[u64], d: u32) -> u32
     ensures { (heads states : List ℕ) (u used : ℕ) →
         result ≡ state_at (links_of (stored heads states trs.now u used)) work.now d }
@@ -128,6 +128,7 @@ fn state_at(trs: &[u32], work: &[u64], d: u32) -> u32
 }
 
 // One step back along the path.
+#[tactic(auto, using(crate::proofs::StepLaws::back_on), unfolding(searches::specs::UsefulSearch::back))]
 fn step_back(trs: &[u32], used: u32, work: &[u64], p: Place) -> Found
     ensures { (heads states : List ℕ) (u : ℕ) →
         found_means result work.now ≡ back (links_of (stored heads states trs.now u used)) work.now (place_means p) p.d }
@@ -141,13 +142,13 @@ fn step_back(trs: &[u32], used: u32, work: &[u64], p: Place) -> Found
         d: k,
         s: state_at(trs, work, k),
         r: next_record(trs, used, r),
-        o: p.o,
-        b: p.b,
+        ..p
     };
     Found { at, done: false }
 }
 
 // No final state is reached from the open states from the place of p.s on: they are dead, and the last frame is gone.
+#[tactic(auto, unfolding(searches::specs::UsefulSearch::killed))]
 fn killed(trs: &[u32], used: u32, work: &mut [u64], p: Place, place: u32) -> Found
     ensures { (heads states : List ℕ) (u : ℕ) →
         place ≡ place_in work.old p.s →
@@ -155,33 +156,30 @@ fn killed(trs: &[u32], used: u32, work: &mut [u64], p: Place, place: u32) -> Fou
 {
     settle_open(work, place, p.o, 3);
     let left = Place {
-        d: p.d,
-        s: p.s,
-        r: p.r,
         o: place,
         b: below(p.b),
+        ..p
     };
     step_back(trs, used, work, left)
 }
 
 // The list of p.s is at its end.
+#[tactic(auto, unfolding(searches::specs::UsefulSearch::on_end))]
 fn on_end(trs: &[u32], used: u32, work: &mut [u64], p: Place) -> Found
     ensures { (heads states : List ℕ) (u : ℕ) →
         found_means result work.new ≡ on_end (links_of (stored heads states trs.now u used)) work.old (place_means p) }
 {
     let i = 2 * (p.s as usize);
-    if high_of(work, i) != 1 {
-        return step_back(trs, used, work, p);
-    }
     let place = low_of(work, i + 1);
-    let top = below(p.b);
-    if place != middle_of(work, 2 * (top as usize) + 1) {
+    let top = below(p.b) as usize;
+    if high_of(work, i) != 1 || place != middle_of(work, 2 * top + 1) {
         return step_back(trs, used, work, p);
     }
     killed(trs, used, work, p, place)
 }
 
 // Record p.r leads to state t, whose status is v.
+#[tactic(auto, unfolding(searches::specs::UsefulSearch::by_status))]
 fn by_status(
     states: &[u32],
     trs: &[u32],
@@ -195,35 +193,30 @@ fn by_status(
         t ≡ target_at trs.now (p.r - 1) →
         found_means result work.new ≡ by_status (links_of (stored heads states.now trs.now u used)) work.old (place_means p) v }
 {
-    if v == 0 {
-        return on_white(states, used, work, p, t);
+    match v {
+        0 => on_white(states, used, work, p, t),
+        4 => on_final(states, used, work, p, t),
+        1 => on_open(trs, used, work, p, t),
+        2 => on_alive(trs, used, work, p),
+        _ => on_dead(trs, used, p),
     }
-    if v == 4 {
-        return on_final(states, used, work, p, t);
-    }
-    if v == 1 {
-        return on_open(trs, used, work, p, t);
-    }
-    if v == 2 {
-        return on_alive(trs, used, work, p);
-    }
-    on_dead(trs, used, p)
 }
 
+#[tactic(auto, unfolding(searches::specs::UsefulSearch::step_of))]
 pub fn step(states: &[u32], trs: &[u32], used: u32, work: &mut [u64], p: Place) -> Found
     ensures { (heads : List ℕ) (u : ℕ) →
         found_means result work.new ≡ step_of (links_of (stored heads states.now trs.now u used)) work.old (place_means p) }
 {
-    let r = p.r;
-    if r == 0 {
+    if p.r == 0 {
         return on_end(trs, used, work, p);
     }
-    let t = target_record(trs, r);
+    let t = target_record(trs, p.r);
     let v = high_of(work, 2 * (t as usize));
     by_status(states, trs, used, work, p, t, v)
 }
 
 // State 0 is entered first.
+#[tactic(auto, unfolding(searches::specs::UsefulSearch::start_of))]
 pub fn start(states: &[u32], used: u32, work: &mut [u64]) -> Found
     ensures { (heads trs : List ℕ) (u : ℕ) →
         found_means result work.new ≡ start_of (links_of (stored heads states.now trs u used)) work.old }
