@@ -148,11 +148,7 @@ fn record(m: &[u32], ignored: &[u32], t: u32) {
 
 fn facts(m: &[u32], ignored: &[u32]) {
     io::write_all(1, b"f");
-    let f = compose_filters::facts_at(
-        twice(m, sigmas(), ignored),
-        StateId(u32::MAX),
-        StateId(0),
-    );
+    let f = compose_filters::facts_at(twice(m, sigmas(), ignored), StateId(u32::MAX), StateId(0));
     flag(f.none1);
     flag(f.all1);
     flag(f.none2);

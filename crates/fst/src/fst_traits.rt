@@ -6,9 +6,9 @@ ghost use Rattle.words.specs.Ignored.{otherwise};
 ghost use Rattle.fst.specs.Meaning.{on_of, number_if, tr_means, read_as, words_as_read};
 
 use crate::ignored::heard;
-use crate::{Matched,
-    FINAL, FINAL_WEIGHT, FIRST, HEADER_WORDS, INPUT, Label, MatchType, NEXT, OUTPUT, STATE_WORDS,
-    Sigmas, StateId, TARGET, TR_WORDS, Tr, WEIGHT,
+use crate::{
+    FINAL, FINAL_WEIGHT, FIRST, HEADER_WORDS, INPUT, Label, MatchType, Matched, NEXT, OUTPUT,
+    STATE_WORDS, Sigmas, StateId, TARGET, TR_WORDS, Tr, WEIGHT,
 };
 
 // Word i, and 0 past the end.

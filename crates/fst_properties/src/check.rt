@@ -14,7 +14,12 @@ fn lent<'a>(words: &'a [u32], on: MatchType) -> Matched<'a>
     ensures words { (result.words ≡ words.entry) × (result.on ≡ on) }
     ensures ignored { (result.sigmas ≡ NO_SIGMAS) × (result.ignored.now ≡ []) }
 {
-    Matched { words, on, sigmas: NO_SIGMAS, ignored: &words[0..0] }
+    Matched {
+        words,
+        on,
+        sigmas: NO_SIGMAS,
+        ignored: &words[0..0],
+    }
 }
 
 #[tactic(auto, using(words::proofs::ReplacedLaws::read_none))]

@@ -7,8 +7,8 @@ ghost use Rattle.fst.specs.Meaning.{on_of, words_as_read};
 use crate::records::{RecordTest, all_records};
 use crate::seen::{SEEN_WORDS, is_seen, see};
 use fst::{
-    EPS_LABEL, Matched, STATE_WORDS, StateId, TR_WORDS, acceptor_mark, first_tr,
-    inner_label, next_tr, num_records, num_states,
+    EPS_LABEL, Matched, STATE_WORDS, StateId, TR_WORDS, acceptor_mark, first_tr, inner_label,
+    next_tr, num_records, num_states,
 };
 
 // The lesser of a count and the room for it. What lies past the end reads as 0, so that no look at it is needed, whatever the header says.
@@ -53,8 +53,7 @@ pub fn sorted(m: Matched<'_>) -> bool
     ensures { result ≡ sortedOf (on_of m.entry.on) (machine_of (words_as_read m.entry)) }
 {
     let n = least(num_records(m.words), m.words.len() / TR_WORDS);
-    all_records(m, RecordTest::Rises, n)
-        || lists_sorted(m, n)
+    all_records(m, RecordTest::Rises, n) || lists_sorted(m, n)
 }
 
 // Whether input equals output in every record, in a list or not.

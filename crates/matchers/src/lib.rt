@@ -10,7 +10,8 @@ ghost use Rattle.fst.specs.Meaning.{on_of, tr_means, words_as_read};
 ghost use Rattle.matchers.specs.Cursors.{looked as lookedFor, held_words, with_label, head0, moved_to, own_left, sigma_left, items_of, items_left, asked, step_means, cursor_of, moved_past, cursor_after};
 
 use fst::{
-    EPS_LABEL, Label, MatchType, Matched, NO_LABEL, Sigmas, Tr, get_tr, inner_label, next_tr, num_records,
+    EPS_LABEL, Label, MatchType, Matched, NO_LABEL, Sigmas, Tr, get_tr, inner_label, next_tr,
+    num_records,
 };
 pub use sigma_matcher::{Sigma, has_sigma, sigma_iter};
 pub use sorted_matcher::sorted_iter;

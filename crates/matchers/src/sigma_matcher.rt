@@ -113,11 +113,7 @@ pub fn sigma_iter(
 }
 
 // Whether a state has a sigma transition, by matched label.
-pub fn has_sigma(
-    m: Matched<'_>,
-    sigma: Label,
-    s: StateId,
-) -> bool
+pub fn has_sigma(m: Matched<'_>, sigma: Label, s: StateId) -> bool
     ensures { let words = words_as_read m.entry in
         result ≡ non_empty (sigma_trs (operand_of (on_of m.entry.on) words sigma.0 0 None) s.0) }
 {

@@ -9,11 +9,7 @@ use crate::{Cursor, Phase, looked, seek};
 use fst::{EPS_LABEL, Label, Matched, NO_LABEL, StateId, first_tr};
 
 // The matches of a label at a state.
-pub fn sorted_iter(
-    m: Matched<'_>,
-    s: StateId,
-    label: Label,
-) -> Cursor
+pub fn sorted_iter(m: Matched<'_>, s: StateId, label: Label) -> Cursor
     ensures result_value { let words = words_as_read m.entry in
         items_left words result ≡ sorted_items (on_of m.entry.on) words s.0 label.0 }
     ensures place { result ≡ first_cursor (words_as_read m.entry) m.entry.on m.entry.sigmas s label (record { 0 = no_label }) false 0 }

@@ -1,7 +1,7 @@
 -- `contains` asks the items in their order, as the definition does.
 use Rattle.std.specs.Prelude.{◌≡◌, List, [], ◌∷◌, ℕ, ◌||◌, eqb}
 use Rattle.std.specs.List.{list_any}
-use mathlib.Core.Path.{refl, ap, ◌∙◌, sym}
+use mathlib.Core.Path.{refl, ap, ◌∙◌}
 use Rattle.words.specs.Sigmas.{has}
 use Rattle.fst.proofs.ignored.has.Goals as goal
 
