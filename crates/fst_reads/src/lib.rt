@@ -47,6 +47,7 @@ pub fn word_on(on: MatchType) -> usize
 }
 
 // Word k of the record of state s; the size alone is known to be good.
+#[tactic(auto, using(crate::proofs::Inside::sized, words::proofs::FormLaws::state_at_lem))]
 pub fn sized_state_word(m: &[u32], s: StateId, k: usize) -> u32
     requires { (size_ok m.now ≡ true) × (s.0 < state_count m.now) × (k < state_words) }
     ensures { result ≡ state_word m.now s.0 k }
@@ -55,6 +56,7 @@ pub fn sized_state_word(m: &[u32], s: StateId, k: usize) -> u32
 }
 
 // Word k of record t; the size alone is known to be good.
+#[tactic(auto, using(crate::proofs::Inside::sized, words::proofs::FormLaws::tr_at_lem))]
 pub fn sized_word(m: &[u32], base: usize, t: u32, k: usize) -> u32
     requires { (size_ok m.now ≡ true) × (base ≡ record_base m.now) × IsRecord m.now t × (k < tr_words) }
     ensures { result ≡ tr_word m.now t k }
@@ -63,6 +65,7 @@ pub fn sized_word(m: &[u32], base: usize, t: u32, k: usize) -> u32
 }
 
 // Word k of record t.
+#[tactic(auto, using(crate::proofs::Inside::well_sized))]
 pub fn word_at(m: &[u32], base: usize, t: u32, k: usize) -> u32
     requires { (well_formed m.now ≡ true) × (base ≡ record_base m.now) × IsRecord m.now t × (k < tr_words) }
     ensures { result ≡ tr_word m.now t k }
@@ -71,6 +74,7 @@ pub fn word_at(m: &[u32], base: usize, t: u32, k: usize) -> u32
 }
 
 // The record after t in its list; 0: none.
+#[tactic(auto, using(words::proofs::FormLaws::form))]
 pub fn next_at(m: &[u32], base: usize, t: u32) -> u32
     requires { (well_formed m.now ≡ true) × (base ≡ record_base m.now) × IsRecord m.now t }
     ensures { result ≡ next_of m.now t }
@@ -92,6 +96,7 @@ pub fn tr_at(m: &[u32], base: usize, t: u32) -> Tr
 }
 
 // The first record of a state's list; 0: the list is empty.
+#[tactic(auto, using(crate::proofs::Inside::well_sized, words::proofs::FormLaws::form))]
 pub fn first_at(m: &[u32], s: StateId) -> u32
     requires { (well_formed m.now ≡ true) × (s.0 < state_count m.now) }
     ensures { result ≡ first_of m.now s.0 }

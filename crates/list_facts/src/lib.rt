@@ -32,7 +32,7 @@ pub struct ListFacts {
 fn eps_of(x: u32) -> u32
     ensures { result ≡ cond (eqb x eps_label) 1 0 }
 {
-    if x == EPS_LABEL.0 { 1 } else { 0 }
+    u32::from(x == EPS_LABEL.0)
 }
 
 // How often the label x has come in a row, where `last` came `same` times.
@@ -43,20 +43,11 @@ fn in_a_row(x: u32, last: u32, same: u32) -> u32
     if x == last { same + 1 } else { 1 }
 }
 
-fn larger(run: u32, same: u32) -> u32
-    ensures { result ≡ max run same }
-{
-    if run < same { same } else { run }
-}
-
 // The larger of the largest weight so far and w; the kind's zero does not count.
 fn heavier(most: u32, w: u32, none: u32) -> u32
     ensures { result ≡ max most (cond (eqb w none) 0 w) }
 {
-    if w == none {
-        return most;
-    }
-    if most < w { w } else { most }
+    if w == none { most } else { most.max(w) }
 }
 
 // Still consecutive, where `next` follows record t.
@@ -64,10 +55,7 @@ fn goes_on(straight: bool, t: u32, next: u32) -> bool
     requires { t + 1 < 2 ^ 32 }
     ensures { result ≡ (straight && (eqb next 0 || eqb next (t + 1))) }
 {
-    if next == 0 {
-        return straight;
-    }
-    if next == t + 1 { straight } else { false }
+    straight && (next == 0 || next == t + 1)
 }
 
 // The facts of the list of state s, in one pass.
@@ -92,7 +80,7 @@ pub fn list_facts(m: &[u32], on: MatchType, kind: u32, s: StateId) -> ListFacts
         eps += eps_of(x);
         same = in_a_row(x, last, same);
         last = x;
-        run = larger(run, same);
+        run = run.max(same);
         most = heavier(most, word_at(m, base, t, WEIGHT), none);
         let next = next_at(m, base, t);
         straight = goes_on(straight, t, next);

@@ -18,6 +18,7 @@ const ENTRIES: u32 = 1024;
 pub const MEMO_WORDS: usize = 5120;
 
 // The facts that entry c holds.
+#[tactic(auto, unfolding(crate::specs::Memo::entry_at))]
 fn recalled(memo: &[u32; MEMO_WORDS], c: u32) -> ListFacts
     requires { c < entries }
     ensures { result ≡ entry_at memo.now c }
@@ -42,6 +43,7 @@ fn packed(eps: u32, straight: bool) -> u32
 }
 
 // Entry c is that of state s, with its facts.
+#[tactic(auto, using(crate::proofs::Entries::five_words))]
 fn remember(memo: &mut [u32; MEMO_WORDS], c: u32, s: StateId, told: ListFacts)
     requires { (c < entries) × (s.0 + 1 < 2 ^ 32) × (2 * told.eps + 1 < 2 ^ 32) }
     ensures { memo.new ≡ put memo.old (entry_words * c) (entry_of s.0 told) }
@@ -55,6 +57,7 @@ fn remember(memo: &mut [u32; MEMO_WORDS], c: u32, s: StateId, told: ListFacts)
 }
 
 // The facts of the list of state s: as remembered, else told now and remembered.
+#[tactic(auto, using(words::proofs::FormLaws::form, crate::proofs::FactLaws::eps_few, crate::proofs::FactLaws::len_few, crate::proofs::Entries::now_remembered))]
 pub fn remembered(
     m: &[u32],
     on: MatchType,
