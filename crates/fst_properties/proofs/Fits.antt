@@ -1,16 +1,15 @@
--- What the test of a record comes to by its words; and a form that fits is good, with no label falling on a side that was asked for.
-use mathlib.Core.Path.{◌≡◌, refl, ◌∙◌, ap}
-use mathlib.Core.Bool.{Bool, true, false, not, ◌&&◌, true≢false, and-true, and-false, and_assoc}
+-- A form that fits is good, with no label falling on a side that was asked for.
+use mathlib.Core.Path.{◌≡◌, refl}
+use mathlib.Core.Bool.{Bool, true, false, ◌&&◌, true≢false, and-true}
 use mathlib.Core.List.{List}
-use Prim.Native.Nat.{ℕ, ◌≤◌, ◌<◌}
+use Prim.Native.Nat.{ℕ, ◌<◌}
 use native.Mathlib.Omega.{arith}
-use lib.Dec.{eqb, ltb, leb}
-use borrow.Author.Tests.{eq-eqb, ne_eqb, lt-ltb, le-ltb, le-leb, lt-leb}
+use lib.Dec.{eqb, leb}
+use borrow.Author.Tests.{eq-eqb}
 use Rattle.lists.specs.Lists.{every, interval}
-use Rattle.lists.proofs.Members.{and_left, and_right, every_in, every_of, every_same, or_right}
-use Rattle.words.specs.Labels.{no_label}
-use Rattle.words.specs.Matches.{MatchType, inputs, outputs, label_on}
-use Rattle.words.specs.Machines.{word_on, state_count, tr_count, start_word, side_mark, tr_word, next_ok, next_of, machine_of, sorted, state_ok, tr_ok, marks_ok, size_ok, well_formed, well_formed_up_to}
+use Rattle.lists.proofs.Members.{and_left, and_right, every_in, every_of, every_same}
+use Rattle.words.specs.Matches.{MatchType, inputs, outputs}
+use Rattle.words.specs.Machines.{word_on, state_count, tr_count, start_word, side_mark, machine_of, sorted, state_ok, tr_ok, marks_ok, size_ok, well_formed, well_formed_up_to}
 use Rattle.fst_properties.specs.RecordTests.{rises, rises_if, fits, form_fits}
 use Rattle.fst_properties.proofs.Falls.{rising_sorted}
 
@@ -19,70 +18,9 @@ abbrev asked_on : Bool → Bool → MatchType → Bool
 asked_on p q inputs = p
 asked_on p q outputs = q
 
--- the labels and the target of a record
-abbrev pub ends_ok : List ℕ → ℕ → Bool
-ends_ok m t = ltb (tr_word m t 0) no_label && (ltb (tr_word m t 1) no_label && ltb (tr_word m t 3) (state_count m))
-
-first_three : (a b c d : Bool) → a && (b && (c && d)) ≡ (a && (b && c)) && d
-first_three true true true d = refl
-first_three true true false d = refl
-first_three true false c d = refl
-first_three false b c d = refl
-
--- the form of a record is that of its ends and of its next
-pub fits_parts : (p q : Bool) (m : List ℕ) (t : ℕ) → fits p q m t ≡ ends_ok m t && (next_ok m t && (rises_if p inputs m t && rises_if q outputs m t))
-unfolding fits tr_ok
-fits_parts p q m t =
-    ap (λ (b : Bool). b && (rises_if p inputs m t && rises_if q outputs m t))
-    (first_three (ltb (tr_word m t 0) no_label) (ltb (tr_word m t 1) no_label) (ltb (tr_word m t 3) (state_count m)) (next_ok m t))
-    ∙ and_assoc (ends_ok m t) (next_ok m t) _
-
--- a side on which no label falls passes, asked for or not
-rises_asked : (p : Bool) (on : MatchType) (m : List ℕ) (t : ℕ) → rises on m t ≡ true → rises_if p on m t ≡ true
-rises_asked p on m t e = or_right (not p) (rises on m t) e
-
-last_rises : (on : MatchType) (m : List ℕ) (t : ℕ) → tr_word m t 4 ≡ 0 → rises on m t ≡ true
-unfolding rises next_of next_ok
-last_rises on m t e = rw e
-
--- a record with no next
-pub fits_last : (p q : Bool) (m : List ℕ) (t : ℕ) → ends_ok m t ≡ true → tr_word m t 4 ≡ 0 → fits p q m t ≡ true
-unfolding next_ok
-fits_last p q m t h e =
-    let n : next_ok m t ≡ true = rw e in
-    fits_parts p q m t
-    ∙ rw (h, n, rises_asked p inputs m t (last_rises inputs m t e), rises_asked q outputs m t (last_rises outputs m t e))
-
--- a next that is not above its record, or past the last
-pub next_low : (m : List ℕ) (t n : ℕ) → n ≡ tr_word m t 4 → 0 < n → n ≤ t → next_ok m t ≡ false
-unfolding next_ok
-next_low m t n e h l = rw (← e, ne_eqb n 0 (λ z. omega arith), le-ltb t n l)
-
-pub next_high : (m : List ℕ) (t n : ℕ) → n ≡ tr_word m t 4 → 0 < n → tr_count m < n → next_ok m t ≡ false
-unfolding next_ok
-next_high m t n e h l = rw (← e, ne_eqb n 0 (λ z. omega arith), lt-leb n (tr_count m) l) (and-false (ltb t n))
-
--- a good next
-pub next_good : (m : List ℕ) (t n : ℕ) → n ≡ tr_word m t 4 → t < n → n ≤ tr_count m → next_ok m t ≡ true
-unfolding next_ok
-next_good m t n e l h = rw (← e, ne_eqb n 0 (λ z. omega arith), lt-ltb t n l) (le-leb n (tr_count m) h)
-
-pub next_word : (m : List ℕ) (t n : ℕ) → n ≡ tr_word m t 4 → next_ok m t ≡ true → n ≡ next_of m t
-unfolding next_of
-next_word m t n e h = rw h e
-
 pub word_small : (on : MatchType) → word_on on < 5
 word_small inputs = omega arith
 word_small outputs = omega arith
-
-label_word : (on : MatchType) (m : List ℕ) (t : ℕ) → tr_word m t (word_on on) ≡ label_on on (machine_of m) t
-label_word inputs m t = refl
-label_word outputs m t = refl
-
--- the labels of a record and of its next, compared
-pub rises_words : (on : MatchType) (m : List ℕ) (t n k : ℕ) → k ≡ word_on on → n ≡ next_of m t → 0 < n → leb (tr_word m t k) (tr_word m n k) ≡ rises on m t
-unfolding rises
-rises_words on m t n k e d h = rw (e, ← d, ne_eqb n 0 (λ z. omega arith), label_word on m t, label_word on m n)
 
 -- what a form that fits says
 pub record FormFits (p q : Bool) (m : List ℕ) : Type 0 where

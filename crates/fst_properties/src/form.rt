@@ -86,7 +86,7 @@ fn ends_ok(m: &[u32], asked: Asked, t: u32) -> bool
 }
 
 // Where it is asked: the label of t on a side is not above that of its next.
-#[tactic(auto, unfolding(crate::specs::RecordTests::rises), using(crate::proofs::Fits::word_small, crate::proofs::Fits::rises_words, words::proofs::ListLaws::link))]
+#[tactic(auto, unfolding(crate::specs::RecordTests::rises), using(crate::proofs::Fits::word_small, words::proofs::ListLaws::link))]
 fn rises_if(m: &[u32], base: usize, asked: bool, on: MatchType, t: u32, next: u32) -> bool
     requires { (size_ok m.now ≡ true) × (base ≡ record_base m.now) × IsRecord m.now t × (0 < next) × (next ≡ next_of m.now t) }
     ensures { result ≡ rises_if asked (on_of on) m.now t }
@@ -97,7 +97,7 @@ fn rises_if(m: &[u32], base: usize, asked: bool, on: MatchType, t: u32, next: u3
 
 // The next of t, which is not 0, is up to T and above t, and no label falls to it on the sides that are asked for. A record is above another if it begins after it, which costs less to ask than
 // their numbers.
-#[tactic(auto, using(crate::proofs::Fits::next_low, crate::proofs::Fits::next_high, crate::proofs::Fits::next_good, crate::proofs::Fits::next_word))]
+#[tactic(auto, unfolding(words::specs::Machines::next_ok, words::specs::Machines::next_of))]
 fn link_ok(m: &[u32], asked: Asked, t: u32, place: usize, next: u32) -> bool
     requires { (size_ok m.now ≡ true) × AskedOf m.now asked × IsRecord m.now t × (place ≡ record_base m.now + tr_words * t) × (0 < next) × (next ≡ tr_word m.now t 4) }
     ensures { result ≡ (next_ok m.now t && (rises_if asked.inputs onInputs m.now t && rises_if asked.outputs onOutputs m.now t)) }
@@ -116,7 +116,7 @@ fn link_ok(m: &[u32], asked: Asked, t: u32, place: usize, next: u32) -> bool
 }
 
 // Record t, which begins at `place`, has a good form, and no label falls from it on the sides that are asked for.
-#[tactic(auto, using(crate::proofs::Fits::fits_parts, crate::proofs::Fits::fits_last))]
+#[tactic(auto, unfolding(crate::specs::RecordTests::fits, crate::specs::RecordTests::rises, words::specs::Machines::tr_ok, words::specs::Machines::next_ok, words::specs::Machines::next_of))]
 fn fits(m: &[u32], asked: Asked, t: u32, place: usize) -> bool
     requires { (size_ok m.now ≡ true) × AskedOf m.now asked × IsRecord m.now t × (place ≡ record_base m.now + tr_words * t) }
     ensures { result ≡ fits_of asked.inputs asked.outputs m.now t }
