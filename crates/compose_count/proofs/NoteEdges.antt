@@ -11,7 +11,7 @@ use Rattle.words.specs.Steps.{Triple}
 use Rattle.matchers.specs.Meaning.{the_loop}
 use Rattle.matchers.specs.Cursors.{with_label, head0}
 use Rattle.sorted_lists.specs.Runs.{rising}
-use Rattle.compose_filters.specs.declared.Filtered.TheVariants.{Kept}
+use Rattle.std.specs.Prelude.{Some}
 use Rattle.compose_moves.specs.Moves.{as_tr}
 use Rattle.stored_steps.specs.Storing.{AllGood}
 use Rattle.compose_walk.specs.declared.Plan.{Plan}
@@ -26,7 +26,7 @@ found_rising on m x first zero e r = rising_end on m x 0 refl
 found_rising on m x first (suc t) e r = from_rising on m x first (suc t) e 0 (λ z. omega arith) r
 
 -- a walked epsilon alone
-pub alone_noted : (P : Triple → Bool) (n o : Notes) (v : Plan) (w : Transition) (f s : ℕ) (c : Triple) → v.lone_walked ≡ Kept f → w.target ≡ s → c ≡ target_by (side_by v) f s v.looked.0 → o ≡ note_to P n c → AllGood (alone_by v w)
+pub alone_noted : (P : Triple → Bool) (n o : Notes) (v : Plan) (w : Transition) (f s : ℕ) (c : Triple) → v.lone_walked ≡ Some f → w.target ≡ s → c ≡ target_by (side_by v) f s v.looked.0 → o ≡ note_to P n c → AllGood (alone_by v w)
     → o ≡ note_all P n (alone_by v w)
 alone_noted P n o v w f s c k t d p g =
     let rest = as_tr (kind_of v.kind) v.looked.0 the_loop in

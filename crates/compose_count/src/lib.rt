@@ -3,7 +3,7 @@
 
 mod notes;
 
-ghost use Rattle.std.specs.Prelude.{◌≡◌, false, ◌||◌, List, ℕ, ◌<◌, ◌≤◌, min, length};
+ghost use Rattle.std.specs.Prelude.{◌≡◌, false, List, ℕ, ◌<◌, ◌≤◌, min, length};
 ghost use Rattle.words.specs.Labels.{MAX};
 ghost use Rattle.words.specs.Machines.{limit};
 ghost use Rattle.calls.specs.Store.{find};
@@ -30,25 +30,6 @@ pub enum Room {
     Suffices,
     Lacks,
     Unknown,
-}
-
-// The smaller of two numbers.
-fn fewer(a: u32, b: u32) -> u32
-    ensures { result ≡ min a b }
-{
-    if a < b {
-        return a;
-    }
-    b
-}
-
-fn either(a: bool, b: bool) -> bool
-    ensures { result ≡ (a || b) }
-{
-    if a {
-        return true;
-    }
-    b
 }
 
 // The targets of one class, in an empty set: where it was full it holds some of them.
@@ -89,8 +70,7 @@ fn count_new(
 {
     let mut sum: u32 = 0;
     let mut full = false;
-    let mut class: u32 = 0;
-    while class < classes {
+    for class in 0..classes {
         let counting = Counting {
             plan,
             used,
@@ -102,13 +82,9 @@ fn count_new(
         if left < sum {
             return Room::Lacks;
         }
-        full = either(full, noted.full);
-        class += 1;
+        full |= noted.full;
     }
-    if full {
-        return Room::Unknown;
-    }
-    Room::Suffices
+    if full { Room::Unknown } else { Room::Suffices }
 }
 
 // The same: all in one set where that tells, else class by class.
@@ -134,7 +110,7 @@ fn count_all(
         return Room::Lacks;
     }
     if noted.full {
-        let classes = fewer(left, noted.moves) / CLASS_STEPS + 1;
+        let classes = left.min(noted.moves) / CLASS_STEPS + 1;
         return count_new(mw, mm, heads, states, plan, used, left, classes);
     }
     Room::Suffices

@@ -15,8 +15,6 @@ ghost use Rattle.stored_steps.specs.Storing.{AllGood};
 ghost use Rattle.compose_walk.specs.Plans.{side_by, with_records, eps_by, edge_by, rest_by, plan_steps, Planned};
 ghost use Rattle.compose_count.specs.Notes.{notes_means, class_of, wanted_by, target_by, note_to, note_all};
 
-use crate::either;
-use compose_filters::Filtered;
 use compose_state_tuple::ComposeStateTuple;
 use compose_walk::{Plan, walked_label};
 use compose_weigh::lacks;
@@ -25,8 +23,6 @@ use fst_reads::{first_at, next_at, record_base, tr_at, word_at, word_on};
 use sorted_lists::find;
 use store_records::Used;
 use triple_set::take;
-
-const MAX: u32 = 4294967295;
 
 // Whose steps are gone through, and which targets are looked for: those that the table lacks, of one class of a hash.
 #[derive(Clone, Copy)]
@@ -46,6 +42,7 @@ pub struct Noted {
 }
 
 // The class of a triple, one of so many.
+#[tactic(auto, unfolding(crate::specs::Notes::class_of))]
 fn class_of(classes: u32, tuple: ComposeStateTuple) -> u32
     requires { 0 < classes }
     ensures { result ≡ class_of classes (tuple_means tuple) }
@@ -56,25 +53,12 @@ fn class_of(classes: u32, tuple: ComposeStateTuple) -> u32
 }
 
 // Whether a triple is looked for.
+#[tactic(auto, unfolding(crate::specs::Notes::wanted_by))]
 fn wanted(heads: &[u32], states: &[u32], c: Counting, tuple: ComposeStateTuple) -> bool
     requires { 0 < c.classes }
     ensures { (trs : List ℕ) → result ≡ wanted_by (store_in heads.now states.now trs c.used) c.classes c.class (tuple_means tuple) }
 {
-    if class_of(c.classes, tuple) != c.class {
-        return false;
-    }
-    let used = c.used;
-    lacks(heads, states, used, tuple)
-}
-
-// One step more, up to MAX.
-fn counted(moves: u32) -> u32
-    ensures { result ≡ min (moves + 1) MAX }
-{
-    if moves == MAX {
-        return moves;
-    }
-    moves + 1
+    class_of(c.classes, tuple) == c.class && lacks(heads, states, c.used, tuple)
 }
 
 // A step to a triple.
@@ -102,8 +86,8 @@ fn note(
     );
     Noted {
         held: taken.held,
-        full: either(seen.full, taken.full),
-        moves: counted(seen.moves),
+        full: seen.full | taken.full,
+        moves: seen.moves.saturating_add(1),
     }
 }
 
@@ -148,27 +132,14 @@ fn note_records(
         AllGood steps
         → notes_means chains.new records.new result ≡ note_all (wanted_by d c.classes c.class) (notes_means chains.old records.old seen) steps }
 {
-    let plan = c.plan;
-    let list = plan.list;
-    let on = list.on;
-    let k = word_on(on);
+    let list = c.plan.list;
+    let k = word_on(list.on);
     let mut noted = seen;
     let mut u = from;
-    while u != 0 {
-        if word_at(mm, list.base, u, k) != x.0 {
-            return noted;
-        }
+    while u != 0 && word_at(mm, list.base, u, k) == x.0 {
         let found = tr_at(mm, list.base, u);
-        let t = found.nextstate;
-        noted = note(
-            heads,
-            states,
-            chains,
-            records,
-            c,
-            noted,
-            target(on, fs, s, t),
-        );
+        let tuple = target(list.on, fs, s, found.nextstate);
+        noted = note(heads, states, chains, records, c, noted, tuple);
         u = next_at(mm, list.base, u);
     }
     noted
@@ -193,30 +164,16 @@ fn note_eps(
 {
     let plan = c.plan;
     let list = plan.list;
-    let on = list.on;
-    let looked = plan.looked;
-    let lone = plan.lone_walked;
-    let both = plan.both;
     let mut noted = seen;
-    match lone {
-        Filtered::Kept(fs) => {
-            noted = note(
-                heads,
-                states,
-                chains,
-                records,
-                c,
-                noted,
-                target(on, fs, s, looked),
-            );
-        }
-        Filtered::Dropped => {}
+    if let Some(fs) = plan.lone_walked {
+        let tuple = target(list.on, fs, s, plan.looked);
+        noted = note(heads, states, chains, records, c, noted, tuple);
     }
-    match both {
-        Filtered::Kept(fs) => note_records(
+    match plan.both {
+        Some(fs) => note_records(
             mm, heads, states, chains, records, c, noted, s, fs, EPS_LABEL, list.first,
         ),
-        Filtered::Dropped => noted,
+        None => noted,
     }
 }
 
@@ -239,12 +196,10 @@ fn note_edge(
         ≡ note_all (wanted_by d c.classes c.class) (notes_means chains.old records.old seen) (edge_by c.plan mm.now (tr_means edge) x.0) }
 {
     let s = edge.nextstate;
-    if x.0 == EPS_LABEL.0 {
+    if x == EPS_LABEL {
         return note_eps(mm, heads, states, chains, records, c, seen, s);
     }
-    let plan = c.plan;
-    let list = plan.list;
-    let from = find(mm, list, x);
+    let from = find(mm, c.plan.list, x);
     note_records(mm, heads, states, chains, records, c, seen, s, 0, x, from)
 }
 
@@ -264,15 +219,13 @@ fn note_rest(
         notes_means chains.new records.new result
         ≡ note_all (wanted_by d c.classes c.class) (notes_means chains.old records.old seen) (rest_by c.plan mm.now) }
 {
-    let plan = c.plan;
-    let list = plan.list;
-    let walked = plan.walked;
-    let lone = plan.lone_looked;
-    match lone {
-        Filtered::Kept(fs) => note_records(
-            mm, heads, states, chains, records, c, seen, walked, fs, EPS_LABEL, list.first,
+    let list = c.plan.list;
+    let s = c.plan.walked;
+    match c.plan.lone_looked {
+        Some(fs) => note_records(
+            mm, heads, states, chains, records, c, seen, s, fs, EPS_LABEL, list.first,
         ),
-        Filtered::Dropped => seen,
+        None => seen,
     }
 }
 
@@ -294,15 +247,12 @@ pub fn note_list(
         ≡ note_all (wanted_by d c.classes c.class) (notes_means chains.old records.old seen) (plan_steps c.plan mw.now mm.now) }
 {
     let plan = c.plan;
-    let list = plan.list;
-    let on = list.on;
-    let walked = plan.walked;
     let base = record_base(mw);
     let mut noted = note_rest(mm, heads, states, chains, records, c, seen);
-    let mut t = first_at(mw, walked);
+    let mut t = first_at(mw, plan.walked);
     while t != 0 {
         let edge = tr_at(mw, base, t);
-        let x = walked_label(on, edge);
+        let x = walked_label(plan.list.on, edge);
         noted = note_edge(mm, heads, states, chains, records, c, noted, edge, x);
         t = next_at(mw, base, t);
     }

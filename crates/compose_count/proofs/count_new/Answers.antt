@@ -18,7 +18,10 @@ pub loop-class-init : goal.loop-class-init
 loop-class-init c =
     let a = c.args in
     let steps = plan_steps a.plan a.mw.now a.mm.now in
-    (omega arith, omega arith, λ trs. let z = lacked_first (store_in a.heads.now a.states.now trs a.used) a.classes (length steps) steps in (omega (arith, z), λ e. sym z))
+    record {
+      enough = omega arith;
+      told = λ trs. let z = lacked_first (store_in a.heads.now a.states.now trs a.used) a.classes (length steps) steps in (omega (arith, z), λ e. sym z);
+    }
 
 pub overflow_add-sum : goal.overflow_add-sum
 overflow_add-sum c =
@@ -27,7 +30,7 @@ overflow_add-sum c =
     let steps = plan_steps a.plan a.mw.now a.mm.now in
     let d = store_in a.heads.now a.states.now [] a.used in
     let h = (c.count_class-noted.ensures []).0 in
-    let s = (l.invariant.2 []).0 in
+    let s = (l.invariant.told []).0 in
     let n = lacked_next d a.classes (length steps) steps l.class in
     let m = lacked_most d a.classes (length steps) steps (l.class + 1) in
     let f = c.requires.3 in
@@ -40,7 +43,7 @@ returns-then-left-sum c trs =
     let steps = plan_steps a.plan a.mw.now a.mm.now in
     let d = store_in a.heads.now a.states.now trs a.used in
     let h = (c.count_class-noted.ensures trs).0 in
-    let s = (l.invariant.2 trs).0 in
+    let s = (l.invariant.told trs).0 in
     let n = lacked_next d a.classes (length steps) steps l.class in
     let m = lacked_some d a.classes (length steps) steps (l.class + 1) in
     let t = c.if-left-sum.true in
@@ -51,32 +54,31 @@ loop-class-preserved c =
     let a = c.args in
     let l = c.loop-class in
     let steps = plan_steps a.plan a.mw.now a.mm.now in
-    let t = c.loop-class-test in (
-      c.if-left-sum.false,
-      omega arith,
-      λ trs.
+    record {
+      enough = c.if-left-sum.false;
+      told = λ trs.
           let d = store_in a.heads.now a.states.now trs a.used in
           let w = c.count_class-noted.ensures trs in
           let h = w.0 in
-          let s = l.invariant.2 trs in
+          let s = l.invariant.told trs in
           let least = s.0 in
           let n = lacked_next d a.classes (length steps) steps l.class in (
             omega (arith, h, least, n),
             λ e.
-                let both = neither l.full _ (sym c.either-full.ensures ∙ e) in
+                let both = neither l.full _ e in
                 let x = s.1 both.0 in
                 let y = w.1 both.1 in
                 omega (arith, x, y, n),
-          ),
-    )
+          );
+    }
 
-pub returns : goal.returns
-returns c trs =
+pub returns-else-full : goal.returns-else-full
+returns-else-full c trs =
     let a = c.args in
     let l = c.loop-class in
     let steps = plan_steps a.plan a.mw.now a.mm.now in
     let d = store_in a.heads.now a.states.now trs a.used in
     let z : l.class ≡ a.classes = omega arith in
-    let e = (l.invariant.2 trs).1 c.if-full.false ∙ (ap (lacked_below d a.classes (length steps) steps) z ∙ lacked_last d a.classes (length steps) steps c.requires.0) in
-    let h = l.invariant.0 in
+    let e = (l.invariant.told trs).1 c.if-full.false ∙ (ap (lacked_below d a.classes (length steps) steps) z ∙ lacked_last d a.classes (length steps) steps c.requires.0) in
+    let h = l.invariant.enough in
     omega (arith, e, h)

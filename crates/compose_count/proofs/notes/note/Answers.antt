@@ -1,4 +1,5 @@
 -- The set is what `take` leaves, and the rest is kept beside it.
+use mathlib.Core.Path.{refl}
 use Rattle.compose_state_tuple.specs.Meaning.{tuple_means}
 use Rattle.triple_set.specs.Sets.{taken_means}
 use Rattle.compose_count.specs.Notes.{notes_means}
@@ -11,5 +12,5 @@ returns c =
     let x = c.take-taken in
     λ trs.
     noted_is (wanted_in a.heads.now a.states.now a.c trs) (notes_means a.chains.now a.records.now a.seen) (tuple_means a.tuple)
-    c.wanted.result (taken_means x.result x.new.heads x.new.records) c.either.result c.counted.result
-    (c.wanted.ensures trs) x.ensures c.either.ensures c.counted.ensures
+    c.wanted.result (taken_means x.result x.new.heads x.new.records) _ c.saturating_add.result
+    (c.wanted.ensures trs) x.ensures refl c.saturating_add.ensures

@@ -3,6 +3,7 @@ use mathlib.Core.Path.{refl, sym, subst}
 use Rattle.std.specs.Prelude.{Some}
 use Rattle.words.specs.Weights.{kind_of}
 use Rattle.fst.specs.Meaning.{tr_means}
+use Rattle.fst.proofs.Tests.{fails, holds}
 use Rattle.matchers.specs.Cursors.{with_label}
 use Rattle.stored_steps.specs.Storing.{AllGood}
 use Rattle.compose_walk.specs.Plans.{side_by, with_records, eps_by, edge_by}
@@ -12,11 +13,11 @@ use Rattle.compose_count.proofs.NoteLaws.{wanted_in, as_noted}
 use Rattle.compose_count.proofs.NoteEdges.{found_rising}
 use Rattle.compose_count.proofs.notes.note_edge.Goals as goal
 
-pub returns-then-x : goal.returns-then-x
-returns-then-x c =
+pub returns-then-eq : goal.returns-then-eq
+returns-then-eq c =
     let a = c.args in
     let w = tr_means a.edge in
-    let e = edge_eps a.c.plan a.mm.now w a.x.0 c.if-x.true in
+    let e = edge_eps a.c.plan a.mm.now w a.x.0 (holds c.eq.ensures c.if-eq.true) in
     let x = c.note_eps in
     λ trs.
     as_noted (wanted_in a.heads.now a.states.now a.c trs) (notes_means a.chains.now a.records.now a.seen) (notes_means x.new.chains x.new.records x.result)
@@ -40,7 +41,7 @@ returns c =
     let a = c.args in
     let f = c.find-from in
     let w = tr_means a.edge in
-    let e = edge_from a.c.plan a.mm.now w a.x.0 f.result c.if-x.false f.ensures in
+    let e = edge_from a.c.plan a.mm.now w a.x.0 f.result (fails c.eq.ensures c.if-eq.false) f.ensures in
     let x = c.note_records in
     let v = a.c.plan in
     λ trs.

@@ -19,22 +19,14 @@ note_rest-noted-requires c =
     let p = c.requires in
     (p.0, p.1.known, (plan_parts a.c.plan a.mw.now a.mm.now p.2).0)
 
-pub first_at-t-requires : goal.first_at-t-requires
-first_at-t-requires c = let p = c.requires in (p.1.form, p.1.walked)
-
 pub loop-t-init : goal.loop-t-init
 loop-t-init c =
     let a = c.args in
-    let v = a.c.plan in (
-      refl,
-      refl,
-      subst (λ (t : ℕ). t ≤ tr_count a.mw.now) (sym c.first_at-t.ensures) (first_inside _ _),
-      subst (λ (t : ℕ). AllGood (edges_by v a.mw.now a.mm.now t)) (sym c.first_at-t.ensures) (plan_parts v a.mw.now a.mm.now c.requires.2).1,
-      λ trs. refl,
-    )
-
-pub tr_at-edge-requires : goal.tr_at-edge-requires
-tr_at-edge-requires c = (c.requires.1.form, c.record_base-base.ensures, (omega (arith, c.loop-t-test.true), c.loop-t.invariant.2))
+    let v = a.c.plan in record {
+      inside = subst (λ (t : ℕ). t ≤ tr_count a.mw.now) (sym c.first_at-t.ensures) (first_inside _ _);
+      good = subst (λ (t : ℕ). AllGood (edges_by v a.mw.now a.mm.now t)) (sym c.first_at-t.ensures) (plan_parts v a.mw.now a.mm.now c.requires.2).1;
+      left = λ trs. refl;
+    }
 
 pub note_edge-noted-requires : goal.note_edge-noted-requires
 note_edge-noted-requires c =
@@ -43,13 +35,10 @@ note_edge-noted-requires c =
     let l = c.loop-t in
     let r = c.tr_at-edge in
     let x = c.walked_label-x in
-    (p.0, p.1.known, edges_good a.c.plan a.mw.now a.mm.now l.t (tr_means r.result) x.result.0 c.loop-t-test.true l.invariant.2 r.ensures x.ensures l.invariant.3)
-
-pub next_at-t-requires : goal.next_at-t-requires
-next_at-t-requires c = (c.requires.1.form, c.record_base-base.ensures, (omega (arith, c.loop-t-test.true), c.loop-t.invariant.2))
+    (p.0, p.1.known, edges_good a.c.plan a.mw.now a.mm.now l.t (tr_means r.result) x.result.0 c.loop-t-test.true l.invariant.inside r.ensures x.ensures l.invariant.good)
 
 pub loop-t-smaller : goal.loop-t-smaller
-loop-t-smaller c = let e = ap length (list_turn _ _ c.loop-t-test.true c.loop-t.invariant.2) in rw c.next_at-t.ensures (omega (arith, e))
+loop-t-smaller c = let e = ap length (list_turn _ _ c.loop-t-test.true c.loop-t.invariant.inside) in rw c.next_at-t.ensures (omega (arith, e))
 
 pub loop-t-preserved : goal.loop-t-preserved
 loop-t-preserved c =
@@ -60,17 +49,15 @@ loop-t-preserved c =
     let x = c.walked_label-x in
     let w = c.note_edge-noted in
     let u = c.next_at-t in
-    let v = a.c.plan in (
-      w.auto.chains ∙ l.invariant.0,
-      w.auto.records ∙ l.invariant.1,
-      subst (λ (t : ℕ). t ≤ tr_count a.mw.now) (sym u.ensures) (link _ _).inside,
-      edges_left v a.mw.now a.mm.now l.t (tr_means r.result) x.result.0 n l.invariant.2 r.ensures x.ensures u.result u.ensures l.invariant.3,
-      λ trs.
-          edges_noted v a.mw.now a.mm.now l.t (tr_means r.result) x.result.0 n l.invariant.2 r.ensures x.ensures
+    let v = a.c.plan in record {
+      inside = subst (λ (t : ℕ). t ≤ tr_count a.mw.now) (sym u.ensures) (link _ _).inside;
+      good = edges_left v a.mw.now a.mm.now l.t (tr_means r.result) x.result.0 n l.invariant.inside r.ensures x.ensures u.result u.ensures l.invariant.good;
+      left = λ trs.
+          edges_noted v a.mw.now a.mm.now l.t (tr_means r.result) x.result.0 n l.invariant.inside r.ensures x.ensures
           (wanted_in a.heads.now a.states.now a.c trs) (notes_means l.chains l.records l.noted) (notes_means w.new.chains w.new.records w.result)
           u.result u.ensures (w.ensures trs)
-          ∙ l.invariant.4 trs,
-    )
+          ∙ l.invariant.left trs;
+    }
 
 pub returns : goal.returns
 returns c =
@@ -82,5 +69,5 @@ returns c =
     λ trs.
     let P = wanted_in a.heads.now a.states.now a.c trs in
     note_none P (notes_means l.chains l.records l.noted) (edges_by v a.mw.now a.mm.now l.t) (edges_end v a.mw.now a.mm.now l.t c.loop-t-test.false)
-    ∙ (l.invariant.4 trs
+    ∙ (l.invariant.left trs
     ∙ plan_noted v a.mw.now a.mm.now P (notes_means a.chains.now a.records.now a.seen) (notes_means w.new.chains w.new.records w.result) s.result s.ensures (w.ensures trs))

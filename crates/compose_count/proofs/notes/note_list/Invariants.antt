@@ -11,12 +11,13 @@ use Rattle.compose_count.proofs.NoteLaws.{wanted_in}
 use Rattle.compose_count.proofs.notes.note_list.Given as goal
 
 abbrev pub invariant-loop-t : goal.invariant-loop-t
-invariant-loop-t l =
-    (length l.chains ≡ length l.initial.chains) × (length l.records ≡ length l.initial.records)
-    × (l.t ≤ tr_count l.mw)
-    × AllGood (edges_by l.c.plan l.mw l.mm l.t)
-    × ((trs : List ℕ) →
-    note_all (wanted_in l.heads l.states l.c trs) (notes_means l.chains l.records l.noted) (edges_by l.c.plan l.mw l.mm l.t) ≡ note_all (wanted_in l.heads l.states l.c trs) (notes_means l.initial.chains l.initial.records l.initial.noted) (edges_by l.c.plan l.mw l.mm l.initial.t))
+invariant-loop-t l = record {
+  inside : l.t ≤ tr_count l.mw;
+  good : AllGood (edges_by l.c.plan l.mw l.mm l.t);
+  left : (trs : List ℕ) →
+      let P = wanted_in l.heads l.states l.c trs in
+      note_all P (notes_means l.chains l.records l.noted) (edges_by l.c.plan l.mw l.mm l.t) ≡ note_all P (notes_means l.initial.chains l.initial.records l.initial.noted) (edges_by l.c.plan l.mw l.mm l.initial.t);
+}
 
 abbrev pub decreases-loop-t : goal.decreases-loop-t
 decreases-loop-t l = length (list_from l.mw l.t)
