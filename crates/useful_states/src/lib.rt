@@ -18,14 +18,11 @@ fn run(states: &[u32], trs: &[u32], used: u32, work: &mut [u64], from: Found, mo
         found_means result work.new ≡ run_of L most (found_means from work.old) }
 {
     let mut f = from;
-    let mut left = most;
-    while left > 0 {
+    for _ in 0..most {
         if f.done {
             return f;
         }
-        let p = f.at;
-        f = step(states, trs, used, work, p);
-        left -= 1;
+        f = step(states, trs, used, work, f.at);
     }
     f
 }
