@@ -58,13 +58,9 @@ pub fn count_kept(states: &[u32], trs: &[u32], used: Used, work: &[u64]) -> u64
     requires { (used.states ≤ limit) × (used.trs ≤ limit) }
     ensures { (heads : List ℕ) (c : Composition) → result ≡ trs_in (rows_from c (store_in heads states.now trs.now used) work.now 0) }
 {
-    let count = used.states;
-    let last = used.trs;
     let mut total: u64 = 0;
-    let mut n: u32 = 0;
-    while n < count {
-        total += count_of(states, trs, last, work, n);
-        n += 1;
+    for n in 0..used.states {
+        total += count_of(states, trs, used.trs, work, n);
     }
     total
 }

@@ -10,6 +10,7 @@ use work_words::{high_of, low_of, store64};
 const ALIVE: u32 = 2;
 
 // The new number plus one of state n; 0: it is not kept.
+#[tactic(auto, unfolding(crate::specs::Passes::number_in))]
 pub fn number_of(work: &[u64], n: u32) -> u32
     ensures { result ≡ number_in work.now n }
 {
@@ -37,10 +38,8 @@ pub fn number_states(work: &mut [u64], count: u32) -> u32
     ensures words { work.new ≡ numbered_up_to work.old count }
 {
     let mut kept: u32 = 0;
-    let mut n: u32 = 0;
-    while n < count {
+    for n in 0..count {
         kept = number_state(work, n, kept);
-        n += 1;
     }
     kept
 }

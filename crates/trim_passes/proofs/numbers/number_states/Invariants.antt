@@ -1,12 +1,8 @@
 use mathlib.Core.Path.{◌≡◌}
 use lib.ListN.{length}
 use Rattle.lists.specs.Lists.{keep_if, interval}
-use Prim.Native.Nat.{◌-◌, ◌≤◌}
 use Rattle.trim_passes.specs.Passes.{is_alive, numbered_up_to}
 use Rattle.trim_passes.proofs.numbers.number_states.Given as goal
 
 abbrev pub invariant-loop-n : goal.invariant-loop-n
-invariant-loop-n l = (l.n ≤ l.count) × (l.kept ≡ length (keep_if (is_alive l.initial.work) (interval 0 l.n))) × (l.work ≡ numbered_up_to l.initial.work l.n)
-
-abbrev pub decreases-loop-n : goal.decreases-loop-n
-decreases-loop-n l = l.count - l.n
+invariant-loop-n l = (l.kept ≡ length (keep_if (is_alive l.initial.work) (interval 0 l.n))) × (l.work ≡ numbered_up_to l.initial.work l.n)
