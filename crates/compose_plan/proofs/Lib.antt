@@ -1,5 +1,4 @@
--- Room and lists of a plan; the plain direction and look-up; that the bounds shut out every refusal; that a plan's steps are those of the state.
-pub mod Rooms
+-- Lists of a plan; the plain direction and look-up; that the bounds shut out every refusal; that a plan's steps are those of the state.
 pub mod Lists
 pub mod Plain
 pub mod Sorted

@@ -20,7 +20,6 @@ use Rattle.fst.specs.Meaning.{on_of, as_operand}
 use Rattle.matchers.specs.Meaning.{the_loop}
 use Rattle.match_type.specs.Chosen.{side_means}
 use Rattle.compose_bounds.specs.Serving.{plain_direction}
-use Rattle.compose_filters.specs.Meaning.{filtered_means}
 use Rattle.compose_fst_op.specs.Composing.{option_settings, composing_words}
 use Rattle.compose_fst_op.specs.declared.ComposeFstOpOptions.{ComposeFstOpOptions}
 use Rattle.compose_moves.specs.Moves.{as_tr, step_if}
@@ -83,9 +82,9 @@ module _ (o : ComposeFstOpOptions) (m1 m2 a1 a2 : List ℕ) (t : Triple) where
     first : v.list.first ≡ first_of (looked_words d m1 m2) (looked_state d t)
     walked : v.walked.0 ≡ walked_state d t
     looked : v.looked.0 ≡ looked_state d t
-    lone_walked_lem : filtered_means v.lone_walked ≡ filter_of o.filter (lone_walked d) φ t.f
-    lone_looked_lem : filtered_means v.lone_looked ≡ filter_of o.filter (lone_looked d) φ t.f
-    both : filtered_means v.both ≡ filter_of o.filter bothEpsilon φ t.f
+    lone_walked_lem : v.lone_walked ≡ filter_of o.filter (lone_walked d) φ t.f
+    lone_looked_lem : v.lone_looked ≡ filter_of o.filter (lone_looked d) φ t.f
+    both : v.both ≡ filter_of o.filter bothEpsilon φ t.f
 
   -- what the moves make in each direction
   joins_inputs : (v : Plan) → Values v inputs → Joins v m1 m2 A.sigma B.sigma F inputs
@@ -103,7 +102,7 @@ module _ (o : ComposeFstOpOptions) (m1 m2 a1 a2 : List ℕ) (t : Triple) where
     alone = λ u. made_is (move_of outputs (own u) loop) _ _ _ _ (ap kind_of h.kind) (same_rest (ap kind_of h.kind) h.looked) refl h.lone_walked_lem;
     pairs = λ u w e.
         made_is (move_of outputs (own u) (own w)) _ _ _ _ (ap kind_of h.kind) refl refl
-        (ap (λ (x : ℕ). cond (eqb x eps_label) (filtered_means v.both) (Some 0)) (sym e) ∙ pair_cell o.filter φ t.f _ (eqb (inner A w) eps_label) h.both);
+        (ap (λ (x : ℕ). cond (eqb x eps_label) v.both (Some 0)) (sym e) ∙ pair_cell o.filter φ t.f _ (eqb (inner A w) eps_label) h.both);
   }
 
   -- in a direction

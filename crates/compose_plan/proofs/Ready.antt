@@ -32,11 +32,11 @@ module _ {o : ComposeFstOpOptions} {m1 m2 : List ℕ} {t : Triple} {f1 f2 : List
   pub sorted_way : sorted (on_of on) (machine_of (looked_words (on_of on) m1 m2)) ≡ true
   sorted_way = subst (λ (d : MatchType). sorted d (machine_of (looked_words d m1 m2)) ≡ true) (sym way) (looked_sorted (p [] []))
 
-  module _ (plain : no_sigma (option_settings o) ≡ true) (l : SortedList) (side : l.on ≡ on) (known : Known (looked_words (on_of on) m1 m2) l)
-      (first : l.first ≡ first_of (looked_words (on_of on) m1 m2) (looked_state (on_of on) t)) (φ : Facts)
-      (seen : φ ≡ facts_at (as_operand outputs m1 no_label) (as_operand inputs m2 no_label) t.s1 t.s2) (v : Plan) (is : PlanOf o φ t l v) where
+  module _ (plain : no_sigma (option_settings o) ≡ true) {l : SortedList} {φ : Facts} {v : Plan}
+      (list : Known (looked_words (on_of on) m1 m2) l × (l.on ≡ on) × (l.first ≡ first_of (looked_words (on_of on) m1 m2) (looked_state (on_of on) t)))
+      (seen : φ ≡ facts_at (as_operand outputs m1 no_label) (as_operand inputs m2 no_label) t.s1 t.s2) (is : PlanOf o φ t l v) where
     pub planned : Planned v (walked_words (on_of on) m1 m2) (looked_words (on_of on) m1 m2)
-    planned = go (on_of on) (is.walked ∙ ap (λ (s : Side). walked_state (on_of s) t) side) (subst (Known (looked_words (on_of on) m1 m2)) (sym is.list) known)
+    planned = go (on_of on) (is.walked ∙ ap (λ (s : Side). walked_state (on_of s) t) list.1) (subst (Known (looked_words (on_of on) m1 m2)) (sym is.list) list.0)
       where
         go : (d : MatchType) → v.walked.0 ≡ walked_state d t → Known (looked_words d m1 m2) v.list → Planned v (walked_words d m1 m2) (looked_words d m1 m2)
         go inputs e k = record { form = (p [] []).formed1; walked = subst (λ (s : ℕ). s < state_count m1) (sym e) (p [] []).inside1; known = k }
@@ -44,7 +44,7 @@ module _ {o : ComposeFstOpOptions} {m1 m2 : List ℕ} {t : Triple} {f1 f2 : List
 
     pub planned_steps : (a1 a2 : List ℕ) → steps_at (composing_words o m1 m2 a1 a2) t ≡ plan_steps v (walked_words (on_of on) m1 m2) (looked_words (on_of on) m1 m2)
     planned_steps a1 a2 =
-        subst (λ (s : Side). steps_at (composing_words o m1 m2 a1 a2) t ≡ plan_steps v (walked_words (on_of s) m1 m2) (looked_words (on_of s) m1 m2)) side
-        (plan_steps_lem (p a1 a2) plain l v (ap on_of side ∙ way)
-        (subst (λ (s : Side). l.first ≡ first_of (looked_words (on_of s) m1 m2) (looked_state (on_of s) t)) (sym side) first)
+        subst (λ (s : Side). steps_at (composing_words o m1 m2 a1 a2) t ≡ plan_steps v (walked_words (on_of s) m1 m2) (looked_words (on_of s) m1 m2)) list.1
+        (plan_steps_lem (p a1 a2) plain l v (ap on_of list.1 ∙ way)
+        (subst (λ (s : Side). l.first ≡ first_of (looked_words (on_of s) m1 m2) (looked_state (on_of s) t)) (sym list.1) list.2)
         (subst (λ (f : Facts). PlanOf o f t l v) seen is))

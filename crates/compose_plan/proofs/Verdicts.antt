@@ -1,6 +1,7 @@
 -- What an exact weighing tells of storing: no refusal, and the steps fit; or 13.
 use mathlib.Core.Path.{◌≡◌, sym, ◌∙◌, ap, subst}
 use mathlib.Core.List.{List}
+use Rattle.std.specs.Prelude.{Option, Result}
 use Prim.Native.Nat.{ℕ}
 use Rattle.words.specs.Labels.{Checked, good, refused, and_then}
 use Rattle.words.specs.Steps.{Step}
@@ -9,10 +10,10 @@ use Rattle.calls.specs.Store.{Store}
 use Rattle.calls.specs.Calls.{store_steps}
 use Rattle.stored_steps.specs.Storing.{Accepted, Fits}
 use Rattle.stored_steps.proofs.AllSteps.{accepted_fits}
+use Rattle.fst.specs.declared.refusals.Refusal.{Refusal}
 use Rattle.store_records.specs.declared.Used.{Used}
 use Rattle.compose_weigh.specs.Weigh.{weigh_of}
 use Rattle.compose_plan.specs.Storing.{StoredIs}
-use Rattle.compose_plan.specs.declared.Stored.{Stored}
 
 module _ (d : Store) (steps : List (Checked Step)) (exact : weigh_of d steps ≡ and_then (store_steps d steps) (λ e. good tt)) where
   pub clear_fits : weigh_of d steps ≡ good tt → Fits d steps
@@ -30,5 +31,5 @@ module _ (d : Store) (steps : List (Checked Step)) (exact : weigh_of d steps ≡
       go (refused n) h = ap refused (refused_is h)
 
 -- what became of steps, said of the same steps in other words
-pub stored_by : (d : Store) (u : Used) (heads states trs : List ℕ) (r : Stored) {a b : List (Checked Step)} → a ≡ b → StoredIs d u a heads states trs r → StoredIs d u b heads states trs r
+pub stored_by : (d : Store) (u : Used) (heads states trs : List ℕ) (r : Result (Option Used) Refusal) {a b : List (Checked Step)} → a ≡ b → StoredIs d u a heads states trs r → StoredIs d u b heads states trs r
 stored_by d u heads states trs r e h = subst (λ (l : List (Checked Step)). StoredIs d u l heads states trs r) e h

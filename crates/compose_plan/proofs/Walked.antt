@@ -19,7 +19,6 @@ use Rattle.words.proofs.PapersLookup.{owns, of_labelled}
 use Rattle.matchers.specs.Meaning.{the_loop}
 use Rattle.matchers.specs.Cursors.{with_label}
 use Rattle.matchers.proofs.Seeks.{with_first}
-use Rattle.compose_filters.specs.Meaning.{filtered_means}
 use Rattle.compose_moves.specs.Moves.{as_tr}
 use Rattle.compose_moves.specs.Walks.{walked_side}
 use Rattle.compose_moves.proofs.Flat.{flat_append, flat_same, flat_map_lem, flat_flat}
@@ -45,10 +44,10 @@ module _ (v : Plan) (mw mm : List ℕ) (σw σm : Sigma) (F : Checked Move → L
 
   -- what each move makes in the direction d: a lone one of the machine that is looked up, a lone one of the other, and two with one label
   pub record Joins (d : MatchType) : Type 0 where
-    pub rests : (u : ℕ) → F (good (move_of d loop (own u))) ≡ joined_by d kind (as_tr kind v.walked.0 the_loop) (tr_of (machine_of mm) u) (filtered_means v.lone_looked)
-    pub alone : (t : ℕ) → F (good (move_of d (own t) loop)) ≡ joined_by d kind (tr_of (machine_of mw) t) (as_tr kind v.looked.0 the_loop) (filtered_means v.lone_walked)
+    pub rests : (u : ℕ) → F (good (move_of d loop (own u))) ≡ joined_by d kind (as_tr kind v.walked.0 the_loop) (tr_of (machine_of mm) u) v.lone_looked
+    pub alone : (t : ℕ) → F (good (move_of d (own t) loop)) ≡ joined_by d kind (tr_of (machine_of mw) t) (as_tr kind v.looked.0 the_loop) v.lone_walked
     pub pairs : (t u : ℕ) → inner (M d) u ≡ inner (W d) t
-        → F (good (move_of d (own t) (own u))) ≡ joined_by d kind (tr_of (machine_of mw) t) (tr_of (machine_of mm) u) (cond (eqb (inner (W d) t) eps_label) (filtered_means v.both) (Some 0))
+        → F (good (move_of d (own t) (own u))) ≡ joined_by d kind (tr_of (machine_of mw) t) (tr_of (machine_of mm) u) (cond (eqb (inner (W d) t) eps_label) v.both (Some 0))
 
   module _ (form : well_formed mw ≡ true) (plain : σm.label ≡ no_label) (first : v.list.first ≡ first_of mm v.looked.0) where
     abbrev d : MatchType
@@ -68,11 +67,11 @@ module _ (v : Plan) (mw mm : List ℕ) (σw σm : Sigma) (F : Checked Move → L
     module _ (joins : Joins d) where
       -- a walked transition with each record of its label
       paired : (t : ℕ) (b : Bool) (x : ℕ) → eqb (inner (W d) t) eps_label ≡ b → inner (W d) t ≡ x
-          → flat_map F (map (λ u. good (move_of d (own t) (own u))) (labelled d (machine_of mm) sm x)) ≡ with_labelled v mm (tr_of (machine_of mw) t) (cond b (filtered_means v.both) (Some 0)) x
+          → flat_map F (map (λ u. good (move_of d (own t) (own u))) (labelled d (machine_of mm) sm x)) ≡ with_labelled v mm (tr_of (machine_of mw) t) (cond b v.both (Some 0)) x
       paired t b x e z =
           flat_map_lem F (λ u. good (move_of d (own t) (own u))) (labelled d (machine_of mm) sm x)
-          ∙ with_label_lem (λ u. F (good (move_of d (own t) (own u)))) (tr_of (machine_of mw) t) (cond b (filtered_means v.both) (Some 0)) x
-          (λ u h. subst (λ (c : Bool). F (good (move_of d (own t) (own u))) ≡ joined_by d kind (tr_of (machine_of mw) t) (tr_of (machine_of mm) u) (cond c (filtered_means v.both) (Some 0))) e (joins.pairs t u (h ∙ sym z)))
+          ∙ with_label_lem (λ u. F (good (move_of d (own t) (own u)))) (tr_of (machine_of mw) t) (cond b v.both (Some 0)) x
+          (λ u h. subst (λ (c : Bool). F (good (move_of d (own t) (own u))) ≡ joined_by d kind (tr_of (machine_of mw) t) (tr_of (machine_of mm) u) (cond c v.both (Some 0))) e (joins.pairs t u (h ∙ sym z)))
 
       -- one walked transition
       edge : (t : ℕ) → In t (list_of mw v.walked.0) → flat_map F (moves_of_tr d (W d) (M d) sm t) ≡ record_by v mw mm t
@@ -96,7 +95,7 @@ module _ (v : Plan) (mw mm : List ℕ) (σw σm : Sigma) (F : Checked Move → L
           ∙ flat_append F (map (λ u. good (move_of d loop (own u))) (epsilons (M d) sm)) (flat_map (moves_of_tr d (W d) (M d) sm) (list_of mw v.walked.0))
           ∙ ap₂ ◌++◌
           (flat_map_lem F (λ u. good (move_of d loop (own u))) (epsilons (M d) sm)
-          ∙ with_label_lem (λ u. F (good (move_of d loop (own u)))) (as_tr kind v.walked.0 the_loop) (filtered_means v.lone_looked) eps_label (λ u h. joins.rests u))
+          ∙ with_label_lem (λ u. F (good (move_of d loop (own u)))) (as_tr kind v.walked.0 the_loop) v.lone_looked eps_label (λ u h. joins.rests u))
           (flat_flat F (moves_of_tr d (W d) (M d) sm) (list_of mw v.walked.0) ∙ flat_same _ (record_by v mw mm) (list_of mw v.walked.0) edge)
 
     -- in the direction of the plan

@@ -9,7 +9,6 @@ use Rattle.words.specs.Sides.{side_of}
 use Rattle.words.specs.Filters.{filter_of}
 use Rattle.words.specs.Steps.{Triple}
 use Rattle.fst.specs.Meaning.{on_of}
-use Rattle.compose_filters.specs.Meaning.{filtered_means}
 use Rattle.compose_fst_op.specs.Composing.{composing_words}
 use Rattle.compose_fst_op.specs.declared.ComposeFstOpOptions.{ComposeFstOpOptions}
 use Rattle.compose_moves.specs.Walks.{walked_state, looked_state}
@@ -48,6 +47,6 @@ pub record PlanOf (o : ComposeFstOpOptions) (φ : Facts) (t : Triple) (l : Sorte
   pub list : v.list ≡ l
   pub walked : v.walked.0 ≡ walked_state (on_of l.on) t
   pub looked : v.looked.0 ≡ looked_state (on_of l.on) t
-  pub lone_walked_lem : filtered_means v.lone_walked ≡ filter_of o.filter (lone_walked (on_of l.on)) φ t.f
-  pub lone_looked_lem : filtered_means v.lone_looked ≡ filter_of o.filter (lone_looked (on_of l.on)) φ t.f
-  pub both : filtered_means v.both ≡ filter_of o.filter bothEpsilon φ t.f
+  pub lone_walked_lem : v.lone_walked ≡ filter_of o.filter (lone_walked (on_of l.on)) φ t.f
+  pub lone_looked_lem : v.lone_looked ≡ filter_of o.filter (lone_looked (on_of l.on)) φ t.f
+  pub both : v.both ≡ filter_of o.filter bothEpsilon φ t.f

@@ -18,14 +18,7 @@ const MAX: u64 = 4294967295;
 pub fn no_sigma(options: ComposeFstOpOptions) -> bool
     ensures { result ≡ no_sigma (option_settings options) }
 {
-    let sigma1 = options.sigma1;
-    let sigma2 = options.sigma2;
-    let label1 = sigma1.label;
-    let label2 = sigma2.label;
-    if label1.0 != NO_LABEL.0 {
-        return false;
-    }
-    label2.0 == NO_LABEL.0
+    options.sigma1.label == NO_LABEL && options.sigma2.label == NO_LABEL
 }
 
 // No product of a weight up to a and one up to b is too large.
@@ -33,9 +26,10 @@ pub fn weights_fit(kind: u32, a: u32, b: u32) -> bool
     ensures { result ≡ weights_fit (kind_of kind) a b }
 {
     if kind == 0 {
-        return (a as u64) + (b as u64) < MAX;
+        (a as u64) + (b as u64) < MAX
+    } else {
+        (a as u64) * (b as u64) <= MAX
     }
-    (a as u64) * (b as u64) <= MAX
 }
 
 // The most moves that a walk can have.
@@ -58,23 +52,19 @@ fn most_by(on: MatchType, facts1: ListFacts, facts2: ListFacts) -> u64
 fn left(room: u32, used: u32, n: u64) -> bool
     ensures { result ≡ leb (used + n) room }
 {
-    if room < used {
-        return false;
-    }
-    n <= ((room - used) as u64)
+    used <= room && n <= ((room - used) as u64)
 }
 
 // Whether there is a record of each sort for each of n moves.
+#[tactic(auto, unfolding(crate::specs::Serves::room_for, calls::specs::Store::state_room_with, calls::specs::Store::tr_room_with))]
 fn room_for(states: &[u32], trs: &[u32], used: Used, n: u64) -> bool
     ensures { (heads : List ℕ) → result ≡ room_for (stored heads states.now trs.now used.states used.trs) n }
 {
-    if !left(state_room(states), used.states, n) {
-        return false;
-    }
-    left(tr_room(trs), used.trs, n)
+    left(state_room(states), used.states, n) && left(tr_room(trs), used.trs, n)
 }
 
 // Whether the bounds shut out every refusal of an expansion in this direction.
+#[tactic(auto, unfolding(crate::specs::Serves::serves_of))]
 pub fn serves(
     states: &[u32],
     trs: &[u32],
@@ -88,11 +78,7 @@ pub fn serves(
         let d = stored heads states.now trs.now used.states used.trs in
         result ≡ serves_of (option_settings options) (on_of on) d facts1 facts2 }
 {
-    if !no_sigma(options) {
-        return false;
-    }
-    if !weights_fit(options.kind, facts1.most, facts2.most) {
-        return false;
-    }
-    room_for(states, trs, used, most_by(on, facts1, facts2))
+    no_sigma(options)
+        && weights_fit(options.kind, facts1.most, facts2.most)
+        && room_for(states, trs, used, most_by(on, facts1, facts2))
 }

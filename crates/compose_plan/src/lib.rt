@@ -32,7 +32,7 @@ use compose_filters::{Facts, MoveKind, filter_tr};
 use compose_fst_op::ComposeFstOpOptions;
 use compose_state_tuple::ComposeStateTuple;
 use compose_walk::{Plan, walk_list};
-use fst::{MatchType, StateId, is_final};
+use fst::{MatchType, Refusal, StateId, is_final};
 use fst_reads::{first_at, record_base};
 use list_facts::ListFacts;
 use match_type::Side;
@@ -45,12 +45,8 @@ pub fn direction(side: Side, len1: u32, len2: u32) -> MatchType
 {
     match side {
         Side::Only(on) => on,
-        Side::Both => {
-            if len1 <= len2 {
-                return MatchType::MatchInput;
-            }
-            MatchType::MatchOutput
-        }
+        Side::Both if len1 <= len2 => MatchType::MatchInput,
+        Side::Both => MatchType::MatchOutput,
     }
 }
 
@@ -58,10 +54,7 @@ pub fn direction(side: Side, len1: u32, len2: u32) -> MatchType
 fn all_eps(m: &[u32], s: StateId, facts: ListFacts) -> bool
     ensures { result ≡ all_by ((machine_of m.now).is_final s.0) facts }
 {
-    if facts.eps != facts.len {
-        return false;
-    }
-    !is_final(m, s)
+    facts.eps == facts.len && !is_final(m, s)
 }
 
 // What a filter sees of a pair of states, by the facts of their lists.
@@ -109,30 +102,26 @@ fn plan_of(
 ) -> Plan
     ensures { PlanOf options (facts_mean facts) (tuple_means tuple) list result }
 {
-    let on = list.on;
-    let s1 = tuple.s1;
-    let s2 = tuple.s2;
     let lone1 = filter_tr(options.filter, MoveKind::Lone1, facts, tuple.fs);
     let lone2 = filter_tr(options.filter, MoveKind::Lone2, facts, tuple.fs);
     let both = filter_tr(options.filter, MoveKind::BothEpsilon, facts, tuple.fs);
-    match on {
-        MatchType::MatchInput => Plan {
-            kind: options.kind,
-            lone_walked: lone1,
-            lone_looked: lone2,
-            both,
-            walked: s1,
-            looked: s2,
-            list,
-        },
+    let first_walked = Plan {
+        kind: options.kind,
+        lone_walked: lone1,
+        lone_looked: lone2,
+        both,
+        walked: tuple.s1,
+        looked: tuple.s2,
+        list,
+    };
+    match list.on {
+        MatchType::MatchInput => first_walked,
         MatchType::MatchOutput => Plan {
-            kind: options.kind,
             lone_walked: lone2,
             lone_looked: lone1,
-            both,
-            walked: s2,
-            looked: s1,
-            list,
+            walked: tuple.s2,
+            looked: tuple.s1,
+            ..first_walked
         },
     }
 }
@@ -160,30 +149,23 @@ pub fn store_plain(
         store_in heads.new states.new trs.new result
         ≡ store_all d (steps_at (composing_words options m1.now m2.now a1 a2) (tuple_means tuple)) }
 {
-    let s1 = tuple.s1;
-    let s2 = tuple.s2;
-    let facts = seen(m1, m2, s1, s2, facts1, facts2);
+    let facts = seen(m1, m2, tuple.s1, tuple.s2, facts1, facts2);
     match on {
         MatchType::MatchInput => {
-            let list = looked_up(m2, MatchType::MatchInput, s2, facts2);
+            let list = looked_up(m2, MatchType::MatchInput, tuple.s2, facts2);
             let plan = plan_of(options, facts, tuple, list);
             walk_list(m1, m2, heads, states, trs, plan, used)
         }
         MatchType::MatchOutput => {
-            let list = looked_up(m1, MatchType::MatchOutput, s1, facts1);
+            let list = looked_up(m1, MatchType::MatchOutput, tuple.s1, facts1);
             let plan = plan_of(options, facts, tuple, list);
             walk_list(m2, m1, heads, states, trs, plan, used)
         }
     }
 }
 
-// What became of the steps of a composed state: stored, with the used counts after them; 13, for lack of room; or nothing, and nothing is told.
-#[derive(Clone, Copy)]
-pub enum Stored {
-    After(Used),
-    Lacks,
-    Unknown,
-}
+// What became of the steps of a composed state: stored, with the used counts after them; or nothing, and nothing is told; or refused for lack of room.
+pub type Stored = Result<Option<Used>, Refusal>;
 
 // The steps of a plan, none of which is a refusal: counted where their room is not sure, and stored where it suffices.
 fn count_and_walk(
@@ -203,13 +185,12 @@ fn count_and_walk(
         StoredIs d used (plan_steps plan mw.now mm.now) heads.new states.new trs.new result }
 {
     if sure {
-        return Stored::After(walk_list(mw, mm, heads, states, trs, plan, used));
+        return Ok(Some(walk_list(mw, mm, heads, states, trs, plan, used)));
     }
-    let room = weigh_plain(mw, mm, heads, states, trs, plan, used);
-    match room {
-        Room::Suffices => Stored::After(walk_list(mw, mm, heads, states, trs, plan, used)),
-        Room::Lacks => Stored::Lacks,
-        Room::Unknown => Stored::Unknown,
+    match weigh_plain(mw, mm, heads, states, trs, plan, used) {
+        Room::Suffices => Ok(Some(walk_list(mw, mm, heads, states, trs, plan, used))),
+        Room::Lacks => Err(Refusal::NoRoom),
+        Room::Unknown => Ok(None),
     }
 }
 
@@ -237,17 +218,15 @@ pub fn store_tight(
         let steps = steps_at (composing_words options m1.now m2.now a1 a2) (tuple_means tuple) in
         StoredIs d used steps heads.new states.new trs.new result }
 {
-    let s1 = tuple.s1;
-    let s2 = tuple.s2;
-    let facts = seen(m1, m2, s1, s2, facts1, facts2);
+    let facts = seen(m1, m2, tuple.s1, tuple.s2, facts1, facts2);
     match on {
         MatchType::MatchInput => {
-            let list = looked_up(m2, MatchType::MatchInput, s2, facts2);
+            let list = looked_up(m2, MatchType::MatchInput, tuple.s2, facts2);
             let plan = plan_of(options, facts, tuple, list);
             count_and_walk(m1, m2, heads, states, trs, plan, used, sure)
         }
         MatchType::MatchOutput => {
-            let list = looked_up(m1, MatchType::MatchOutput, s1, facts1);
+            let list = looked_up(m1, MatchType::MatchOutput, tuple.s1, facts1);
             let plan = plan_of(options, facts, tuple, list);
             count_and_walk(m2, m1, heads, states, trs, plan, used, sure)
         }

@@ -17,16 +17,16 @@ pub walk_list-requires-in-Suffices : goal.walk_list-requires-in-Suffices
 walk_list-requires-in-Suffices c =
     let a = c.args in
     let p = c.requires in
-    (p.0, clear_fits (store_in a.heads.now a.states.now a.trs.now a.used) (plan_steps a.plan a.mw.now a.mm.now) p.1.exact (rw c.in-Suffices.is at c.weigh_plain-room.ensures), p.1.chained)
+    (p.0, clear_fits (store_in a.heads.now a.states.now a.trs.now a.used) (plan_steps a.plan a.mw.now a.mm.now) p.1.exact (rw c.in-Suffices.is at c.weigh_plain.ensures), p.1.chained)
 
 pub returns-in-Suffices : goal.returns-in-Suffices
 returns-in-Suffices c =
     let a = c.args in
     let p = c.requires in
-    (c.walk_list-in-Suffices.ensures, clear_fits (store_in a.heads.now a.states.now a.trs.now a.used) (plan_steps a.plan a.mw.now a.mm.now) p.1.exact (rw c.in-Suffices.is at c.weigh_plain-room.ensures))
+    (c.walk_list-in-Suffices.ensures, clear_fits (store_in a.heads.now a.states.now a.trs.now a.used) (plan_steps a.plan a.mw.now a.mm.now) p.1.exact (rw c.in-Suffices.is at c.weigh_plain.ensures))
 
 pub returns-in-Lacks : goal.returns-in-Lacks
 returns-in-Lacks c =
     let a = c.args in
     let p = c.requires in
-    (refl, lacks_refused (store_in a.heads.now a.states.now a.trs.now a.used) (plan_steps a.plan a.mw.now a.mm.now) p.1.exact (rw c.in-Lacks.is at c.weigh_plain-room.ensures))
+    (refl, refl, lacks_refused (store_in a.heads.now a.states.now a.trs.now a.used) (plan_steps a.plan a.mw.now a.mm.now) p.1.exact (rw c.in-Lacks.is at c.weigh_plain.ensures))

@@ -6,7 +6,6 @@ use Rattle.words.specs.Matches.{MatchType}
 use Rattle.fst.specs.Meaning.{on_of}
 use Rattle.fst.specs.declared.MatchType.{MatchType as Side}
 use Rattle.fst.specs.declared.MatchType.TheVariants.{MatchInput, MatchOutput}
-use Rattle.compose_filters.specs.Meaning.{facts_mean}
 use Rattle.store_records.specs.Meaning.{store_in}
 use Rattle.stored_steps.specs.Storing.{store_all, Fits}
 use Rattle.compose_plan.proofs.Ready.{sorted_way, planned, planned_steps}
@@ -38,8 +37,8 @@ walk_list-requires c =
     let e = way c.in-MatchInput.is q.1 in
     let seen = c.seen-facts in
     let d = store_in a.heads.now a.states.now a.trs.now a.used in (
-      planned q.2 MatchInput e q.0 l.result l.ensures.1 l.ensures.0 l.ensures.2 (facts_mean seen.result) seen.ensures v.result v.ensures,
-      subst (Fits d) (planned_steps q.2 MatchInput e q.0 l.result l.ensures.1 l.ensures.0 l.ensures.2 (facts_mean seen.result) seen.ensures v.result v.ensures [] []) (q.3 [] []),
+      planned q.2 MatchInput e q.0 l.ensures seen.ensures v.ensures,
+      subst (Fits d) (planned_steps q.2 MatchInput e q.0 l.ensures seen.ensures v.ensures [] []) (q.3 [] []),
       q.4,
     )
 
@@ -53,7 +52,7 @@ returns-in-MatchInput c =
     let seen = c.seen-facts in
     let d = store_in a.heads.now a.states.now a.trs.now a.used in
     λ a1 a2. c.walk_list.ensures
-    ∙ ap (store_all d) (sym (planned_steps q.2 MatchInput e q.0 l.result l.ensures.1 l.ensures.0 l.ensures.2 (facts_mean seen.result) seen.ensures v.result v.ensures a1 a2))
+    ∙ ap (store_all d) (sym (planned_steps q.2 MatchInput e q.0 l.ensures seen.ensures v.ensures a1 a2))
 
 pub looked_up-list-requires-in-MatchOutput : goal.looked_up-list-requires-in-MatchOutput
 looked_up-list-requires-in-MatchOutput c =
@@ -71,8 +70,8 @@ walk_list-requires-in-MatchOutput c =
     let e = way c.in-MatchOutput.is q.1 in
     let seen = c.seen-facts in
     let d = store_in a.heads.now a.states.now a.trs.now a.used in (
-      planned q.2 MatchOutput e q.0 l.result l.ensures.1 l.ensures.0 l.ensures.2 (facts_mean seen.result) seen.ensures v.result v.ensures,
-      subst (Fits d) (planned_steps q.2 MatchOutput e q.0 l.result l.ensures.1 l.ensures.0 l.ensures.2 (facts_mean seen.result) seen.ensures v.result v.ensures [] []) (q.3 [] []),
+      planned q.2 MatchOutput e q.0 l.ensures seen.ensures v.ensures,
+      subst (Fits d) (planned_steps q.2 MatchOutput e q.0 l.ensures seen.ensures v.ensures [] []) (q.3 [] []),
       q.4,
     )
 
@@ -86,4 +85,4 @@ returns-in-MatchOutput c =
     let seen = c.seen-facts in
     let d = store_in a.heads.now a.states.now a.trs.now a.used in
     λ a1 a2. c.walk_list-in-MatchOutput.ensures
-    ∙ ap (store_all d) (sym (planned_steps q.2 MatchOutput e q.0 l.result l.ensures.1 l.ensures.0 l.ensures.2 (facts_mean seen.result) seen.ensures v.result v.ensures a1 a2))
+    ∙ ap (store_all d) (sym (planned_steps q.2 MatchOutput e q.0 l.ensures seen.ensures v.ensures a1 a2))

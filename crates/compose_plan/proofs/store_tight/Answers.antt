@@ -6,7 +6,6 @@ use Rattle.words.specs.Matches.{MatchType}
 use Rattle.fst.specs.Meaning.{on_of}
 use Rattle.fst.specs.declared.MatchType.{MatchType as Side}
 use Rattle.fst.specs.declared.MatchType.TheVariants.{MatchInput, MatchOutput}
-use Rattle.compose_filters.specs.Meaning.{facts_mean}
 use Rattle.store_records.specs.Meaning.{store_in}
 use Rattle.compose_plan.specs.Storing.{Weighable}
 use Rattle.compose_plan.proofs.Verdicts.{stored_by}
@@ -39,8 +38,8 @@ count_and_walk-requires c =
     let e = way c.in-MatchInput.is q.1 in
     let seen = c.seen-facts in
     let d = store_in a.heads.now a.states.now a.trs.now a.used in (
-      planned q.2 MatchInput e q.0 l.result l.ensures.1 l.ensures.0 l.ensures.2 (facts_mean seen.result) seen.ensures v.result v.ensures,
-      subst (Weighable d a.sure) (planned_steps q.2 MatchInput e q.0 l.result l.ensures.1 l.ensures.0 l.ensures.2 (facts_mean seen.result) seen.ensures v.result v.ensures q.3.0 q.3.1) q.3.2,
+      planned q.2 MatchInput e q.0 l.ensures seen.ensures v.ensures,
+      subst (Weighable d a.sure) (planned_steps q.2 MatchInput e q.0 l.ensures seen.ensures v.ensures q.3.0 q.3.1) q.3.2,
     )
 
 pub returns-in-MatchInput : goal.returns-in-MatchInput
@@ -54,7 +53,7 @@ returns-in-MatchInput c =
     let d = store_in a.heads.now a.states.now a.trs.now a.used in
     let w = c.count_and_walk in
     let x = w.new in
-    λ a1 a2. stored_by d a.used x.heads x.states x.trs w.result (sym (planned_steps q.2 MatchInput e q.0 l.result l.ensures.1 l.ensures.0 l.ensures.2 (facts_mean seen.result) seen.ensures v.result v.ensures a1 a2)) w.ensures
+    λ a1 a2. stored_by d a.used x.heads x.states x.trs w.result (sym (planned_steps q.2 MatchInput e q.0 l.ensures seen.ensures v.ensures a1 a2)) w.ensures
 
 pub looked_up-list-requires-in-MatchOutput : goal.looked_up-list-requires-in-MatchOutput
 looked_up-list-requires-in-MatchOutput c =
@@ -72,8 +71,8 @@ count_and_walk-requires-in-MatchOutput c =
     let e = way c.in-MatchOutput.is q.1 in
     let seen = c.seen-facts in
     let d = store_in a.heads.now a.states.now a.trs.now a.used in (
-      planned q.2 MatchOutput e q.0 l.result l.ensures.1 l.ensures.0 l.ensures.2 (facts_mean seen.result) seen.ensures v.result v.ensures,
-      subst (Weighable d a.sure) (planned_steps q.2 MatchOutput e q.0 l.result l.ensures.1 l.ensures.0 l.ensures.2 (facts_mean seen.result) seen.ensures v.result v.ensures q.3.0 q.3.1) q.3.2,
+      planned q.2 MatchOutput e q.0 l.ensures seen.ensures v.ensures,
+      subst (Weighable d a.sure) (planned_steps q.2 MatchOutput e q.0 l.ensures seen.ensures v.ensures q.3.0 q.3.1) q.3.2,
     )
 
 pub returns-in-MatchOutput : goal.returns-in-MatchOutput
@@ -87,4 +86,4 @@ returns-in-MatchOutput c =
     let d = store_in a.heads.now a.states.now a.trs.now a.used in
     let w = c.count_and_walk-in-MatchOutput in
     let x = w.new in
-    λ a1 a2. stored_by d a.used x.heads x.states x.trs w.result (sym (planned_steps q.2 MatchOutput e q.0 l.result l.ensures.1 l.ensures.0 l.ensures.2 (facts_mean seen.result) seen.ensures v.result v.ensures a1 a2)) w.ensures
+    λ a1 a2. stored_by d a.used x.heads x.states x.trs w.result (sym (planned_steps q.2 MatchOutput e q.0 l.ensures seen.ensures v.ensures a1 a2)) w.ensures
