@@ -85,11 +85,20 @@ unfolding serves_of
 serves_plain s on d f1 f2 e = and_left (no_sigma s) _ e
 
 -- and every step fits
-pub serves_fit : {o : ComposeFstOpOptions} {m1 m2 : List ℕ} {t : Triple} {f1 f2 : ListFacts} (d : Store) (on : MatchType) → ((a1 a2 : List ℕ) → Present o m1 m2 a1 a2 t f1 f2)
+serves_fit : {o : ComposeFstOpOptions} {m1 m2 : List ℕ} {t : Triple} {f1 f2 : ListFacts} (d : Store) (on : MatchType) → ((a1 a2 : List ℕ) → Present o m1 m2 a1 a2 t f1 f2)
     → on ≡ plain_direction (side_means o.side) f1.len f2.len → serves_of (option_settings o) on d f1 f2 ≡ true → f1.most ≤ MAX → f2.most ≤ MAX
     → (a1 a2 : List ℕ) → Fits d (steps_at (composing_words o m1 m2 a1 a2) t)
 serves_fit {o = o} {f1 = f1} {f2 = f2} d on p way e h1 h2 a1 a2 =
     serves_fits (p a1 a2) d (subst (λ (w : MatchType). serves_of (option_settings o) w d f1 f2 ≡ true) way e) h1 h2
+
+-- so the steps of a found state fit where the bounds serve
+pub plain_fit : (o : ComposeFstOpOptions) (m1 m2 a1 a2 ignored : List ℕ) (u : Used) (m : Memory) → entered (lent_of o m1 m2 a1 a2 ignored) (session_under o u) m ≡ good (composing o m1 m2 a1 a2 ignored)
+    → length ignored ≡ 0 → (n : ℕ) → n < u.states → (t : Triple) → t ≡ triple_at m.states n → (f1 f2 : ListFacts)
+    → TrueOf outputs (kind_of o.kind) m1 (triple_at m.states n).s1 f1 → TrueOf inputs (kind_of o.kind) m2 (triple_at m.states n).s2 f2 → f1.most ≤ MAX → f2.most ≤ MAX
+    → (on : MatchType) → on ≡ plain_direction (side_means o.side) f1.len f2.len → serves_of (option_settings o) on (store_of (session_under o u) m) f1 f2 ≡ true
+    → (b1 b2 : List ℕ) → Fits (store_of (session_under o u) m) (steps_at (composing_words o m1 m2 b1 b2) t)
+plain_fit o m1 m2 a1 a2 ignored u m e none n found t q f1 f2 t1 t2 h1 h2 on way serves =
+    serves_fit (store_of (session_under o u) m) on (present o m1 m2 a1 a2 ignored u m e none n found t q f1 f2 t1 t2) way serves h1 h2
 
 -- where the largest weights fit, the steps of a found state may be weighed and stored
 pub weighable : (o : ComposeFstOpOptions) (m1 m2 a1 a2 ignored : List ℕ) (u : Used) (m : Memory) → entered (lent_of o m1 m2 a1 a2 ignored) (session_under o u) m ≡ good (composing o m1 m2 a1 a2 ignored)

@@ -21,22 +21,20 @@ ghost use Rattle.compose_store.specs.Meaning.{session_under, left_by};
 ghost use Rattle.compose_expand.specs.Memos.{plain_labels, Remembered, asked_at};
 
 use compose_fst_op::ComposeFstOpOptions;
-use compose_plan::{Stored, direction, no_sigma, serves, store_plain, store_tight, weights_fit};
+use compose_plan::{direction, no_sigma, serves, store_plain, store_tight, weights_fit};
 use compose_state_tuple::ComposeStateTuple;
 use compose_store::{Expansion, expand_weighed, new_part};
 use compose_walk::end_list;
-use fst::{MatchType, REFUSED_NO_ROOM, StateId};
+use fst::{MatchType, StateId};
 use list_facts::{ListFacts, MEMO_WORDS, list_facts, remembered};
 use store_records::{Used, get_tuple, mark_expanded};
 
 // Whether labels are taken as they stand: none is ignored, and none is sigma.
+#[tactic(auto, unfolding(crate::specs::Memos::plain_labels))]
 pub fn plain_labels(options: ComposeFstOpOptions, ignored: &[u32]) -> bool
     ensures { result ≡ plain_labels (option_settings options) ignored.now }
 {
-    if ignored.len() != 0 {
-        return false;
-    }
-    no_sigma(options)
+    ignored.is_empty() && no_sigma(options)
 }
 
 // The expansion of state n with this triple, in this direction, where no refusal can stand: each move is stored as it is met, and then the last link is ended.
@@ -77,7 +75,7 @@ fn expand_plain(
     end_list(trs, used.trs, after.trs);
     let part = new_part(used.trs, after.trs);
     mark_expanded(states, n, part.first);
-    Expansion::New(part, after)
+    Ok((part, after))
 }
 
 // The expansion of state n, a found one, where no label is ignored or sigma and the largest weights of its two lists fit: its steps are counted where their room is not sure, and weighed one by one
@@ -111,24 +109,20 @@ fn expand_counted(
         let c = composing options m1.now m2.now a1.now a2.now ignored.now in
         left_by options used m' result ≡ settle (session_under options used) m (expansion c (session_under options used) m n.0) }
 {
-    let side = options.side;
-    let on = direction(side, facts1.len, facts2.len);
+    let on = direction(options.side, facts1.len, facts2.len);
     let sure = serves(states, trs, options, used, on, facts1, facts2);
     let stored = store_tight(
         m1, m2, options, heads, states, trs, used, on, tuple, facts1, facts2, sure,
-    );
-    match stored {
-        Stored::Lacks => Expansion::Refused(REFUSED_NO_ROOM),
-        Stored::Unknown => expand_weighed(
+    )?;
+    let Some(after) = stored else {
+        return expand_weighed(
             m1, m2, a1, a2, ignored, options, heads, states, trs, used, n,
-        ),
-        Stored::After(after) => {
-            end_list(trs, used.trs, after.trs);
-            let part = new_part(used.trs, after.trs);
-            mark_expanded(states, n, part.first);
-            Expansion::New(part, after)
-        }
-    }
+        );
+    };
+    end_list(trs, used.trs, after.trs);
+    let part = new_part(used.trs, after.trs);
+    mark_expanded(states, n, part.first);
+    Ok((part, after))
 }
 
 // The expansion of state n, a found one, where the checks 1 to 8 passed and no label is ignored or sigma. The facts of its two lists are told here. Where a weight may be too large, its steps are weighed
@@ -156,10 +150,8 @@ pub fn expand_tight(
         left_by options used m' result ≡ settle (session_under options used) m (expansion c (session_under options used) m n.0) }
 {
     let tuple = get_tuple(states, n);
-    let s1 = tuple.s1;
-    let s2 = tuple.s2;
-    let facts1 = list_facts(m1, MatchType::MatchOutput, options.kind, s1);
-    let facts2 = list_facts(m2, MatchType::MatchInput, options.kind, s2);
+    let facts1 = list_facts(m1, MatchType::MatchOutput, options.kind, tuple.s1);
+    let facts2 = list_facts(m2, MatchType::MatchInput, options.kind, tuple.s2);
     if !weights_fit(options.kind, facts1.most, facts2.most) {
         return expand_weighed(
             m1, m2, a1, a2, ignored, options, heads, states, trs, used, n,
@@ -171,6 +163,7 @@ pub fn expand_tight(
 }
 
 // The expansion of state n, a found one, where the checks 1 to 8 passed and the facts are those of its two lists.
+#[tactic(auto, using(crate::proofs::Asked::none_ignored))]
 fn expand_known(
     m1: &[u32],
     m2: &[u32],
@@ -199,8 +192,7 @@ fn expand_known(
         let c = composing options m1.now m2.now a1.now a2.now ignored.now in
         left_by options used m' result ≡ settle (session_under options used) m (expansion c (session_under options used) m n.0) }
 {
-    let side = options.side;
-    let on = direction(side, facts1.len, facts2.len);
+    let on = direction(options.side, facts1.len, facts2.len);
     if !serves(states, trs, options, used, on, facts1, facts2) {
         return expand_tight(
             m1, m2, a1, a2, ignored, options, heads, states, trs, used, n,
@@ -213,6 +205,7 @@ fn expand_known(
 
 // The expansion of state n, a found one, where the checks 1 to 8 passed, by the facts that are remembered of its two lists. Where a label is ignored or a sigma label is set, they are not asked for. What is
 // remembered of the two machines' lists stays true.
+#[tactic(auto, unfolding(crate::specs::Memos::asked_at))]
 pub fn expand_state(
     m1: &[u32],
     m2: &[u32],
@@ -251,10 +244,8 @@ pub fn expand_state(
         );
     }
     let tuple = get_tuple(states, n);
-    let s1 = tuple.s1;
-    let s2 = tuple.s2;
-    let facts1 = remembered(m1, MatchType::MatchOutput, options.kind, memo1, s1);
-    let facts2 = remembered(m2, MatchType::MatchInput, options.kind, memo2, s2);
+    let facts1 = remembered(m1, MatchType::MatchOutput, options.kind, memo1, tuple.s1);
+    let facts2 = remembered(m2, MatchType::MatchInput, options.kind, memo2, tuple.s2);
     expand_known(
         m1, m2, a1, a2, ignored, options, heads, states, trs, used, n, tuple, facts1, facts2,
     )

@@ -1,13 +1,9 @@
--- The facts are those of the two lists of the state; where the largest weights fit, they are all that the counted expansion asks.
+-- The machines are well formed, and the state's two states are theirs.
 use mathlib.Core.Path.{sym, subst}
 use Prim.Native.Nat.{◌<◌}
-use Rattle.words.specs.Weights.{kind_of}
-use Rattle.words.specs.Matches.{inputs, outputs}
 use Rattle.words.specs.Machines.{state_count}
 use Rattle.words.specs.Steps.{Triple}
-use Rattle.fst.proofs.Tests.{holds}
 use Rattle.store_records.specs.Meaning.{memory_of}
-use Rattle.list_facts.specs.Facts.{TrueOf}
 use Rattle.compose_expand.proofs.Found.{formed1, formed2, in_range}
 use Rattle.compose_expand.proofs.expand_tight.Goals as goal
 
@@ -25,20 +21,4 @@ list_facts-facts2-requires c =
     let m = memory_of a.heads.now a.states.now a.trs.now in (
       formed2 a.options a.m1.now a.m2.now a.a1.now a.a2.now a.ignored.now a.used m c.requires.0,
       subst (λ (t : Triple). t.s2 < state_count a.m2.now) (sym c.get_tuple-tuple.ensures) (in_range a.options a.m1.now a.m2.now a.a1.now a.a2.now a.ignored.now a.used m c.requires.0 a.n.0 c.requires.1).s2,
-    )
-
-pub expand_counted-requires : goal.expand_counted-requires
-expand_counted-requires c =
-    let a = c.args in
-    let p = c.requires in
-    let e = c.get_tuple-tuple.ensures in
-    let f = c.list_facts-facts1 in
-    let g = c.list_facts-facts2 in (
-      p.0,
-      p.1,
-      e,
-      p.2,
-      subst (λ (t : Triple). TrueOf outputs (kind_of a.options.kind) a.m1.now t.s1 f.result) e f.ensures,
-      subst (λ (t : Triple). TrueOf inputs (kind_of a.options.kind) a.m2.now t.s2 g.result) e g.ensures,
-      holds c.weights_fit.ensures c.if-not-weights_fit.false,
     )
