@@ -18,29 +18,26 @@ ghost use Rattle.compose_run.specs.Memos.{memo_at, memo_from};
 use compose_expand::{expand_state, expand_tight, plain_labels};
 use compose_fst_op::ComposeFstOpOptions;
 use compose_store::{Expansion, expand_weighed, new_part};
-use fst::StateId;
+use fst::{Refusal, StateId};
 use list_facts::MEMO_WORDS;
 use store_records::{Used, is_expanded, state_room};
 use tr_lists::part_of;
 
-// The used counts after all expansions, or those of the expansions before the refused one, with the number of its refusal.
-#[derive(Clone, Copy)]
-pub enum Ran {
-    Done(Used),
-    Refused(u32, Used),
-}
+// The used counts after all expansions; or the refusal of one, and the used counts of the expansions before it.
+pub type Ran = Result<Used, (Refusal, Used)>;
 
 // What one turn of a run leaves: the list of the state is not asked for.
 fn turn(used: Used, expanded: Expansion) -> Ran
     ensures { (o : ComposeFstOpOptions) (m : Memory) → ran_left o m result ≡ turn_of (left_by o used m expanded) }
 {
     match expanded {
-        Expansion::New(_, after) => Ran::Done(after),
-        Expansion::Refused(k) => Ran::Refused(k, used),
+        Ok((_, after)) => Ok(after),
+        Err(refusal) => Err((refusal, used)),
     }
 }
 
 // One turn of a run: state n is expanded, if it is not yet. What is remembered of the two machines' lists stays true.
+#[tactic(auto, using(crate::proofs::RunTurns::expand_listed, crate::proofs::RunTurns::expand_new), unfolding(crate::specs::Memos::memo_at))]
 fn compute_state(
     m1: &[u32],
     m2: &[u32],
@@ -74,7 +71,7 @@ fn compute_state(
         Remembered outputs l s memo1.new × Remembered inputs l s memo2.new }
 {
     if is_expanded(states, n) {
-        return Ran::Done(used);
+        return Ok(used);
     }
     let expanded = expand_state(
         m1, m2, a1, a2, ignored, options, heads, states, trs, memo1, memo2, used, n,
@@ -129,47 +126,34 @@ pub fn compute_from(
         Remembered outputs l s memo1.new × Remembered inputs l s memo2.new }
 {
     let mut latest = used;
-    let mut n = from.0;
-    let mut most = count;
-    while most > 0 {
-        if latest.states <= n {
+    let mut next = from;
+    for _ in 0..count {
+        if latest.states <= next.0 {
             return Stopped {
-                next: StateId(n),
-                ran: Ran::Done(latest),
+                next,
+                ran: Ok(latest),
             };
         }
         let turn = compute_state(
-            m1,
-            m2,
-            a1,
-            a2,
-            ignored,
-            options,
-            heads,
-            states,
-            trs,
-            memo1,
-            memo2,
-            latest,
-            StateId(n),
+            m1, m2, a1, a2, ignored, options, heads, states, trs, memo1, memo2, latest, next,
         );
-        let Ran::Done(after) = turn else {
-            return Stopped {
-                next: StateId(n),
-                ran: turn,
-            };
-        };
-        latest = after;
-        n += 1;
-        most -= 1;
+        match turn {
+            Ok(after) => latest = after,
+            Err(refused) => return Stopped {
+                next,
+                ran: Err(refused),
+            },
+        }
+        next = StateId(next.0 + 1);
     }
     Stopped {
-        next: StateId(n),
-        ran: Ran::Done(latest),
+        next,
+        ran: Ok(latest),
     }
 }
 
 // The list of a found state, where the checks 1 to 9 pass: as stored, with the used counts as they are, or expanded, by a piece of one state.
+#[tactic(auto, using(crate::proofs::RunTurns::expand_listed, crate::proofs::MemoTurns::memo_one), unfolding(crate::specs::Memos::memo_at))]
 pub fn expand_found(
     m1: &[u32],
     m2: &[u32],
@@ -203,19 +187,19 @@ pub fn expand_found(
         Remembered outputs l s memo1.new × Remembered inputs l s memo2.new }
 {
     if is_expanded(states, n) {
-        return Expansion::New(part_of(states, trs, used.trs, n), used);
+        return Ok((part_of(states, trs, used.trs, n), used));
     }
     let stopped = compute_from(
         m1, m2, a1, a2, ignored, options, heads, states, trs, memo1, memo2, used, n, 1,
     );
-    let ran = stopped.ran;
-    match ran {
-        Ran::Done(after) => Expansion::New(new_part(used.trs, after.trs), after),
-        Ran::Refused(k, _) => Expansion::Refused(k),
+    match stopped.ran {
+        Ok(after) => Ok((new_part(used.trs, after.trs), after)),
+        Err((refusal, _)) => Err(refusal),
     }
 }
 
 // The same where no memo is lent: the facts of the state's two lists are told anew.
+#[tactic(auto, using(crate::proofs::RunTurns::expand_listed, crate::proofs::RunTurns::expand_new))]
 pub fn expand_alone(
     m1: &[u32],
     m2: &[u32],
@@ -239,7 +223,7 @@ pub fn expand_alone(
         left_by options used m' result ≡ expand_of l (session_under options used) m n.0 }
 {
     if is_expanded(states, n) {
-        return Expansion::New(part_of(states, trs, used.trs, n), used);
+        return Ok((part_of(states, trs, used.trs, n), used));
     }
     if !plain_labels(options, ignored) {
         return expand_weighed(
@@ -252,6 +236,7 @@ pub fn expand_alone(
 }
 
 // Expands in number order, where the checks 1 to 8 pass, until none is left or one is refused. No more states are found than there is room for.
+#[tactic(auto, unfolding(calls::specs::Store::state_room_with))]
 pub fn compute(
     m1: &[u32],
     m2: &[u32],
