@@ -35,15 +35,6 @@ pub record Writing (d : Store) (work out₀ : List ℕ) (at before from : ℕ) (
   pub count : n + length (kept_at d work r) ≡ before + length (kept_from d work from)
   pub words : put out here (list_words n (map (new_tr d work) (kept_at d work r))) ≡ put out₀ at (list_words before (new_list d work from))
 
-pub begins : (d : Store) (work out : List ℕ) (at before from r : ℕ) → kept_from d work from ≡ kept_at d work r → at + tr_words * length (kept_from d work from) ≤ length out
-    → Writing d work out at before from out at before r
-begins d work out at before from r e h = record {
-  same = refl;
-  room = let a = ap length e in omega (arith, a, h);
-  count = ap (λ (l : List ℕ). before + length l) (sym e);
-  words = ap (λ (l : List ℕ). put out at (list_words before (map (new_tr d work) l))) (sym e);
-}
-
 -- the link of a record tells whether another comes
 linked_on : (d : Store) (work : List ℕ) (q n : ℕ) → cond (non_empty (map (new_tr d work) (kept_at d work q))) (n + 2) 0 ≡ cond (eqb q 0) 0 (n + 2)
 unfolding kept_at

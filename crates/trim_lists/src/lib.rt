@@ -14,6 +14,7 @@ use store_records::{TR_INPUT, TR_OUTPUT, TR_SIZE, TR_TARGET, TR_WEIGHT};
 use trim_passes::{next_kept, number_of};
 
 // Five words at a place.
+#[tactic(auto, using(crate::proofs::ListTurns::five))]
 fn put_five(out: &mut [u32], at: usize, a: u32, b: u32, c: u32, d: u32, e: u32)
     requires { at + tr_words ≤ length out.old }
     ensures { out.new ≡ put out.old at (a ∷ b ∷ c ∷ d ∷ e ∷ []) }
@@ -26,6 +27,7 @@ fn put_five(out: &mut [u32], at: usize, a: u32, b: u32, c: u32, d: u32, e: u32)
 }
 
 // Record r of the store as a record of the trimmed machine, whose target has a new number.
+#[tactic(auto, unfolding(trim_passes::specs::Passes::new_tr, calls::specs::Store::target_at, calls::specs::Store::field_of))]
 fn write_tr(out: &mut [u32], at: usize, trs: &[u32], work: &[u64], r: u32, next: u32)
     requires { at + tr_words ≤ length out.old }
     ensures { (heads states : List ℕ) (u used : ℕ) →
