@@ -99,7 +99,7 @@ fn count_state(new: bool, room: u32, states: u32) -> Option<u32>
     Some(states + 1)
 }
 
-// What the steps meet where every target that the table lacks is counted as a new state; open where a state's record is lacking then.
+// What the steps meet where every target that the table lacks is counted as a new state; None where a state's record is lacking then.
 fn weigh_quickly(
     m1: &[u32],
     m2: &[u32],

@@ -10,7 +10,6 @@ use Rattle.fst.specs.declared.StateId.{StateId}
 use Rattle.fst.specs.declared.Sigmas.{Sigmas}
 use Rattle.fst.specs.declared.Matched.{Matched}
 use Rattle.fst.specs.declared.Machines.{Machines}
-use Rattle.fst.specs.declared.Lent.{Lent}
 use Rattle.fst.specs.declared.tr.Tr.{Tr}
 
 -- "Machine 1 is matched on outputs, 2 on inputs.": the side that a MatchType names
@@ -57,7 +56,3 @@ first_operand p = as_operand outputs (words_as_read (first_of_two p)) p.sigmas.f
 
 abbrev pub second_operand : Machines → Operand
 second_operand p = as_operand inputs (words_as_read (second_of_two p)) p.sigmas.second.0
-
--- the machines of what is lent, with the sigma labels of both
-abbrev pub machines_of : Lent → Sigmas → Machines
-machines_of l sigmas = record { m1 = l.m1; m2 = l.m2; sigmas = sigmas; ignored = l.ignored }

@@ -59,10 +59,11 @@ pub fn side_mark(m: &[u32], on: MatchType) -> u32
 }
 
 // The mark of the side on which a machine is matched: what the choice of the side goes by. A list of ignored labels makes it 0.
+#[tactic(auto, using(words::proofs::ReplacedLaws::otherwise_none, words::proofs::ReplacedLaws::otherwise_some))]
 pub fn inner_mark(m: &[u32], on: MatchType, ignored: &[u32]) -> u32
     ensures { result ≡ otherwise ignored.now (side_mark (on_of on) m.now) 0 }
 {
-    if ignored.len() == 0 {
+    if ignored.is_empty() {
         return side_mark(m, on);
     }
     0
@@ -117,12 +118,11 @@ pub fn next_tr(m: &[u32], t: u32) -> u32
     ensures { result ≡ next_of m.now t }
 {
     let next = tr_word(m, t, NEXT);
-    if t < next {
-        if next <= num_records(m) {
-            return next;
-        }
+    if t < next && next <= num_records(m) {
+        next
+    } else {
+        0
     }
-    0
 }
 
 // The label of record t on a side as it is lent: for the check of a record, and for the outer label of a transition.

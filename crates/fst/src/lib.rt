@@ -1,8 +1,8 @@
-// Labels, state numbers and transitions (lib.rs, tr.rs), and the reading of a machine's words (fst_traits/fst.rs).
+// Labels, state numbers and transitions (lib.rs, tr.rs), the refusals, and the reading of a machine's words (fst_traits/fst.rs), as they are lent and as a composition reads them.
 #![tactic(auto)]
 
 ghost use Rattle.std.specs.Prelude.{◌≡◌};
-ghost use Rattle.fst.specs.Meaning.{first_of_two, second_of_two, machines_of};
+ghost use Rattle.fst.specs.Meaning.{first_of_two, second_of_two};
 
 mod fst_traits;
 mod ignored;
@@ -68,30 +68,6 @@ impl<'a> Machines<'a> {
             words: self.m2,
             on: MatchType::MatchInput,
             sigmas: self.sigmas,
-            ignored: self.ignored,
-        }
-    }
-}
-
-// What is lent to a composition: the machines, a list of allowed labels for each, which plays a part only where the settings say so, and the list of ignored labels.
-#[derive(Clone, Copy)]
-pub struct Lent<'a> {
-    pub m1: &'a [u32],
-    pub m2: &'a [u32],
-    pub allowed1: &'a [u32],
-    pub allowed2: &'a [u32],
-    pub ignored: &'a [u32],
-}
-
-impl<'a> Lent<'a> {
-    // Both machines with the labels that they are read by.
-    pub fn machines(self, sigmas: Sigmas) -> Machines<'a>
-        ensures { result ≡ machines_of self.entry sigmas }
-    {
-        Machines {
-            m1: self.m1,
-            m2: self.m2,
-            sigmas,
             ignored: self.ignored,
         }
     }

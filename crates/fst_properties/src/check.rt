@@ -18,7 +18,7 @@ fn lent<'a>(words: &'a [u32], on: MatchType) -> Matched<'a>
         words,
         on,
         sigmas: NO_SIGMAS,
-        ignored: &words[0..0],
+        ignored: &[],
     }
 }
 
