@@ -27,7 +27,7 @@ def seq(xs):
 
 
 def option(ws):
-    return "none" if ws is None else f"(some {antt(ws)})"
+    return "None" if ws is None else f"(Some {antt(ws)})"
 
 
 def triple(s):
@@ -39,7 +39,7 @@ def line(text):
     if kind == "side":
         return f"side_line {SIDES.index(rest[0])}"
     if kind == "s":
-        final = "none" if rest[4] == "-" else f"(some {rest[4]})"
+        final = "None" if rest[4] == "-" else f"(Some {rest[4]})"
         return f"state_line {rest[0]} {triple(rest[1:4])} {final}"
     return {"t": "tr_line", "end": "end_line", "refused": "refused_line"}[kind] + " " + " ".join(rest)
 
@@ -120,7 +120,7 @@ def calls(draw, room, orders, given, side, said, states):
         replies.append("answered (list_part %d %d) %s" % (*mem.parts[n], session()))
     for n, (_, final) in enumerate(states):
         asked += [f"final_weight {n}", f"records {n}"]
-        said_of = f"(refusal {final[1]})" if final[0] == "refused" else "(weight none)" if final[0] == "-" else f"(weight (some {final[0]}))"
+        said_of = f"(refusal {final[1]})" if final[0] == "refused" else "(weight None)" if final[0] == "-" else f"(weight (Some {final[0]}))"
         replies += [f"answered {said_of} {session()}", f"handed {antt(mem.records(n))}"]
     return case(lent, mem, asked, replies, (mem.heads, mem.states, mem.trs), session())
 
@@ -137,7 +137,7 @@ def main():
     print("-- Written by tests/call_cases.py. The answers are the Rust's, but for those that are marked.")
     print("use mathlib.Core.Path.{refl}")
     print("use mathlib.Core.List.{List, [], ◌∷◌}")
-    print("use mathlib.Core.Option.{none, some}")
+    print("use Rattle.std.specs.Prelude.{None, Some}")
     print("use Rattle.calls.specs.Sequences.{opening, expand, final_weight, records, refusal, accepted, weight, answered, handed}")
     print("use Rattle.calls.specs.Listing.{side_line, state_line, tr_line, end_line, refused_line, settings_of}")
     print("use Rattle.calls.proofs.Cases.{Case, printing, calling, Holds}")

@@ -156,7 +156,7 @@ def named(ws):
 
 
 def option(ws):
-    return "none" if ws is None else f"(some ({antt(ws)}))"
+    return "None" if ws is None else f"(Some ({antt(ws)}))"
 
 
 def entry(settings, a1, a2, m1, m2, triple, want):
@@ -200,7 +200,7 @@ def main():
     found = list(drawn(oracle, *sys.argv[3:5]) if sys.argv[2:3] == ["--random"] else chosen(oracle))
     print("-- Written by tests/state_cases.py. The inputs are ours.")
     print("use mathlib.Core.List.{List, [], ◌∷◌}")
-    print("use mathlib.Core.Option.{none, some}")
+    print("use Rattle.std.specs.Prelude.{None, Some}")
     print("use Prim.Native.Nat.{ℕ}")
     print("use Rattle.words.proofs.Cases.{Case, case_of}")
     print()
