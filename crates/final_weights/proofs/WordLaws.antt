@@ -11,13 +11,13 @@ use Rattle.lists.specs.Lists.{interval, put}
 use Rattle.lists.proofs.Put.{put_put}
 use Rattle.words.specs.Labels.{Checked, good, refused, collect}
 use Rattle.words.specs.Settings.{Lent}
+use Rattle.words.proofs.CheckedLaws.{good≢refused}
 use Rattle.calls.specs.Store.{Memory}
 use Rattle.calls.specs.Checks.{Session}
 use Rattle.calls.specs.Calls.{Outcome, final_weight_of}
 use Rattle.calls.specs.Owned.{weights_from}
-use Rattle.final_weights.specs.declared.AllWeights.TheVariants.{All, Refused}
 use Rattle.final_weights.specs.Weights.{verdict, given_weight, weight_words, weights_words, words_at, words_from}
-use Rattle.final_weights.proofs.WeightLaws.{never, interval_on}
+use Rattle.final_weights.proofs.WeightLaws.{interval_on}
 
 -- all words of a slice, written one after the other
 pub sets_all : (w r : List ℕ) → length w ≡ length r → sets w 0 r ≡ r
@@ -59,29 +59,21 @@ module _ (l : Lent) (s : Session) (m : Memory) where
   unfolding put words_from interval flat_map
   words_done n k out whole h e = let z : k - n ≡ 0 = omega arith in rw z at e
 
-all_words : (f : ℕ → Checked (Option ℕ)) (xs old : List ℕ) → verdict (collect (map f xs)) ≡ All
+all_words : (f : ℕ → Checked (Option ℕ)) (xs old : List ℕ) → good tt ≡ verdict (collect (map f xs))
     → flat_map (λ n. weight_words (given_weight (f n))) xs ≡ weights_words old (collect (map f xs))
 unfolding collect flat_map
 all_words f [] old e = refl
 all_words f (x ∷ xs) old e = go (f x) (collect (map f xs)) refl e (λ d. all_words f xs old d)
   where
-    go : (y : Checked (Option ℕ)) (z : Checked (List (Option ℕ))) → collect (map f xs) ≡ z → verdict (collect (y ∷ map f xs)) ≡ All
-        → (verdict (collect (map f xs)) ≡ All → flat_map (λ n. weight_words (given_weight (f n))) xs ≡ weights_words old (collect (map f xs)))
+    go : (y : Checked (Option ℕ)) (z : Checked (List (Option ℕ))) → collect (map f xs) ≡ z → good tt ≡ verdict (collect (y ∷ map f xs))
+        → (good tt ≡ verdict (collect (map f xs)) → flat_map (λ n. weight_words (given_weight (f n))) xs ≡ weights_words old (collect (map f xs)))
         → weight_words (given_weight y) ++ flat_map (λ n. weight_words (given_weight (f n))) xs ≡ weights_words old (collect (y ∷ map f xs))
-    go (refused n) z q d rec = absurd (never n d)
-    go (good w) (refused n) q d rec = absurd (never n (rw q at d))
-    go (good w) (good ws) q d rec = rw (rec (ap verdict q), q)
-
-stays : (x : Checked (List (Option ℕ))) (j : ℕ) (old : List ℕ) → verdict x ≡ Refused j → old ≡ weights_words old x
-stays (refused n) j old e = refl
-stays (good ws) j old e = absurd (never j (sym e))
+    go (refused n) z q d rec = absurd (good≢refused d)
+    go (good w) (refused n) q d rec = absurd (good≢refused (rw q at d))
+    go (good w) (good ws) q d rec = rw (rec (sym (ap verdict q)), q)
 
 module _ (l : Lent) (s : Session) (m : Memory) (k : ℕ) (old : List ℕ) where
   -- all were answered: the words of the states are those of all weights
-  pub words_all : verdict (weights_from l s m 0 k) ≡ All → words_from l s m 0 k ≡ weights_words old (weights_from l s m 0 k)
+  pub words_all : good tt ≡ verdict (weights_from l s m 0 k) → words_from l s m 0 k ≡ weights_words old (weights_from l s m 0 k)
   unfolding weights_from words_from
   words_all e = all_words (λ n. (final_weight_of l s m n).answer) (interval 0 k) old e
-
-  -- one was refused: nothing is written
-  pub words_stay : (j : ℕ) → verdict (weights_from l s m 0 k) ≡ Refused j → old ≡ weights_words old (weights_from l s m 0 k)
-  words_stay j e = stays (weights_from l s m 0 k) j old e

@@ -1,20 +1,17 @@
 -- The final weights of all found states: whether each was answered, and their words.
 use mathlib.Core.List.{List, [], ◌∷◌, flat_map}
-use Rattle.std.specs.Prelude.{Option, None, Some}
-use Rattle.std.specs.Prelude.{ℕ}
+use Rattle.std.specs.Prelude.{ℕ, Option, None, Some}
 use Rattle.lists.specs.Lists.{interval}
 use Rattle.words.specs.Labels.{Checked, good, refused}
 use Rattle.words.specs.Settings.{Lent}
 use Rattle.calls.specs.Store.{Memory}
 use Rattle.calls.specs.Checks.{Session}
 use Rattle.calls.specs.Calls.{final_weight_of}
-use Rattle.final_weights.specs.declared.AllWeights.{AllWeights}
-use Rattle.final_weights.specs.declared.AllWeights.TheVariants.{All, Refused}
 
 -- what is known of weights that were taken: that all were answered, or the first refusal
-abbrev pub verdict : {A : Type 0} → Checked A → AllWeights
-verdict (good a) = All
-verdict (refused n) = Refused n
+abbrev pub verdict : {A : Type 0} → Checked A → Checked (Unit {0})
+verdict (good a) = good tt
+verdict (refused n) = refused n
 
 -- the final weight that was answered; none where it was refused
 abbrev pub given_weight : Checked (Option ℕ) → Option ℕ

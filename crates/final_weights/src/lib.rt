@@ -6,28 +6,21 @@ ghost use Rattle.lists.specs.Lists.{put};
 ghost use Rattle.calls.specs.Store.{Memory};
 ghost use Rattle.calls.specs.Checks.{Passes};
 ghost use Rattle.calls.specs.Owned.{weights_from, final_weights_of};
+ghost use Rattle.fst.specs.Refusals.{checked_by};
 ghost use Rattle.store_records.specs.Meaning.{memory_of};
 ghost use Rattle.lazy_fst.specs.Meaning.{lent_with, session_means, weight_left};
 ghost use Rattle.final_weights.specs.Weights.{verdict, given_weight, weight_words, weights_words, words_from};
 
-use fst::StateId;
+use fst::{Refusal, StateId};
 use lazy_fst::{AllowedLists, Session, WeightAnswer};
 
-// Whether every final weight was answered; else the number of the first refusal.
-#[derive(Clone, Copy)]
-pub enum AllWeights {
-    All,
-    Refused(u32),
-}
-
-// The number of a refusal, if it is one.
-fn judged(weight: WeightAnswer) -> AllWeights
-    ensures { (m : Memory) → result ≡ verdict (weight_left weight m).answer }
+// Whether a final weight was answered; else its refusal.
+fn judged(weight: WeightAnswer) -> Result<(), Refusal>
+    ensures { (m : Memory) → checked_by (λ answered. answered) result ≡ verdict (weight_left weight m).answer }
 {
     match weight {
-        WeightAnswer::Refused(k, _) => AllWeights::Refused(k),
-        WeightAnswer::Weight(_, _) => AllWeights::All,
-        WeightAnswer::NotFinal(_) => AllWeights::All,
+        Ok(_) => Ok(()),
+        Err((refusal, _)) => Err(refusal),
     }
 }
 
@@ -35,11 +28,10 @@ fn judged(weight: WeightAnswer) -> AllWeights
 pub fn found(session: Session) -> u32
     ensures { result ≡ session.used.states }
 {
-    let used = session.used;
-    used.states
+    session.used.states
 }
 
-// Takes the final weight of each found state, in number order, up to the first refusal.
+// Takes the final weight of each found state, in number order: whether all were answered, else the first refusal.
 pub fn take_weights(
     session: Session,
     m1: &[u32],
@@ -51,31 +43,21 @@ pub fn take_weights(
     heads: &[u32],
     states: &[u32],
     trs: &[u32],
-) -> AllWeights
+) -> Result<(), Refusal>
     requires { let l = lent_with m1.now m2.now allowed1.now allowed2.now ignored.now listed in
         Passes l (session_means session) (memory_of heads.now states.now trs.now) }
     ensures { let l = lent_with m1.now m2.now allowed1.now allowed2.now ignored.now listed in
         let m = memory_of heads.now states.now trs.now in
-        result ≡ verdict (weights_from l (session_means session) m 0 session.used.states) }
+        checked_by (λ answered. answered) result ≡ verdict (weights_from l (session_means session) m 0 session.used.states) }
 {
-    let count = found(session);
-    let mut n: u32 = 0;
-    while n < count {
+    for n in 0..session.used.states {
         let s = StateId(n);
         let weight = session.trusted_final_weight(
             m1, m2, allowed1, allowed2, ignored, listed, heads, states, trs, s,
         );
-        let one = judged(weight);
-        match one {
-            AllWeights::Refused(k) => {
-                return AllWeights::Refused(k);
-            }
-            AllWeights::All => {
-                n += 1;
-            }
-        }
+        judged(weight)?;
     }
-    AllWeights::All
+    Ok(())
 }
 
 // Two words at a place.
@@ -93,9 +75,8 @@ pub fn put_weight(out: &mut [u32], at: usize, weight: WeightAnswer)
     ensures { (m : Memory) → out.new ≡ put out.old at (weight_words (given_weight (weight_left weight m).answer)) }
 {
     match weight {
-        WeightAnswer::Weight(w, _) => put_two(out, at, 1, w),
-        WeightAnswer::NotFinal(_) => put_two(out, at, 0, 0),
-        WeightAnswer::Refused(_, _) => put_two(out, at, 0, 0),
+        Ok((Some(w), _)) => put_two(out, at, 1, w),
+        Ok((None, _)) | Err(_) => put_two(out, at, 0, 0),
     }
 }
 
@@ -120,15 +101,12 @@ fn put_weights(
         let m = memory_of heads.now states.now trs.now in
         out.new ≡ words_from l (session_means session) m 0 session.used.states }
 {
-    let count = found(session);
-    let mut n: u32 = 0;
-    while n < count {
+    for n in 0..session.used.states {
         let s = StateId(n);
         let weight = session.trusted_final_weight(
             m1, m2, allowed1, allowed2, ignored, listed, heads, states, trs, s,
         );
         put_weight(out, 2 * (n as usize), weight);
-        n += 1;
     }
 }
 
@@ -145,27 +123,22 @@ pub fn write_weights(
     states: &[u32],
     trs: &[u32],
     out: &mut [u32],
-) -> AllWeights
+) -> Result<(), Refusal>
     requires fact { let l = lent_with m1.now m2.now allowed1.now allowed2.now ignored.now listed in
         Passes l (session_means session) (memory_of heads.now states.now trs.now) }
     requires sized { length out.old ≡ 2 * session.used.states }
     ensures result_value { let l = lent_with m1.now m2.now allowed1.now allowed2.now ignored.now listed in
         let m = memory_of heads.now states.now trs.now in
-        result ≡ verdict (final_weights_of l (session_means session) m) }
+        checked_by (λ answered. answered) result ≡ verdict (final_weights_of l (session_means session) m) }
     ensures words { let l = lent_with m1.now m2.now allowed1.now allowed2.now ignored.now listed in
         let m = memory_of heads.now states.now trs.now in
         out.new ≡ weights_words out.old (final_weights_of l (session_means session) m) }
 {
-    let weights = take_weights(
+    take_weights(
         session, m1, m2, allowed1, allowed2, ignored, listed, heads, states, trs,
+    )?;
+    put_weights(
+        session, m1, m2, allowed1, allowed2, ignored, listed, heads, states, trs, out,
     );
-    match weights {
-        AllWeights::Refused(k) => AllWeights::Refused(k),
-        AllWeights::All => {
-            put_weights(
-                session, m1, m2, allowed1, allowed2, ignored, listed, heads, states, trs, out,
-            );
-            AllWeights::All
-        }
-    }
+    Ok(())
 }

@@ -1,12 +1,11 @@
 -- A session whose checks pass has the side of the rule: it is the one that the composition below it stands for.
 use mathlib.Core.Path.{◌≡◌, refl, sym, ◌∙◌, ap, subst}
-use mathlib.Core.Bool.{Bool, true, false, not, ◌&&◌, cond}
-use mathlib.Core.List.{List, []}
-use Prim.Native.Nat.{ℕ, zero, suc, ◌+◌, ◌*◌, ◌≤◌, ◌<◌}
-use native.Mathlib.Omega.{arith}
+use mathlib.Core.Bool.{Bool, true, false, not, ◌&&◌}
+use mathlib.Core.List.{List}
+use Prim.Native.Nat.{ℕ, zero, suc, ◌<◌}
 use lib.Dec.{eqb, leb}
-use borrow.Author.Tests.{le-leb, lt-leb, leb-false}
-use Rattle.words.specs.Labels.{no_label, good, refused, and_then}
+use borrow.Author.Tests.{lt-leb, leb-false}
+use Rattle.words.specs.Labels.{no_label, good, and_then}
 use Rattle.words.specs.Matches.{MatchType, inputs, outputs}
 use Rattle.words.specs.Ignored.{Ignored, acceptor_read}
 use Rattle.words.specs.Sigmas.{rewrites_both}
@@ -15,19 +14,17 @@ use Rattle.words.specs.Settings.{Lent, composition_of}
 use Rattle.words.specs.Steps.{Composition, final_at}
 use Rattle.words.proofs.ReplacedLaws.{read_acceptor}
 use Rattle.words.proofs.CheckedLaws.{past_check, past_then}
-use Rattle.calls.specs.Store.{Memory, triple_at, expanded_at, part_at}
-use Rattle.calls.specs.Checks.{Session, side_number, store_of, entered, entered_at, Passes, entered_at_with}
-use Rattle.calls.specs.Calls.{settle, unchanged, words_of_part, place_of, expand_of, final_weight_of, records_of, records_place, expand_with, final_weight_with, records_place_with, records_with}
+use Rattle.calls.specs.Store.{Memory, triple_at}
+use Rattle.calls.specs.Checks.{Session, side_number, entered, entered_at, Passes, entered_at_with}
+use Rattle.calls.specs.Calls.{settle, unchanged, final_weight_of, final_weight_with}
 use Rattle.calls.proofs.ExpandKept.{entered_is}
 use Rattle.match_type.specs.Chosen.{side_means}
 use Rattle.match_type.specs.declared.Side.{Side as CodeSide}
-use Rattle.match_type.specs.declared.Chosen.{Chosen}
-use Rattle.match_type.specs.declared.Chosen.TheVariants.{By}
 use Rattle.compose_fst_op.specs.Composing.{replacing, composing}
 use Rattle.compose_fst_op.proofs.Composed.{composing_is}
 use Rattle.compose_store.specs.Meaning.{session_under}
 use Rattle.store_records.specs.Meaning.{used_means}
-use Rattle.session_checks.specs.Meaning.{settings_means, entered_means, side_numbered}
+use Rattle.session_checks.specs.Meaning.{settings_means, side_numbered}
 use Rattle.lazy_fst.specs.Meaning.{lent_with, session_means, sigma_mark, options_of}
 use Rattle.lazy_fst.specs.declared.Session.{Session as Latest}
 use Rattle.lazy_fst.specs.declared.AllowedLists.{AllowedLists}
@@ -47,8 +44,8 @@ module _ (l : Lent) where
       (x.1 ∙ k.1, leb-false _ _ k.0)
 
   -- the answer of the checks 1 to 8, where it is a side, says that they pass
-  pub passes_by : (s : Latest) (m : Memory) (r : Chosen) (side : CodeSide) → entered_means s.settings l r ≡ entered l (session_means s) m → r ≡ By side → Passes l (session_means s) m
-  passes_by s m r side e h = (composition_of (settings_means s.settings) l (side_means side), sym e ∙ ap (entered_means s.settings l) h)
+  pub passes_by : (s : Latest) (m : Memory) (side : CodeSide) → good (composition_of (settings_means s.settings) l (side_means side)) ≡ entered l (session_means s) m → Passes l (session_means s) m
+  passes_by s m side e = (composition_of (settings_means s.settings) l (side_means side), sym e)
 
   same_side : (s : Session) (m : Memory) (side : Side) → entered l s m ≡ good (composition_of s.settings l side) → s.side ≡ side_number side
   same_side s m side e =
@@ -65,14 +62,10 @@ module _ (l : Lent) where
     pub same : session_means s ≡ session_under (options_of s.settings listed side l.m1 l.m2 l.ignored) s.used
     pub passes : entered l (session_under (options_of s.settings listed side l.m1 l.m2 l.ignored) s.used) m ≡ good (composition_of (settings_means s.settings) l (side_means side))
 
-  goes_on_lem : (s : Latest) (m : Memory) (listed : AllowedLists) (side : CodeSide) → entered l (session_means s) m ≡ good (composition_of (settings_means s.settings) l (side_means side)) → Goes s m listed side
-  goes_on_lem s m listed side e =
+  pub goes : (s : Latest) (m : Memory) (listed : AllowedLists) (side : CodeSide) → entered l (session_means s) m ≡ good (composition_of (settings_means s.settings) l (side_means side)) → Goes s m listed side
+  goes s m listed side e =
       let q = session_is s m listed side e in
       record { same = q; passes = subst (λ (t : Session). entered l t m ≡ good (composition_of (settings_means s.settings) l (side_means side))) q e }
-
-  -- what the answer of the checks 1 to 8 says
-  pub goes : (s : Latest) (m : Memory) (listed : AllowedLists) (r : Chosen) (side : CodeSide) → entered_means s.settings l r ≡ entered l (session_means s) m → r ≡ By side → Goes s m listed side
-  goes s m listed r side e h = goes_on_lem s m listed side (sym e ∙ ap (entered_means s.settings l) h)
 
   -- where the checks pass, the composition is that of the side with the session's number
   pub known : (s : Latest) (m : Memory) (side : CodeSide) → Passes l (session_means s) m → side_means side ≡ side_numbered s.side
@@ -83,62 +76,13 @@ module _ (l : Lent) where
       p.1 ∙ ap good (h.composition ∙ ap (composition_of (settings_means s.settings) l) (sym e))
 
   pub goes_known : (s : Latest) (m : Memory) (listed : AllowedLists) (side : CodeSide) → Passes l (session_means s) m → side_means side ≡ side_numbered s.side → Goes s m listed side
-  goes_known s m listed side p q = goes_on_lem s m listed side (known s m side p q)
-
-  -- a state that is not found yet: 9
-  pub late_expand : (s : Session) (m : Memory) (n : ℕ) → Passes l s m → s.used.states ≤ n → record { answer = refused 9; session = s; memory = m } ≡ expand_of l s m n
-  unfolding expand_with entered_at_with
-  late_expand s m n p h = rw (p.1, le-leb _ _ h)
-
-  pub late_weight : (s : Session) (m : Memory) (n : ℕ) → Passes l s m → s.used.states ≤ n → record { answer = refused 9; session = s; memory = m } ≡ final_weight_of l s m n
-  unfolding final_weight_with entered_at_with
-  late_weight s m n p h = rw (p.1, le-leb _ _ h)
-
-  pub late_records : (s : Session) (m : Memory) (n : ℕ) → Passes l s m → s.used.states ≤ n → [] ≡ records_of l s m n
-  unfolding records_with entered_at_with
-  late_records s m n p h = rw (p.1, le-leb _ _ h)
-
-  pub late_place : (s : Session) (m : Memory) (n : ℕ) → Passes l s m → s.used.states ≤ n → 0 ≡ records_place l s m n
-  unfolding records_place_with entered_at_with
-  late_place s m n p h = rw (p.1, le-leb _ _ h)
-
-  -- a refusal of the checks 1 to 8 is each call's
-  module _ (s : Session) (m : Memory) (k : ℕ) (e : entered l s m ≡ refused k) where
-    pub stopped_expand : (n : ℕ) → record { answer = refused k; session = s; memory = m } ≡ expand_of l s m n
-    unfolding expand_with entered_at_with
-    stopped_expand n = rw e
-
-    pub stopped_weight : (n : ℕ) → record { answer = refused k; session = s; memory = m } ≡ final_weight_of l s m n
-    unfolding final_weight_with entered_at_with
-    stopped_weight n = rw e
-
-    pub stopped_records : (n : ℕ) → [] ≡ records_of l s m n
-    unfolding records_with entered_at_with
-    stopped_records n = rw e
-
-    pub stopped_place : (n : ℕ) → 0 ≡ records_place l s m n
-    unfolding records_place_with entered_at_with
-    stopped_place n = rw e
+  goes_known s m listed side p q = goes s m listed side (known s m side p q)
 
   -- a found state, where the checks 1 to 8 pass
   pub found_weight : (s : Session) (m : Memory) (n : ℕ) (c : Composition) → entered l s m ≡ good c → n < s.used.states
       → settle s m (and_then (final_at c (triple_at m.states n)) (λ w. good (unchanged s m w))) ≡ final_weight_of l s m n
   unfolding final_weight_with entered_at_with
   found_weight s m n c e h = rw (e, lt-leb _ _ h)
-
-  pub found_records : (s : Session) (m : Memory) (n : ℕ) → Passes l s m → n < s.used.states
-      → cond (eqb (expanded_at m.states n) 1) (words_of_part m.trs (part_at (store_of s m) n)) [] ≡ records_of l s m n
-  unfolding records_with entered_at_with
-  found_records s m n p h = rw (p.1, lt-leb _ _ h)
-
-  pub found_place : (s : Session) (m : Memory) (n : ℕ) → Passes l s m → n < s.used.states
-      → cond (eqb (expanded_at m.states n) 1) (place_of m.trs (part_at (store_of s m) n)) 0 ≡ records_place l s m n
-  unfolding records_place_with entered_at_with
-  found_place s m n p h = rw (p.1, lt-leb _ _ h)
-
--- a part that begins at a word of a slice: the place of its first byte
-pub begins : (o word place : ℕ) → word ≡ place → word * 4 + o ≡ o + 4 * place
-begins o word place e = omega (arith, e)
 
 -- the marks that the options hold lead to the rewriting of the definition
 module _ (on : MatchType) (g : Ignored) (m : List ℕ) (sigma : ℕ) where

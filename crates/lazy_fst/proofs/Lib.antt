@@ -1,2 +1,1 @@
-pub mod OpeningLaws
 pub mod CallLaws

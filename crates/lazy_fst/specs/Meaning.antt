@@ -1,5 +1,5 @@
 -- What the session and the answers of the calls stand for in the definitions of `calls`.
-use Rattle.std.specs.Prelude.{cond, List, ℕ, eqb, Option, None, Some}
+use Rattle.std.specs.Prelude.{cond, List, ℕ, eqb, Option, Result, Ok, Err}
 use Rattle.words.specs.Labels.{no_label, good, refused, and_then}
 use Rattle.words.specs.Matches.{MatchType, inputs, outputs}
 use Rattle.words.specs.Machines.{acceptor_mark}
@@ -10,20 +10,17 @@ use Rattle.words.specs.Settings.{Settings, Lent, composition_of}
 use Rattle.calls.specs.Store.{Memory, Part}
 use Rattle.calls.specs.Checks.{Session as Opened, side_number}
 use Rattle.calls.specs.Calls.{Outcome, settle, begun, opened}
+use Rattle.fst.specs.Refusals.{number_of}
+use Rattle.fst.specs.declared.refusals.Refusal.{Refusal}
 use Rattle.matchers.specs.Meaning.{allowed_of}
 use Rattle.tr_lists.specs.Meaning.{part_means}
+use Rattle.tr_lists.specs.declared.Part.{Part as CodePart}
 use Rattle.session_checks.specs.Meaning.{settings_means, lent_slices, session_of}
 use Rattle.match_type.specs.declared.Side.{Side as CodeSide}
 use Rattle.compose_fst_op.specs.declared.ComposeFstOpOptions.{ComposeFstOpOptions}
 use Rattle.session_checks.specs.declared.Settings.{Settings as Six}
 use Rattle.lazy_fst.specs.declared.Session.{Session}
 use Rattle.lazy_fst.specs.declared.AllowedLists.{AllowedLists}
-use Rattle.lazy_fst.specs.declared.Answer.{Answer}
-use Rattle.lazy_fst.specs.declared.Answer.TheVariants.{Accepted, Refused}
-use Rattle.lazy_fst.specs.declared.PartAnswer.{PartAnswer}
-use Rattle.lazy_fst.specs.declared.PartAnswer.TheVariants.{Part as APart, Refused as NotExpanded}
-use Rattle.lazy_fst.specs.declared.WeightAnswer.{WeightAnswer}
-use Rattle.lazy_fst.specs.declared.WeightAnswer.TheVariants.{Weight, NotFinal, Refused as NoWeight}
 
 -- what every call is lent: both machines, both allowed lists with a mark whether there is one, and the ignored labels
 abbrev pub lent_with : (m1 m2 allowed1 allowed2 ignored : List ℕ) → AllowedLists → Lent
@@ -33,21 +30,24 @@ lent_with m1 m2 allowed1 allowed2 ignored listed = lent_slices m1 m2 (allowed_of
 abbrev pub session_means : Session → Opened
 session_means s = session_of (settings_means s.settings) s.side s.used
 
+-- what a call answers with the next session; or a refusal, and the session that is handed back
+abbrev pub Answered : Type 0 → Type 0
+Answered A = Result A (Refusal × Session)
+
 -- What open and run leave, with the three slices: an accepted call has no value beside the session; a refusal has its number in the table of "Answers".
-abbrev pub left : Answer → Memory → Outcome (Unit {0})
-left (Accepted s) m = record { answer = good tt; session = session_means s; memory = m }
-left (Refused n s) m = record { answer = refused n; session = session_means s; memory = m }
+abbrev pub left : Answered Session → Memory → Outcome (Unit {0})
+left (Ok s) m = record { answer = good tt; session = session_means s; memory = m }
+left (Err (refusal, s)) m = record { answer = refused (number_of refusal); session = session_means s; memory = m }
 
 -- what expand leaves: "their first and count"
-abbrev pub part_left : PartAnswer → Memory → Outcome Part
-part_left (APart p s) m = record { answer = good (part_means p); session = session_means s; memory = m }
-part_left (NotExpanded n s) m = record { answer = refused n; session = session_means s; memory = m }
+abbrev pub part_left : Answered (CodePart × Session) → Memory → Outcome Part
+part_left (Ok (p, s)) m = record { answer = good (part_means p); session = session_means s; memory = m }
+part_left (Err (refusal, s)) m = record { answer = refused (number_of refusal); session = session_means s; memory = m }
 
 -- what final weight leaves: a weight, or none where the composed state is not final
-abbrev pub weight_left : WeightAnswer → Memory → Outcome (Option ℕ)
-weight_left (Weight w s) m = record { answer = good (Some w); session = session_means s; memory = m }
-weight_left (NotFinal s) m = record { answer = good None; session = session_means s; memory = m }
-weight_left (NoWeight n s) m = record { answer = refused n; session = session_means s; memory = m }
+abbrev pub weight_left : Answered (Option ℕ × Session) → Memory → Outcome (Option ℕ)
+weight_left (Ok (w, s)) m = record { answer = good w; session = session_means s; memory = m }
+weight_left (Err (refusal, s)) m = record { answer = refused (number_of refusal); session = session_means s; memory = m }
 
 -- the composition's settings in the code: the six settings, the side, whether there are allowed lists, and two acceptor marks
 abbrev pub options_with : Six → AllowedLists → CodeSide → ℕ → ℕ → ComposeFstOpOptions

@@ -13,10 +13,10 @@ ghost use Rattle.store_records.specs.Meaning.{memory_of};
 ghost use Rattle.lazy_fst.specs.Meaning.{session_means, options_with, sigma_mark, options_of, left, part_left, weight_left};
 
 use crate::{AllowedLists, Answer, PartAnswer, Session, WeightAnswer};
-use compose_fst_op::{ComposeFstOpOptions, FinalWeight, compute_final_weight};
+use compose_fst_op::{ComposeFstOpOptions, compute_final_weight};
 use compose_run::Ran;
 use compose_store::Expansion;
-use fst::{Label, MatchType, NO_LABEL, REFUSED_TOO_LARGE, Sigmas, StateId};
+use fst::{Label, Machines, Matched, NO_LABEL, Sigmas, StateId};
 use fst_properties::inner_acceptor_mark;
 use match_type::Side;
 use matchers::Sigma;
@@ -33,20 +33,18 @@ pub fn options_with(
 ) -> ComposeFstOpOptions
     ensures { result ≡ options_with settings listed side acceptor1 acceptor2 }
 {
-    let label1 = settings.sigma1;
-    let label2 = settings.sigma2;
     ComposeFstOpOptions {
         kind: settings.kind,
         filter: settings.filter,
         side,
         sigma1: Sigma {
-            label: label1,
+            label: settings.sigma1,
             mode: settings.mode1,
             listed: listed.first,
             acceptor: acceptor1,
         },
         sigma2: Sigma {
-            label: label2,
+            label: settings.sigma2,
             mode: settings.mode2,
             listed: listed.second,
             acceptor: acceptor2,
@@ -55,23 +53,15 @@ pub fn options_with(
 }
 
 // The acceptor mark as it is read, where it plays a part: with a sigma label, under mode 0. Else 0. Where labels are ignored, all records are looked at: so this is asked once in a call.
-fn sigma_mark(
-    m: &[u32],
-    on: MatchType,
-    sigmas: Sigmas,
-    ignored: &[u32],
-    label: Label,
-    mode: u32,
-) -> u32
-    ensures { result ≡ sigma_mark (on_of on) (ignored_under sigmas ignored.now) m.now label.0 mode }
+#[tactic(auto, unfolding(crate::specs::Meaning::sigma_mark))]
+fn sigma_mark(m: Matched<'_>, label: Label, mode: u32) -> u32
+    ensures { let m = m.entry in
+        result ≡ sigma_mark (on_of m.on) (ignored_under m.sigmas m.ignored.now) m.words.now label.0 mode }
 {
-    if label.0 == NO_LABEL.0 {
+    if label == NO_LABEL || mode != 0 {
         return 0;
     }
-    if mode != 0 {
-        return 0;
-    }
-    inner_acceptor_mark(m, on, sigmas, ignored)
+    inner_acceptor_mark(m)
 }
 
 // The same with the marks that the lent machines have.
@@ -85,25 +75,17 @@ pub fn options_of(
 ) -> ComposeFstOpOptions
     ensures { result ≡ options_of settings listed side m1.now m2.now ignored.now }
 {
-    let first = settings.sigma1;
-    let second = settings.sigma2;
-    let sigmas = Sigmas { first, second };
-    let acceptor1 = sigma_mark(
+    let machines = Machines {
         m1,
-        MatchType::MatchOutput,
-        sigmas,
-        ignored,
-        first,
-        settings.mode1,
-    );
-    let acceptor2 = sigma_mark(
         m2,
-        MatchType::MatchInput,
-        sigmas,
+        sigmas: Sigmas {
+            first: settings.sigma1,
+            second: settings.sigma2,
+        },
         ignored,
-        second,
-        settings.mode2,
-    );
+    };
+    let acceptor1 = sigma_mark(machines.first(), settings.sigma1, settings.mode1);
+    let acceptor2 = sigma_mark(machines.second(), settings.sigma2, settings.mode2);
     options_with(settings, listed, side, acceptor1, acceptor2)
 }
 
@@ -122,12 +104,9 @@ pub fn final_of(
         weight_left result m
         ≡ settle (session_means session) m (and_then (final_at c (triple_at states.now n.0)) (λ w. good (unchanged (session_means session) m w))) }
 {
-    let weight = compute_final_weight(m1, m2, options, get_tuple(states, n));
-    match weight {
-        FinalWeight::Weight(w) => WeightAnswer::Weight(w, session),
-        FinalWeight::NotFinal => WeightAnswer::NotFinal(session),
-        FinalWeight::TooLarge => WeightAnswer::Refused(REFUSED_TOO_LARGE, session),
-    }
+    let answered = compute_final_weight(m1, m2, options, get_tuple(states, n));
+    let weight = answered.map_err(|refusal| (refusal, session))?;
+    Ok((weight, session))
 }
 
 // An expansion with the session that goes on; refused, the one that was given.
@@ -135,18 +114,9 @@ pub fn part_answer(session: Session, expanded: Expansion) -> PartAnswer
     ensures { (o : Options) (m : Memory) → session_means session ≡ session_under o session.used
         → part_left result m ≡ left_by o session.used m expanded }
 {
-    let settings = session.settings;
-    let side = session.side;
     match expanded {
-        Expansion::New(part, used) => PartAnswer::Part(
-            part,
-            Session {
-                settings,
-                side,
-                used,
-            },
-        ),
-        Expansion::Refused(k) => PartAnswer::Refused(k, session),
+        Ok((part, used)) => Ok((part, Session { used, ..session })),
+        Err(refusal) => Err((refusal, session)),
     }
 }
 
@@ -154,21 +124,14 @@ pub fn part_answer(session: Session, expanded: Expansion) -> PartAnswer
 pub fn run_answer(session: Session, ran: Ran) -> Answer
     ensures { (o : Options) (m : Memory) → session_means session ≡ session_under o session.used → left result m ≡ ran_left o m ran }
 {
-    let settings = session.settings;
-    let side = session.side;
     match ran {
-        Ran::Done(used) => Answer::Accepted(Session {
-            settings,
-            side,
-            used,
-        }),
-        Ran::Refused(k, kept) => Answer::Refused(
-            k,
+        Ok(used) => Ok(Session { used, ..session }),
+        Err((refusal, kept)) => Err((
+            refusal,
             Session {
-                settings,
-                side,
                 used: kept,
+                ..session
             },
-        ),
+        )),
     }
 }

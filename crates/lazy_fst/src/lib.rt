@@ -14,8 +14,7 @@ ghost use Rattle.lazy_fst.specs.Meaning.{lent_with, session_means, left, part_le
 
 use answers::{options_of, run_answer};
 use compose_run::compute;
-use fst::StateId;
-use match_type::Chosen;
+use fst::{Refusal, StateId};
 use opening::begin;
 use session_checks::{Settings, enter, side_for};
 use store_records::Used;
@@ -37,19 +36,14 @@ pub struct AllowedLists {
     pub second: bool,
 }
 
-// What open and run answer: the next session; or the number of the refusal, and the session that was given, for a refused run the one of the expansions kept.
-#[derive(Clone, Copy)]
-pub enum Answer {
-    Accepted(Session),
-    Refused(u32, Session),
-}
+// What open and run answer: the next session; or the refusal, and the session that was given, for a refused run the one of the expansions kept.
+pub type Answer = Result<Session, (Refusal, Session)>;
 
 // What expand answers: the first and the count of the state's records.
-#[derive(Clone, Copy)]
-pub enum PartAnswer {
-    Part(Part, Session),
-    Refused(u32, Session),
-}
+pub type PartAnswer = Result<(Part, Session), (Refusal, Session)>;
+
+// What final weight answers: a weight, or none where the composed state is not final.
+pub type WeightAnswer = Result<(Option<u32>, Session), (Refusal, Session)>;
 
 // What a piece of a run answers: as a run does; and the state with which the next piece goes on, which is the refused one where one is refused.
 #[derive(Clone, Copy)]
@@ -58,16 +52,9 @@ pub struct PieceAnswer {
     pub answer: Answer,
 }
 
-// What final weight answers.
-#[derive(Clone, Copy)]
-pub enum WeightAnswer {
-    Weight(u32, Session),
-    NotFinal(Session),
-    Refused(u32, Session),
-}
-
 impl Session {
     // Opens a session with the settings. The one that it is called on is not read, and handed back if refused. The allowed lists play no part yet.
+    #[tactic(auto, unfolding(calls::specs::Calls::open_with))]
     pub fn open(
         self,
         settings: Settings,
@@ -86,14 +73,14 @@ impl Session {
             let m' = memory_of heads.new states.new trs.new in
             left result m' ≡ open_of (settings_means settings) l (session_means self) m }
     {
-        let chosen = side_for(settings, m1, m2, ignored);
-        match chosen {
-            Chosen::Refused(k) => Answer::Refused(k, self),
-            Chosen::By(side) => begin(self, settings, side, m1, m2, heads, states),
+        match side_for(settings, m1, m2, ignored) {
+            Ok(side) => begin(self, settings, side, m1, m2, heads, states),
+            Err(refusal) => Err((refusal, self)),
         }
     }
 
     // Expands state n; an expanded one is answered as stored.
+    #[tactic(auto, unfolding(calls::specs::Calls::expand_with, calls::specs::Checks::entered_at_with))]
     pub fn expand(
         self,
         m1: &[u32],
@@ -124,16 +111,15 @@ impl Session {
             trs,
         );
         match entered {
-            Chosen::Refused(k) => PartAnswer::Refused(k, self),
-            Chosen::By(_) => {
-                self.expand_alone(
-                    m1, m2, allowed1, allowed2, ignored, listed, heads, states, trs, n,
-                )
-            }
+            Ok(_) => self.expand_alone(
+                m1, m2, allowed1, allowed2, ignored, listed, heads, states, trs, n,
+            ),
+            Err(refusal) => Err((refusal, self)),
         }
     }
 
     // The final weight of state n.
+    #[tactic(auto, unfolding(calls::specs::Calls::final_weight_with, calls::specs::Checks::entered_at_with))]
     pub fn final_weight(
         self,
         m1: &[u32],
@@ -163,16 +149,15 @@ impl Session {
             trs,
         );
         match entered {
-            Chosen::Refused(k) => WeightAnswer::Refused(k, self),
-            Chosen::By(_) => {
-                self.trusted_final_weight(
-                    m1, m2, allowed1, allowed2, ignored, listed, heads, states, trs, n,
-                )
-            }
+            Ok(_) => self.trusted_final_weight(
+                m1, m2, allowed1, allowed2, ignored, listed, heads, states, trs, n,
+            ),
+            Err(refusal) => Err((refusal, self)),
         }
     }
 
     // Expands in number order until none is left or one is refused. It checks once: after an accepted expansion the checks pass again.
+    #[tactic(auto, unfolding(calls::specs::Calls::run_with))]
     pub fn run(
         self,
         m1: &[u32],
@@ -190,24 +175,31 @@ impl Session {
             let m' = memory_of heads.new states.new trs.new in
             left result m' ≡ run_of l (session_means self) m }
     {
-        let settings = self.settings;
-        let used = self.used;
         let entered = enter(
-            settings, self.side, used, m1, m2, ignored, heads, states, trs,
+            self.settings,
+            self.side,
+            self.used,
+            m1,
+            m2,
+            ignored,
+            heads,
+            states,
+            trs,
         );
         match entered {
-            Chosen::Refused(k) => Answer::Refused(k, self),
-            Chosen::By(side) => {
-                let options = options_of(settings, listed, side, m1, m2, ignored);
+            Ok(side) => {
+                let options = options_of(self.settings, listed, side, m1, m2, ignored);
                 let ran = compute(
-                    m1, m2, allowed1, allowed2, ignored, options, heads, states, trs, used,
+                    m1, m2, allowed1, allowed2, ignored, options, heads, states, trs, self.used,
                 );
                 run_answer(self, ran)
             }
+            Err(refusal) => Err((refusal, self)),
         }
     }
 
     // The records of an expanded state, as a part of the lent slice; none where the state is not expanded or a check from 1 to 9 refuses. The session stays the latest.
+    #[tactic(auto, unfolding(calls::specs::Calls::records_with, calls::specs::Calls::records_place_with, calls::specs::Checks::entered_at_with))]
     pub fn records<'a>(
         self,
         m1: &[u32],
@@ -240,12 +232,10 @@ impl Session {
             trs,
         );
         match entered {
-            Chosen::Refused(_) => &trs[0..0],
-            Chosen::By(_) => {
-                self.trusted_records(
-                    m1, m2, allowed1, allowed2, ignored, listed, heads, states, trs, n,
-                )
-            }
+            Ok(_) => self.trusted_records(
+                m1, m2, allowed1, allowed2, ignored, listed, heads, states, trs, n,
+            ),
+            Err(_) => &trs[0..0],
         }
     }
 }

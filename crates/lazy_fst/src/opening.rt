@@ -8,8 +8,8 @@ ghost use Rattle.session_checks.specs.Meaning.{settings_means, lent_slices};
 ghost use Rattle.lazy_fst.specs.Meaning.{session_means, left, fresh_of, opened_on};
 
 use crate::{Answer, Session};
-use compose_fst_op::{ComposeStart, compute_start};
-use fst::REFUSED_NO_ROOM;
+use compose_fst_op::compute_start;
+use fst::Refusal;
 use match_type::Side;
 use session_checks::{Settings, side_number};
 use state_table::{add_state, clear_heads};
@@ -19,10 +19,7 @@ use store_records::{Used, state_room};
 fn lacks_room(heads: &[u32], states: &[u32]) -> bool
     ensures { result ≡ (eqb (room_of state_size states.now) 0 || not (non_empty heads.now)) }
 {
-    if state_room(states) == 0 {
-        return true;
-    }
-    heads.len() == 0
+    state_room(states) == 0 || heads.is_empty()
 }
 
 // A session just opened, with so many states found.
@@ -37,6 +34,7 @@ fn fresh(settings: Settings, side: Side, states: u32) -> Session
 }
 
 // The heads are cleared, and the start is the first state. `got` is the session that is handed back if refused.
+#[tactic(auto, unfolding(words::specs::Steps::start_at, calls::specs::Store::state_room_with, calls::specs::Calls::cleared, calls::specs::Calls::begun_with))]
 pub fn begin(
     got: Session,
     settings: Settings,
@@ -52,19 +50,14 @@ pub fn begin(
         let m' = memory_of heads.new states.new trs in
         left result m' ≡ opened_on (settings_means settings) l (session_means got) m (side_means side) }
 {
-    let first = compute_start(m1, m2);
-    match first {
-        ComposeStart::Missing => {
-            clear_heads(heads);
-            Answer::Accepted(fresh(settings, side, 0))
-        }
-        ComposeStart::At(tuple) => {
-            if lacks_room(heads, states) {
-                return Answer::Refused(REFUSED_NO_ROOM, got);
-            }
-            clear_heads(heads);
-            add_state(heads, states, 0, tuple);
-            Answer::Accepted(fresh(settings, side, 1))
-        }
+    let Some(tuple) = compute_start(m1, m2) else {
+        clear_heads(heads);
+        return Ok(fresh(settings, side, 0));
+    };
+    if lacks_room(heads, states) {
+        return Err((Refusal::NoRoom, got));
     }
+    clear_heads(heads);
+    add_state(heads, states, 0, tuple);
+    Ok(fresh(settings, side, 1))
 }

@@ -13,7 +13,7 @@ ghost use Rattle.lazy_fst.specs.Meaning.{lent_with, session_means, left, part_le
 use crate::answers::{final_of, options_of, options_with, part_answer, run_answer};
 use crate::{AllowedLists, PartAnswer, PieceAnswer, Session, WeightAnswer};
 use compose_run::{compute_from, expand_alone, expand_found};
-use fst::{REFUSED_NOT_FOUND, StateId};
+use fst::{Refusal, StateId};
 use list_facts::MEMO_WORDS;
 use session_checks::side_of;
 use store_records::is_expanded;
@@ -21,6 +21,7 @@ use tr_lists::{part_of, tr_part};
 
 impl Session {
     // Expands state n; an expanded one is answered as stored.
+    #[tactic(auto, unfolding(calls::specs::Calls::expand_with, compose_run::specs::Memos::memo_at, calls::specs::Checks::entered_at_with))]
     pub fn trusted_expand(
         self,
         m1: &[u32],
@@ -54,7 +55,7 @@ impl Session {
     {
         let used = self.used;
         if used.states <= n.0 {
-            return PartAnswer::Refused(REFUSED_NOT_FOUND, self);
+            return Err((Refusal::NotFound, self));
         }
         let options = options_of(self.settings, listed, side_of(self.side), m1, m2, ignored);
         let expanded = expand_found(
@@ -64,6 +65,7 @@ impl Session {
     }
 
     // The same where no memo is lent.
+    #[tactic(auto, unfolding(calls::specs::Calls::expand_with, calls::specs::Checks::entered_at_with))]
     pub fn expand_alone(
         self,
         m1: &[u32],
@@ -87,7 +89,7 @@ impl Session {
     {
         let used = self.used;
         if used.states <= n.0 {
-            return PartAnswer::Refused(REFUSED_NOT_FOUND, self);
+            return Err((Refusal::NotFound, self));
         }
         let options = options_of(self.settings, listed, side_of(self.side), m1, m2, ignored);
         let expanded = expand_alone(
@@ -97,6 +99,7 @@ impl Session {
     }
 
     // The final weight of state n.
+    #[tactic(auto, unfolding(calls::specs::Calls::final_weight_with, calls::specs::Checks::entered_at_with))]
     pub fn trusted_final_weight(
         self,
         m1: &[u32],
@@ -117,9 +120,8 @@ impl Session {
             let m = memory_of heads.now states.now trs.now in
             weight_left result m ≡ final_weight_of l (session_means self) m n.0 }
     {
-        let used = self.used;
-        if used.states <= n.0 {
-            return WeightAnswer::Refused(REFUSED_NOT_FOUND, self);
+        if self.used.states <= n.0 {
+            return Err((Refusal::NotFound, self));
         }
         let options = options_with(self.settings, listed, side_of(self.side), 0, 0);
         final_of(self, options, m1, m2, states, n)
@@ -167,13 +169,14 @@ impl Session {
             m1, m2, allowed1, allowed2, ignored, options, heads, states, trs, memo1, memo2,
             self.used, from, count,
         );
-        let next = stopped.next;
-        let ran = stopped.ran;
-        let answer = run_answer(self, ran);
-        PieceAnswer { next, answer }
+        PieceAnswer {
+            next: stopped.next,
+            answer: run_answer(self, stopped.ran),
+        }
     }
 
     // The records of an expanded state, as a part of the lent slice; none where the state is not found or not expanded.
+    #[tactic(auto, unfolding(calls::specs::Calls::records_with, calls::specs::Calls::records_place_with, calls::specs::Checks::entered_at_with))]
     pub fn trusted_records<'a>(
         self,
         m1: &[u32],
@@ -197,13 +200,9 @@ impl Session {
             let m = memory_of heads.now states.now trs.now in
             result.ref_ptr ≡ (trs.entry.ref_ptr.0, trs.entry.ref_ptr.1 + 4 * records_place l (session_means self) m n.0) }
     {
-        let used = self.used;
-        if used.states <= n.0 {
+        if self.used.states <= n.0 || !is_expanded(states, n) {
             return &trs[0..0];
         }
-        if !is_expanded(states, n) {
-            return &trs[0..0];
-        }
-        tr_part(trs, part_of(states, trs, used.trs, n))
+        tr_part(trs, part_of(states, trs, self.used.trs, n))
     }
 }

@@ -1,6 +1,9 @@
--- `take_weights` meets its contract. The loop's invariant: the weights from state n on give the verdict of all.
+-- The weights from state n on give the verdict of all.
 use mathlib.Core.Path.{◌≡◌}
-use Prim.Native.Nat.{◌-◌, ◌≤◌}
+use Prim.Native.Nat.{◌-◌}
+use Rattle.words.specs.Settings.{Lent}
+use Rattle.calls.specs.Store.{Memory}
+use Rattle.calls.specs.Checks.{Session}
 use Rattle.calls.specs.Owned.{weights_from}
 use Rattle.store_records.specs.Meaning.{memory_of}
 use Rattle.lazy_fst.specs.Meaning.{lent_with, session_means}
@@ -9,8 +12,8 @@ use Rattle.final_weights.proofs.take_weights.Given as goal
 
 abbrev pub invariant-loop-n : goal.invariant-loop-n
 invariant-loop-n l =
-    (l.n ≤ l.count)
-    × (verdict (weights_from (lent_with l.m1 l.m2 l.allowed1 l.allowed2 l.ignored l.listed) (session_means l.session) (memory_of l.heads l.states l.trs) l.n (l.count - l.n)) ≡ verdict (weights_from (lent_with l.m1 l.m2 l.allowed1 l.allowed2 l.ignored l.listed) (session_means l.session) (memory_of l.heads l.states l.trs) 0 l.count))
-
-abbrev pub decreases-loop-n : goal.decreases-loop-n
-decreases-loop-n l = l.count - l.n
+    let given : Lent = lent_with l.m1 l.m2 l.allowed1 l.allowed2 l.ignored l.listed in
+    let s : Session = session_means l.session in
+    let m : Memory = memory_of l.heads l.states l.trs in
+    let count = l.session.used.states in
+    verdict (weights_from given s m l.n (count - l.n)) ≡ verdict (weights_from given s m 0 count)

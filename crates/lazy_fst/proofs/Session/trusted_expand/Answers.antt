@@ -5,9 +5,8 @@ use Rattle.store_records.specs.Meaning.{memory_of}
 use Rattle.calls.specs.Checks.{Session}
 use Rattle.calls.specs.Calls.{expand_of}
 use Rattle.compose_run.specs.Memos.{memo_at}
-use Rattle.compose_run.proofs.MemoTurns.{memo_late}
-use Rattle.lazy_fst.specs.Meaning.{lent_with, session_means, options_of}
-use Rattle.lazy_fst.proofs.CallLaws.{goes_known, goes_composing, late_expand}
+use Rattle.lazy_fst.specs.Meaning.{lent_with, options_of}
+use Rattle.lazy_fst.proofs.CallLaws.{goes_known, goes_composing}
 use Rattle.lazy_fst.proofs.Session.trusted_expand.Goals as goal
 
 pub expand_found-expanded-requires : goal.expand_found-expanded-requires
@@ -19,15 +18,6 @@ expand_found-expanded-requires c =
     let g = goes_known l x.self m x.listed c.side_of.result p.0 c.side_of.ensures in
     rw c.options_of-options.ensures
     (goes_composing x.m1.now x.m2.now x.allowed1.now x.allowed2.now x.ignored.now x.listed x.self m _ g, c.if-used-n.false, p.1, p.2)
-
-pub returns-then-used-n : goal.returns-then-used-n
-returns-then-used-n c =
-    let x = c.args in
-    let l = lent_with x.m1.now x.m2.now x.allowed1.now x.allowed2.now x.ignored.now x.listed in
-    let m = memory_of x.heads.now x.states.now x.trs.now in
-    let p = c.requires in
-    let late = c.if-used-n.true in
-    record { m_after = late_expand l (session_means x.self) m x.n.0 p.0 late; asked = (memo_late _ _ _ _ _ _ late, memo_late _ _ _ _ _ _ late); remembered = (p.1, p.2) }
 
 pub returns : goal.returns
 returns c =

@@ -30,4 +30,4 @@ returns c =
     let stop = rw e at c.compute_from-stopped.ensures.next in
     let asked = rw e at c.compute_from-stopped.ensures.asked in
     let kept = rw e at c.compute_from-stopped.ensures.remembered in
-    record { m_after = c.run_answer-answer.ensures (options_of x.self.settings x.listed c.side_of.result x.m1.now x.m2.now x.ignored.now) _ same ∙ (done ∙ ap (λ (s : Session). run_from l x.count x.from.0 s m) (sym same)); next = stop ∙ ap (λ (s : Session). stop_from l x.count x.from.0 s m) (sym same); asked = (asked.0 ∙ ap (λ (s : Session). memo_from outputs l x.count x.from.0 s m x.memo1.now) (sym same), asked.1 ∙ ap (λ (s : Session). memo_from inputs l x.count x.from.0 s m x.memo2.now) (sym same)); remembered = kept }
+    record { m_after = c.run_answer.ensures (options_of x.self.settings x.listed c.side_of.result x.m1.now x.m2.now x.ignored.now) _ same ∙ (done ∙ ap (λ (s : Session). run_from l x.count x.from.0 s m) (sym same)); next = stop ∙ ap (λ (s : Session). stop_from l x.count x.from.0 s m) (sym same); asked = (asked.0 ∙ ap (λ (s : Session). memo_from outputs l x.count x.from.0 s m x.memo1.now) (sym same), asked.1 ∙ ap (λ (s : Session). memo_from inputs l x.count x.from.0 s m x.memo2.now) (sym same)); remembered = kept }
