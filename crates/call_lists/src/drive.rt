@@ -20,8 +20,7 @@ struct Lending {
     m2: Span,
     allowed1: Span,
     allowed2: Span,
-    listed1: bool,
-    listed2: bool,
+    listed: AllowedLists,
     ignored: Span,
 }
 
@@ -32,37 +31,47 @@ fn nothing() -> Lending {
         m2: none,
         allowed1: none,
         allowed2: none,
-        listed1: false,
-        listed2: false,
+        listed: AllowedLists {
+            first: false,
+            second: false,
+        },
         ignored: none,
     }
 }
 
 // Codes 2 to 5 and 15.
 fn lend(words: &[u32], at: u32, before: Lending) -> Lending {
-    let mut lending = before;
-    let code = arg(words, at, 0);
-    match code {
-        2 => {
-            lending.m1 = args(words, at, 1);
-        }
-        3 => {
-            lending.m2 = args(words, at, 1);
-        }
-        4 => {
-            lending.allowed1 = args(words, at, 2);
-            lending.listed1 = arg(words, at, 1) == 1;
-        }
-        5 => {
-            lending.allowed2 = args(words, at, 2);
-            lending.listed2 = arg(words, at, 1) == 1;
-        }
-        15 => {
-            lending.ignored = args(words, at, 1);
-        }
-        _ => {}
+    match arg(words, at, 0) {
+        2 => Lending {
+            m1: args(words, at, 1),
+            ..before
+        },
+        3 => Lending {
+            m2: args(words, at, 1),
+            ..before
+        },
+        4 => Lending {
+            allowed1: args(words, at, 2),
+            listed: AllowedLists {
+                first: arg(words, at, 1) == 1,
+                ..before.listed
+            },
+            ..before
+        },
+        5 => Lending {
+            allowed2: args(words, at, 2),
+            listed: AllowedLists {
+                second: arg(words, at, 1) == 1,
+                ..before.listed
+            },
+            ..before
+        },
+        15 => Lending {
+            ignored: args(words, at, 1),
+            ..before
+        },
+        _ => before,
     }
-    lending
 }
 
 fn settings_at(words: &[u32], at: u32) -> Settings {
@@ -87,13 +96,6 @@ fn session_at(words: &[u32], at: u32) -> Session {
     }
 }
 
-fn listed(lending: Lending) -> AllowedLists {
-    AllowedLists {
-        first: lending.listed1,
-        second: lending.listed2,
-    }
-}
-
 fn open(
     words: &[u32],
     at: u32,
@@ -111,16 +113,7 @@ fn open(
     let ignored = words_of(words, l.ignored);
     let settings = settings_at(words, at);
     show::answer(session.open(
-        settings,
-        m1,
-        m2,
-        a1,
-        a2,
-        ignored,
-        listed(l),
-        heads,
-        states,
-        trs,
+        settings, m1, m2, a1, a2, ignored, l.listed, heads, states, trs,
     ))
 }
 
@@ -139,7 +132,7 @@ fn expand(
     let a1 = words_of(words, l.allowed1);
     let a2 = words_of(words, l.allowed2);
     let ignored = words_of(words, l.ignored);
-    show::part(session.expand(m1, m2, a1, a2, ignored, listed(l), heads, states, trs, n))
+    show::part(session.expand(m1, m2, a1, a2, ignored, l.listed, heads, states, trs, n))
 }
 
 fn final_weight(
@@ -157,7 +150,7 @@ fn final_weight(
     let a1 = words_of(words, l.allowed1);
     let a2 = words_of(words, l.allowed2);
     let ignored = words_of(words, l.ignored);
-    show::weight(session.final_weight(m1, m2, a1, a2, ignored, listed(l), heads, states, trs, n))
+    show::weight(session.final_weight(m1, m2, a1, a2, ignored, l.listed, heads, states, trs, n))
 }
 
 fn run(
@@ -174,7 +167,7 @@ fn run(
     let a1 = words_of(words, l.allowed1);
     let a2 = words_of(words, l.allowed2);
     let ignored = words_of(words, l.ignored);
-    show::answer(session.run(m1, m2, a1, a2, ignored, listed(l), heads, states, trs))
+    show::answer(session.run(m1, m2, a1, a2, ignored, l.listed, heads, states, trs))
 }
 
 fn records(
@@ -192,7 +185,7 @@ fn records(
     let a1 = words_of(words, l.allowed1);
     let a2 = words_of(words, l.allowed2);
     let ignored = words_of(words, l.ignored);
-    show::words(session.records(m1, m2, a1, a2, ignored, listed(l), heads, states, trs, n));
+    show::words(session.records(m1, m2, a1, a2, ignored, l.listed, heads, states, trs, n));
     session
 }
 
@@ -209,16 +202,7 @@ fn look_up(words: &[u32], at: u32, l: Lending) {
     let s = StateId(arg(words, at, 8));
     let label = Label(arg(words, at, 9));
     show::count(fan_out(
-        settings,
-        m1,
-        m2,
-        a1,
-        a2,
-        ignored,
-        listed(l),
-        machine,
-        s,
-        label,
+        settings, m1, m2, a1, a2, ignored, l.listed, machine, s, label,
     ));
 }
 
@@ -269,48 +253,43 @@ fn step(
     states: &mut [u32],
     trs: &mut [u32],
 ) -> Session {
-    let code = arg(words, at, 0);
-    if code < 6 || code > 14 {
-        return session;
+    match arg(words, at, 0) {
+        6 => session_at(words, at),
+        7 => {
+            damage(words, at, heads, states, trs);
+            session
+        }
+        8..=12 | 14 => {
+            let latest = call(words, at, l, session, heads, states, trs);
+            show::left(latest, heads, states, trs);
+            latest
+        }
+        13 => {
+            show::memory(heads, states, trs);
+            session
+        }
+        _ => session,
     }
-    if code == 6 {
-        return session_at(words, at);
-    }
-    if code == 7 {
-        damage(words, at, heads, states, trs);
-        return session;
-    }
-    if code == 13 {
-        show::memory(heads, states, trs);
-        return session;
-    }
-    let latest = call(words, at, l, session, heads, states, trs);
-    show::left(latest, heads, states, trs);
-    latest
 }
 
-fn fill(slice: &mut [u32], w: u32) {
-    for i in 0..slice.len() {
-        slice[i] = w;
-    }
-}
+// So many lines of a list are read.
+const LINES: u32 = 1024;
 
 // The lines from a place on, up to the first line of the next list. Answers where that stands.
+#[tactic(auto, using(crate::proofs::ListEnd::no_line, crate::proofs::ListEnd::end_here, crate::proofs::ListEnd::line_on))]
 fn steps(words: &[u32], at: u32, heads: &mut [u32], states: &mut [u32], trs: &mut [u32]) -> u32
     ensures { result ≡ list_end words.now 1024 at }
 {
     let mut place = at;
     let mut lending = nothing();
-    let mut session = session_at(words, 4294967295);
-    let mut left: u32 = 1024;
-    while left > 0 {
+    let mut session = session_at(words, u32::MAX);
+    for _ in 0..LINES {
         if arg(words, place, 0) < 2 {
             return place;
         }
         lending = lend(words, place, lending);
         session = step(words, place, lending, session, heads, states, trs);
         place = after(words, place);
-        left -= 1;
     }
     place
 }
@@ -320,9 +299,9 @@ fn list_on(words: &[u32], at: u32, heads: &mut [u32], states: &mut [u32], trs: &
     ensures { result ≡ list_end words.now 1024 (next_line words.now at) }
 {
     let w = arg(words, at, 4);
-    fill(heads, w);
-    fill(states, w);
-    fill(trs, w);
+    heads.fill(w);
+    states.fill(w);
+    trs.fill(w);
     steps(words, after(words, at), heads, states, trs)
 }
 

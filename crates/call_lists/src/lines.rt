@@ -1,5 +1,5 @@
 // Lines of decimal words: a count, a code, and the code's words.
-ghost use Rattle.std.specs.Prelude.{◌≡◌, min, take, drop};
+ghost use Rattle.std.specs.Prelude.{◌≡◌, take, drop};
 ghost use Rattle.call_lists.specs.Lines.{arg_of, args_of, next_line};
 
 use fst::word;
@@ -14,7 +14,7 @@ pub struct Span {
 
 // A number with one more digit, by its last 32 bits.
 fn with_digit(value: u32, digit: u8) -> u32 {
-    ((value as u64 * 10 + (digit % 48) as u64) % 4294967296) as u32
+    value.wrapping_mul(10).wrapping_add(u32::from(digit % 48))
 }
 
 // How many words are read, the one being read, and whether there is one.
@@ -27,11 +27,11 @@ struct Reading {
 
 // One byte more. A byte below the digits ends a word.
 fn read_byte(reading: Reading, b: u8, words: &mut [u32]) -> Reading {
-    if 48 <= b {
+    if b'0' <= b {
         return Reading {
-            count: reading.count,
             value: with_digit(reading.value, b),
             inside: true,
+            ..reading
         };
     }
     if !reading.inside {
@@ -39,7 +39,7 @@ fn read_byte(reading: Reading, b: u8, words: &mut [u32]) -> Reading {
     }
     store(words, reading.count as usize, reading.value);
     Reading {
-        count: ((reading.count as u64 + 1) % 4294967296) as u32,
+        count: reading.count.wrapping_add(1),
         value: 0,
         inside: false,
     }
@@ -52,23 +52,17 @@ pub fn read_words(text: &[u8], words: &mut [u32]) {
         value: 0,
         inside: false,
     };
-    for i in 0..text.len() {
-        reading = read_byte(reading, text[i], words);
+    for b in text {
+        reading = read_byte(reading, *b, words);
     }
-}
-
-fn least(a: usize, b: usize) -> usize
-    ensures { result ≡ min a b }
-{
-    if a <= b { a } else { b }
 }
 
 // The words of a part, cut where the words end.
 pub fn words_of<'a>(words: &'a [u32], part: Span) -> &'a [u32]
     ensures { result.now ≡ take part.count (drop part.at words.now) }
 {
-    let start = least(part.at as usize, words.len());
-    let count = least(part.count as usize, words.len() - start);
+    let start = words.len().min(part.at as usize);
+    let count = (words.len() - start).min(part.count as usize);
     &words[start..start + count]
 }
 
@@ -76,8 +70,8 @@ pub fn words_of<'a>(words: &'a [u32], part: Span) -> &'a [u32]
 pub fn first<'a>(slice: &'a mut [u32], count: u32) -> &'a mut [u32]
     ensures { result.now ≡ take count slice.old }
 {
-    let n = least(count as usize, slice.len());
-    &mut slice[0..n]
+    let n = slice.len().min(count as usize);
+    &mut slice[..n]
 }
 
 // Word k of the line at a place: 0 its code.
@@ -96,7 +90,7 @@ pub fn args(words: &[u32], at: u32, k: u32) -> Span
         return Span { at: 0, count: 0 };
     }
     Span {
-        at: ((at as u64 + 1 + k as u64) % 4294967296) as u32,
+        at: at.wrapping_add(1).wrapping_add(k),
         count: count - k,
     }
 }
@@ -106,5 +100,5 @@ pub fn after(words: &[u32], at: u32) -> u32
     ensures { result ≡ next_line words.now at }
 {
     let count = word(words, at as usize);
-    ((at as u64 + 1 + count as u64) % 4294967296) as u32
+    at.wrapping_add(1).wrapping_add(count)
 }

@@ -14,9 +14,7 @@ fn main() {
     let mut words = [0u32; 49152];
     read_words(&text[..n], &mut words);
     let mut at: u32 = 0;
-    let mut left: u32 = 1024;
-    while left > 0 {
+    for _ in 0..1024 {
         at = one_list(&words, at);
-        left -= 1;
     }
 }

@@ -1,8 +1,7 @@
 // What a call answered, in words; the session that it handed back; and a number mixed from every word of memory.
-ghost use Rattle.std.specs.Prelude.{◌≡◌};
-ghost use Rattle.call_lists.specs.Sessions.{handed_by, handed_by_part, handed_by_weight};
+ghost use Rattle.std.specs.Prelude.{◌≡◌, MatchResult};
 
-use fan_out_call::FanOut;
+use fst::Refusal;
 use lazy_fst::{Answer, PartAnswer, Session, WeightAnswer};
 
 fn put(n: u32) {
@@ -11,8 +10,8 @@ fn put(n: u32) {
 }
 
 pub fn words(slice: &[u32]) {
-    for i in 0..slice.len() {
-        put(slice[i]);
+    for w in slice {
+        put(*w);
     }
 }
 
@@ -21,30 +20,26 @@ pub fn end() {
 }
 
 fn session(s: Session) {
-    let settings = s.settings;
-    let used = s.used;
     io::write_all(1, b" /");
-    put(settings.kind);
-    put(settings.filter);
-    put(settings.sigma1.0);
-    put(settings.mode1);
-    put(settings.sigma2.0);
-    put(settings.mode2);
-    put(s.side);
-    put(used.states);
-    put(used.trs);
+    words(&[
+        s.settings.kind,
+        s.settings.filter,
+        s.settings.sigma1.0,
+        s.settings.mode1,
+        s.settings.sigma2.0,
+        s.settings.mode2,
+        s.side,
+        s.used.states,
+        s.used.trs,
+    ]);
 }
 
 fn mix(sum: u32, w: u32) -> u32 {
-    ((sum as u64 * 31 + w as u64 + 1) % 4294967296) as u32
+    sum.wrapping_mul(31).wrapping_add(w).wrapping_add(1)
 }
 
 fn mixed(slice: &[u32], start: u32) -> u32 {
-    let mut sum = start;
-    for i in 0..slice.len() {
-        sum = mix(sum, slice[i]);
-    }
-    sum
+    slice.iter().fold(start, |sum, w| mix(sum, *w))
 }
 
 // The session, then memory.
@@ -68,48 +63,51 @@ pub fn memory(heads: &[u32], states: &[u32], trs: &[u32]) {
     end();
 }
 
+// The number of the refusal.
+fn refused(refusal: Refusal) {
+    put(u32::from(refusal));
+}
+
 // The number, 0 where the call is accepted. Each of these three answers the session that the call handed back.
 pub fn answer(a: Answer) -> Session
-    ensures { result ≡ handed_by a }
+    ensures { MatchResult a (λ s. result ≡ s) (λ e. result ≡ e.1) }
 {
     match a {
-        Answer::Accepted(s) => {
+        Ok(s) => {
             put(0);
             s
         }
-        Answer::Refused(n, s) => {
-            put(n);
+        Err((refusal, s)) => {
+            refused(refusal);
             s
         }
     }
 }
 
 // The number, then the count of matches.
-pub fn count(a: FanOut) {
+pub fn count(a: Result<u32, Refusal>) {
     match a {
-        FanOut::Count(n) => {
+        Ok(n) => {
             put(0);
             put(n);
         }
-        FanOut::Refused(k) => {
-            put(k);
-        }
+        Err(refusal) => refused(refusal),
     }
 }
 
 // The number, then the first and the count.
 pub fn part(a: PartAnswer) -> Session
-    ensures { result ≡ handed_by_part a }
+    ensures { MatchResult a (λ p. result ≡ p.1) (λ e. result ≡ e.1) }
 {
     match a {
-        PartAnswer::Part(p, s) => {
+        Ok((p, s)) => {
             put(0);
             put(p.first);
             put(p.count);
             s
         }
-        PartAnswer::Refused(n, s) => {
-            put(n);
+        Err((refusal, s)) => {
+            refused(refusal);
             s
         }
     }
@@ -117,22 +115,22 @@ pub fn part(a: PartAnswer) -> Session
 
 // The number, then 1 and the weight, or 0 where the state is not final.
 pub fn weight(a: WeightAnswer) -> Session
-    ensures { result ≡ handed_by_weight a }
+    ensures { MatchResult a (λ p. result ≡ p.1) (λ e. result ≡ e.1) }
 {
     match a {
-        WeightAnswer::Weight(w, s) => {
+        Ok((Some(w), s)) => {
             put(0);
             put(1);
             put(w);
             s
         }
-        WeightAnswer::NotFinal(s) => {
+        Ok((None, s)) => {
             put(0);
             put(0);
             s
         }
-        WeightAnswer::Refused(n, s) => {
-            put(n);
+        Err((refusal, s)) => {
+            refused(refusal);
             s
         }
     }

@@ -1,1 +1,2 @@
 mod PrintedLaws
+pub mod QueryLaws

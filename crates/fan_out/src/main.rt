@@ -3,17 +3,18 @@
 
 ghost use Rattle.std.specs.Prelude.{◌≡◌, [], IfSome, None};
 ghost use Rattle.io.specs.Counts.{IsPrefixLen};
-ghost use Rattle.fan_outs.specs.FanOut.{fan_out_line};
+ghost use Rattle.words.specs.Settings.{Settings, Lent};
+ghost use Rattle.fan_outs.specs.FanOut.{fan_out_at, queried, fan_out_line};
 ghost use Rattle.listing_text.specs.FanOutText.{fan_out_bytes, ended_fan_out};
 ghost use Rattle.listing_read.specs.Meaning.{left_words};
 ghost use Rattle.listing_read.specs.Held.{ended_words};
 ghost use Rattle.listing_write.specs.Written.{Written};
 ghost use Rattle.session_checks.specs.Meaning.{lent_slices};
-ghost use Rattle.fan_out_call.specs.Meaning.{fan_out_means};
+ghost use Rattle.fst.specs.Refusals.{checked_by};
 ghost use Rattle.fan_out.specs.Prints.{Prints, PrintsOf};
 
-use fan_out_call::{FanOut, fan_out};
-use fst::{Label, REFUSED_SETTINGS, StateId, word};
+use fan_out_call::fan_out;
+use fst::{Label, Refusal, StateId};
 use lazy_fst::AllowedLists;
 use listing_input::read_lines;
 use listing_read::{MACHINE_WORDS, QUERY_WORDS, Reader, line_words};
@@ -24,57 +25,44 @@ use std::io::Read;
 // A machine that is neither 1 nor 2: a query not of three words names it.
 const NO_MACHINE: u32 = 0;
 
+// The machine, the state and the label that a query asks for; no machine, where it is not of three words.
+#[tactic(auto, using(crate::proofs::QueryLaws::unasked))]
+fn asked(query: &[u32]) -> (u32, StateId, Label)
+    ensures { (s : Settings) (l : Lent) →
+        fan_out_at s l result.0 result.1.0 result.2.0 ≡ queried s l query.now }
+{
+    if let [machine, state, label] = query {
+        (*machine, StateId(*state), Label(*label))
+    } else {
+        (NO_MACHINE, StateId(0), Label(0))
+    }
+}
+
 // The fan-out that the words of the four lines ask for, without allowed lists and ignored labels.
-fn look_up(settings: &[u32], m1: &[u32], m2: &[u32], query: &[u32]) -> FanOut
+fn look_up(settings: &[u32], m1: &[u32], m2: &[u32], query: &[u32]) -> Result<u32, Refusal>
     ensures { let l = lent_slices m1.now m2.now None None [] in
-        fan_out_means result ≡ fan_out_line settings.now l query.now }
+        checked_by (λ n. n) result ≡ fan_out_line settings.now l query.now }
 {
     if settings.len() != SETTINGS_WORDS {
-        return FanOut::Refused(REFUSED_SETTINGS);
+        return Err(Refusal::Settings);
     }
     let wanted = read_settings(settings);
-    let None = AllowedLists {
+    let listed = AllowedLists {
         first: false,
         second: false,
     };
-    if query.len() != QUERY_WORDS {
-        return fan_out(
-            wanted,
-            m1,
-            m2,
-            m1,
-            m2,
-            &m1[0..0],
-            none,
-            NO_MACHINE,
-            StateId(0),
-            Label(0),
-        );
-    }
-    let state = StateId(word(query, 1));
-    let label = Label(word(query, 2));
-    fan_out(
-        wanted,
-        m1,
-        m2,
-        m1,
-        m2,
-        &m1[0..0],
-        none,
-        word(query, 0),
-        state,
-        label,
-    )
+    let (machine, state, label) = asked(query);
+    fan_out(wanted, m1, m2, &[], &[], &[], listed, machine, state, label)
 }
 
 // The number alone, or the refusal, at the start of `out`.
-fn put_found(out: &mut [u8; 64], found: FanOut) -> usize
-    ensures written { Written out.old 0 (fan_out_bytes (fan_out_means found)) out.new result }
+fn put_found(out: &mut [u8; 64], found: Result<u32, Refusal>) -> usize
+    ensures written { Written out.old 0 (fan_out_bytes (checked_by (λ n. n) found)) out.new result }
     ensures counts { IsPrefixLen result out.new }
 {
     match found {
-        FanOut::Count(n) => put_count(out, 0, n),
-        FanOut::Refused(k) => put_refused(out, 0, k),
+        Ok(n) => put_count(out, 0, n),
+        Err(refusal) => put_refused(out, 0, u32::from(refusal)),
     }
 }
 
@@ -98,14 +86,10 @@ fn answer(
         × (second.new ≡ ended_words r.second second.old)
         × (query.new ≡ ended_words r.query query.old) }
 {
-    let s = r.settings;
-    let f = r.first;
-    let g = r.second;
-    let q = r.query;
-    let a = line_words(s, settings);
-    let b = line_words(f, first);
-    let c = line_words(g, second);
-    let d = line_words(q, query);
+    let a = line_words(r.settings, settings);
+    let b = line_words(r.first, first);
+    let c = line_words(r.second, second);
+    let d = line_words(r.query, query);
     let found = look_up(&settings[..a], &first[..b], &second[..c], &query[..d]);
     put_found(out, found)
 }

@@ -13,9 +13,9 @@ unfolding place_after
 after_byte n p [] b = refl
 after_byte n p (x ∷ xs) b = after_byte n (place_byte n p x) xs b
 
-pub none_read : (n : ℕ) (p : Place) (chunk : List ℕ) → p ≡ place_after n p (take 0 chunk)
+pub none_read : (n : ℕ) (p : Place) → place_after n p [] ≡ p
 unfolding place_after
-none_read n p chunk = refl
+none_read n p = refl
 
 -- one byte more
 pub one_more : (n : ℕ) (p₀ p q : Place) (chunk : List ℕ) (i : ℕ) → i < length chunk → p ≡ place_after n p₀ (take i chunk) → q ≡ place_byte n p (get_or chunk i 0) → q ≡ place_after n p₀ (take (i + 1) chunk)

@@ -1,13 +1,11 @@
 // The lines of a case, read byte by byte; the case is answered when its last line ends.
-ghost use Rattle.std.specs.Prelude.{◌≡◌, min, length};
+ghost use Rattle.std.specs.Prelude.{◌≡◌, ◌<◌, length};
 ghost use Rattle.replay.specs.Places.{new_place, room_at, place_ended, place_byte, place_after};
 
 use crate::order::print_order;
-use fst::word;
 use lazy_fst::AllowedLists;
 use listing::listing;
 use listing_read::{LineReader, MACHINE_WORDS, new_line, step_byte};
-use store_records::store;
 
 // The lines of a case, and the words that there is room for in each.
 pub const LINES: usize = 7;
@@ -15,9 +13,6 @@ pub const LINES: usize = 7;
 const ROOM: usize = MACHINE_WORDS;
 
 pub const WORDS: usize = LINES * ROOM;
-
-// The end of a line that is not of words.
-const NO_WORDS: u32 = 4294967295;
 
 // The number of standard output.
 pub const STDOUT: i32 = 1;
@@ -41,39 +36,26 @@ pub fn new_place() -> Place
     }
 }
 
-fn least(a: usize, b: usize) -> usize
-    ensures { result ≡ min a b }
-{
-    if a <= b { a } else { b }
-}
-
 // The room of line k.
 fn room_of<'a>(words: &'a mut [u32], k: u32) -> &'a mut [u32]
     ensures { length result.now ≡ room_at (length words.old) k }
 {
-    let from = least(ROOM * k as usize, words.len());
-    let to = from + least(ROOM, words.len() - from);
+    let from = words.len().min(ROOM * k as usize);
+    let to = from + ROOM.min(words.len() - from);
     &mut words[from..to]
 }
 
-// The words of line k.
-fn words_of<'a>(words: &'a [u32], ends: &[u32], k: u32) -> &'a [u32] {
-    let end = word(ends, k as usize);
-    let from = least(ROOM * k as usize, words.len());
-    if end == NO_WORDS {
-        return &words[from..from];
-    }
-    let to = from + least(end as usize, words.len() - from);
+// The words of line k, none where it is not of words.
+fn words_of<'a>(words: &'a [u32], ends: &[Option<usize>; LINES], k: usize) -> &'a [u32]
+    requires { k < LINES }
+{
+    let from = words.len().min(ROOM * k);
+    let to = from + ends[k].unwrap_or(0).min(words.len() - from);
     &words[from..to]
 }
 
-// Whether line k is of words.
-fn has_words(ends: &[u32], k: u32) -> bool {
-    word(ends, k as usize) != NO_WORDS
-}
-
 // The whole listing of the case, or its expansions in order.
-fn answer(words: &[u32], ends: &[u32]) {
+fn answer(words: &[u32], ends: &[Option<usize>; LINES]) {
     let order = words_of(words, ends, 0);
     let settings = words_of(words, ends, 1);
     let allowed1 = words_of(words, ends, 2);
@@ -82,11 +64,11 @@ fn answer(words: &[u32], ends: &[u32]) {
     let m1 = words_of(words, ends, 5);
     let m2 = words_of(words, ends, 6);
     let listed = AllowedLists {
-        first: has_words(ends, 2),
-        second: has_words(ends, 3),
+        first: ends[2].is_some(),
+        second: ends[3].is_some(),
     };
     let mut out = [0u8; 131200];
-    if has_words(ends, 0) {
+    if ends[0].is_some() {
         print_order(order, settings, m1, m2, allowed1, allowed2, ignored, listed);
     } else {
         let n = listing(
@@ -97,24 +79,17 @@ fn answer(words: &[u32], ends: &[u32]) {
     io::write_all(STDOUT, b"--\n");
 }
 
-// What is kept of a line that ended.
-fn end_of(line: LineReader) -> u32 {
-    if line.bad {
-        return NO_WORDS;
-    }
-    (line.count % 4294967296) as u32
-}
-
-// The line ends, as if a blank came: how many words it has is kept, and after the seventh line the case is answered.
-fn end_line(place: Place, words: &mut [u32], ends: &mut [u32]) -> Place
+// The line ends, as if a blank came: how many words it has is kept, none where it is not of words, and after the seventh line the case is answered.
+fn end_line(place: Place, words: &mut [u32], ends: &mut [Option<usize>; LINES]) -> Place
     ensures { result ≡ place_ended place }
 {
-    let at = place.at;
-    let line = step_byte(place.line, b' ', room_of(words, at));
-    store(ends, at as usize, end_of(line));
-    if at < 6 {
+    let line = step_byte(place.line, b' ', room_of(words, place.at));
+    if let Some(end) = ends.get_mut(place.at as usize) {
+        *end = if line.bad { None } else { Some(line.count) };
+    }
+    if place.at < 6 {
         return Place {
-            at: at + 1,
+            at: place.at + 1,
             begun: true,
             line: new_line(),
         };
@@ -123,42 +98,43 @@ fn end_line(place: Place, words: &mut [u32], ends: &mut [u32]) -> Place
     new_place()
 }
 
-fn read_byte(place: Place, b: u8, words: &mut [u32], ends: &mut [u32]) -> Place
+fn read_byte(place: Place, b: u8, words: &mut [u32], ends: &mut [Option<usize>; LINES]) -> Place
     ensures { result ≡ place_byte (length words.old) place b }
 {
-    if b == 10 {
+    if b == b'\n' {
         return end_line(place, words, ends);
     }
-    let at = place.at;
     Place {
-        at,
         begun: true,
-        line: step_byte(place.line, b, room_of(words, at)),
+        line: step_byte(place.line, b, room_of(words, place.at)),
+        ..place
     }
 }
 
 // The bytes of a chunk, one after the other; each case is answered as its last line ends.
-pub fn read_bytes(start: Place, chunk: &[u8], words: &mut [u32], ends: &mut [u32]) -> Place
+#[tactic(auto, using(crate::proofs::PlaceLaws::none_read, crate::proofs::PlaceLaws::one_more, crate::proofs::PlaceLaws::all_read))]
+pub fn read_bytes(
+    start: Place,
+    chunk: &[u8],
+    words: &mut [u32],
+    ends: &mut [Option<usize>; LINES],
+) -> Place
     ensures { result ≡ place_after (length words.old) start chunk.now }
 {
     let mut place = start;
-    let mut i = 0;
-    while i < chunk.len() {
-        place = read_byte(place, chunk[i], words, ends);
-        i += 1;
+    for b in chunk {
+        place = read_byte(place, *b, words, ends);
     }
     place
 }
 
 // The input has ended: a case that was begun is answered, its missing lines being empty.
-pub fn finish(start: Place, words: &mut [u32], ends: &mut [u32]) {
+pub fn finish(start: Place, words: &mut [u32], ends: &mut [Option<usize>; LINES]) {
     let mut place = start;
-    let mut left: u32 = 7;
-    while left > 0 {
+    for _ in 0..LINES {
         if !place.begun {
             return;
         }
         place = end_line(place, words, ends);
-        left -= 1;
     }
 }

@@ -10,23 +10,26 @@ use cases::{LINES, WORDS, finish, new_place, read_bytes};
 use std::io::Read;
 
 // Reads to the end of the input, chunk by chunk, and answers each case as its last line ends.
-fn read_cases<R: Read>(input: &mut R, words: &mut [u32], ends: &mut [u32], chunk: &mut [u8]) {
+fn read_cases<R: Read>(
+    input: &mut R,
+    words: &mut [u32],
+    ends: &mut [Option<usize>; LINES],
+    chunk: &mut [u8],
+) {
     let mut place = new_place();
-    let mut left: u64 = 18446744073709551615;
-    while left > 0 {
+    for _ in 0..u64::MAX {
         let n = input.read(chunk).unwrap_or(0);
         if n == 0 {
             finish(place, words, ends);
             return;
         }
         place = read_bytes(place, &chunk[..n], words, ends);
-        left -= 1;
     }
 }
 
 fn main(rt: HostRuntime) {
     let mut words = [0u32; WORDS];
-    let mut ends = [0u32; LINES];
+    let mut ends = [Some(0); LINES];
     let mut chunk = io::large_buffer();
     read_cases(&mut rt.reader(), &mut words, &mut ends, &mut chunk);
 }

@@ -5,8 +5,8 @@ ghost use Rattle.calls.specs.Store.{tr_size};
 use crate::cases::STDOUT;
 use compose_state_tuple::ComposeStateTuple;
 use final_weights::found;
-use fst::{REFUSED_SETTINGS, StateId};
-use lazy_fst::{AllowedLists, Answer, PartAnswer, Session, WeightAnswer};
+use fst::{Refusal, StateId};
+use lazy_fst::{AllowedLists, Session, WeightAnswer};
 use listing::{HEADS, STATE_WORDS, TR_WORDS, no_session};
 use listing_write::{put_end, put_refused, put_side, put_state, put_tr};
 use session_checks::{SETTINGS_WORDS, Settings, read_settings};
@@ -19,10 +19,10 @@ fn show(line: &[u8], n: usize) {
     }
 }
 
-fn print_refused(line: &mut [u8], k: u32)
+fn print_refused(line: &mut [u8], refusal: Refusal)
     requires { 64 ≤ length line.old }
 {
-    let n = put_refused(line, 0, k);
+    let n = put_refused(line, 0, u32::from(refusal));
     show(line, n);
 }
 
@@ -30,21 +30,15 @@ fn print_tr(line: &mut [u8], records: &[u32], i: usize)
     requires { (64 ≤ length line.old) × (i < length records.now / tr_size) }
 {
     let tr = stored_tr(records, i);
-    let input = tr.ilabel;
-    let output = tr.olabel;
-    let target = tr.nextstate;
-    let n = put_tr(line, 0, input.0, output.0, tr.weight, target.0);
+    let n = put_tr(line, 0, tr.ilabel.0, tr.olabel.0, tr.weight, tr.nextstate.0);
     show(line, n);
 }
 
 fn print_records(line: &mut [u8], records: &[u32])
     requires { 64 ≤ length line.old }
 {
-    let count = records.len() / TR_SIZE;
-    let mut i: usize = 0;
-    while i < count {
+    for i in 0..records.len() / TR_SIZE {
         print_tr(line, records, i);
-        i += 1;
     }
 }
 
@@ -52,29 +46,18 @@ fn print_records(line: &mut [u8], records: &[u32])
 fn print_state(line: &mut [u8], n: u32, tuple: ComposeStateTuple, weight: WeightAnswer)
     requires { 64 ≤ length line.old }
 {
-    let s1 = tuple.s1;
-    let s2 = tuple.s2;
-    let f = tuple.fs;
+    let ComposeStateTuple { s1, s2, fs } = tuple;
     match weight {
-        WeightAnswer::Weight(w, _) => {
-            let k = put_state(line, 0, n, s1.0, s2.0, f, true, w);
+        Ok((w, _)) => {
+            let k = put_state(line, 0, n, s1.0, s2.0, fs, w);
             show(line, k);
         }
-        WeightAnswer::NotFinal(_) => {
-            let k = put_state(line, 0, n, s1.0, s2.0, f, false, 0);
-            show(line, k);
-        }
-        WeightAnswer::Refused(r, _) => {
-            let k = put_state(line, 0, n, s1.0, s2.0, f, false, 0);
-            show(line, less_two(k));
-            print_refused(line, r);
+        Err((refusal, _)) => {
+            let k = put_state(line, 0, n, s1.0, s2.0, fs, None);
+            show(line, k.saturating_sub(2));
+            print_refused(line, refusal);
         }
     }
-}
-
-// Without the last two bytes.
-fn less_two(k: usize) -> usize {
-    if k < 2 { 0 } else { k - 2 }
 }
 
 // An accepted expansion, and the records as they are then handed back.
@@ -126,11 +109,11 @@ fn expand(
         m1, m2, allowed1, allowed2, ignored, listed, heads, states, trs, s,
     );
     match answer {
-        PartAnswer::Refused(k, next) => {
-            print_refused(line, k);
+        Err((refusal, next)) => {
+            print_refused(line, refusal);
             next
         }
-        PartAnswer::Part(_, next) => {
+        Ok((_, next)) => {
             print_expanded(
                 next, m1, m2, allowed1, allowed2, ignored, listed, heads, states, trs, line, n,
             );
@@ -157,12 +140,9 @@ fn expand_all(
     requires { 64 ≤ length line.old }
 {
     let mut session = opened;
-    let mut i: usize = 0;
-    while i < order.len() {
-        let n = order[i];
-        i += 1;
+    for n in order {
         session = expand(
-            session, m1, m2, allowed1, allowed2, ignored, listed, heads, states, trs, line, n,
+            session, m1, m2, allowed1, allowed2, ignored, listed, heads, states, trs, line, *n,
         );
     }
     session
@@ -184,15 +164,12 @@ fn print_states(
 )
     requires { 64 ≤ length line.old }
 {
-    let count = found(session);
-    let mut n: u32 = 0;
-    while n < count {
+    for n in 0..found(session) {
         let s = StateId(n);
         let weight = session.final_weight(
             m1, m2, allowed1, allowed2, ignored, listed, heads, states, trs, s,
         );
         print_state(line, n, get_tuple(states, s), weight);
-        n += 1;
     }
 }
 
@@ -234,8 +211,7 @@ fn print_opened(
     print_states(
         last, m1, m2, allowed1, allowed2, ignored, listed, heads, states, trs, line,
     );
-    let used = last.used;
-    print_end(line, used.states, used.trs);
+    print_end(line, last.used.states, last.used.trs);
 }
 
 // The expansions of a case, in lent memory.
@@ -260,8 +236,8 @@ fn print_in(
         settings, m1, m2, allowed1, allowed2, ignored, listed, heads, states, trs,
     );
     match answer {
-        Answer::Refused(k, _) => print_refused(line, k),
-        Answer::Accepted(session) => print_opened(
+        Err((refusal, _)) => print_refused(line, refusal),
+        Ok(session) => print_opened(
             session, order, m1, m2, allowed1, allowed2, ignored, listed, heads, states, trs, line,
         ),
     }
@@ -280,7 +256,7 @@ pub fn print_order(
 ) {
     let mut line = [0u8; 64];
     if words.len() != SETTINGS_WORDS {
-        print_refused(&mut line, REFUSED_SETTINGS);
+        print_refused(&mut line, Refusal::Settings);
         return;
     }
     let mut heads = [0u32; HEADS];
