@@ -1,6 +1,6 @@
 -- Lines put one after the other: what is left to put, after one more, is the rest.
 use mathlib.Core.Path.{◌≡◌, refl, sym, ap, ◌∙◌}
-use mathlib.Core.List.{List, [], ◌∷◌, ◌++◌, map, flat_map, append_assoc}
+use mathlib.Core.List.{List, [], ◌∷◌, ◌++◌, map, flat_map, append_assoc, append-nil}
 use Prim.Native.Nat.{ℕ, ◌+◌, ◌-◌, ◌/◌, ◌≤◌, ◌<◌}
 use native.Mathlib.Nat.{add-zero, sub-zero}
 use native.Mathlib.Omega.{arith}
@@ -26,15 +26,7 @@ bytes_append (x ∷ xs) ys = ap (λ (t : List ℕ). line_bytes x ++ t) (bytes_ap
 
 pub bytes_one : (x : Line) → bytes_of (x ∷ []) ≡ line_bytes x
 unfolding flat_map
-bytes_one x = append_nil' (line_bytes x)
-  where
-    append_nil' : (t : List ℕ) → t ++ [] ≡ t
-    append_nil' [] = refl
-    append_nil' (y ∷ t) = ap (λ (z : List ℕ). y ∷ z) (append_nil' t)
-
-pub bytes_cons : (x : Line) (xs : List Line) → bytes_of (x ∷ xs) ≡ line_bytes x ++ bytes_of xs
-unfolding flat_map
-bytes_cons x xs = refl
+bytes_one x = append-nil (line_bytes x)
 
 -- nothing put
 pub none_put : (out : List ℕ) (to : ℕ) → Written out to [] out to

@@ -38,10 +38,6 @@ module _ (l : Lent) (s : Session) (m : Memory) (o : Outcome (Unit {0})) (e : o �
   unfolding ran_of
   ran_refused k q = rw (← e, q)
 
-  pub ran_accepted : o.answer ≡ good tt → printed (listed l o.session o.memory) ≡ printed (ran_of l s m)
-  unfolding ran_of
-  ran_accepted q = rw (← e, q)
-
   pub ran_few : o.answer ≡ good tt → FewLines l s m → length (lines_from l o.session o.memory 0 o.session.used.states) ≤ state_room o.memory + tr_room o.memory
   ran_few q h = rw e (h (ap (λ (x : Outcome (Unit {0})). x.answer) (sym e) ∙ q))
 
@@ -52,18 +48,6 @@ module _ (s : Settings) (l : Lent) (got : Session) (m : Memory) (o : Outcome (Un
   pub open_refused : (k : ℕ) → o.answer ≡ refused k → refused_line k ∷ [] ≡ printed (opened_of s l got m)
   unfolding opened_of
   open_refused k q = rw (← e, q)
-
-  pub open_accepted : o.answer ≡ good tt → printed (ran_of l o.session o.memory) ≡ printed (opened_of s l got m)
-  unfolding opened_of
-  open_accepted q = rw (← e, q)
-
-  pub open_left : (k : ℕ) → o.answer ≡ refused k → o.memory ≡ opened_memory s l got m
-  unfolding opened_memory
-  open_left k q = rw (← e, q)
-
-  pub open_ran : o.answer ≡ good tt → (run_of l o.session o.memory).memory ≡ opened_memory s l got m
-  unfolding opened_memory
-  open_ran q = rw (← e, q)
 
   pub open_few : o.answer ≡ good tt → FewLines l o.session o.memory
   open_few q = rw e (few_lines s l got m (ap (λ (x : Outcome (Unit {0})). x.answer) (sym e) ∙ q))

@@ -14,7 +14,7 @@ ghost use Rattle.listing_read.specs.Held.{ended_words};
 ghost use Rattle.listing_write.specs.Written.{Written};
 ghost use Rattle.lazy_fst.specs.Meaning.{lent_with};
 
-use fst::REFUSED_SETTINGS;
+use fst::Refusal;
 use lazy_fst::AllowedLists;
 use listing_read::{Reader, line_words};
 use listing_write::put_refused;
@@ -48,14 +48,13 @@ pub fn listing(
     ensures counts { IsPrefixLen result out.new }
 {
     if words.len() != SETTINGS_WORDS {
-        return put_refused(out, 0, REFUSED_SETTINGS);
+        return put_refused(out, 0, u32::from(Refusal::Settings));
     }
-    let settings = read_settings(words);
     let mut heads = [0u32; HEADS];
     let mut states = [0u32; STATE_WORDS];
     let mut trs = [0u32; TR_WORDS];
     open_listing(
-        settings,
+        read_settings(words),
         m1,
         m2,
         allowed1,
@@ -86,12 +85,9 @@ pub fn answer(
         × (first.new ≡ ended_words r.first first.old)
         × (second.new ≡ ended_words r.second second.old) }
 {
-    let s = r.settings;
-    let f = r.first;
-    let g = r.second;
-    let a = line_words(s, settings);
-    let b = line_words(f, first);
-    let c = line_words(g, second);
+    let a = line_words(r.settings, settings);
+    let b = line_words(r.first, first);
+    let c = line_words(r.second, second);
     let words = &settings[..a];
     let m1 = &first[..b];
     let m2 = &second[..c];

@@ -12,7 +12,6 @@ ghost use Rattle.final_weights.specs.Weights.{given_weight};
 ghost use Rattle.listing.specs.Stages.{lines_at, lines_from, Room};
 
 use compose_state_tuple::ComposeStateTuple;
-use final_weights::found;
 use fst::StateId;
 use lazy_fst::{AllowedLists, Session, WeightAnswer};
 use listing_write::{put_end, put_side, put_state, put_tr};
@@ -24,16 +23,10 @@ pub fn put_trs(out: &mut [u8], to: usize, records: &[u32]) -> usize
     ensures written { Written out.old to (bytes_of (tr_lines records.now)) out.new result }
     ensures near { result ≤ to + 64 * (length records.now / tr_size) }
 {
-    let count = records.len() / TR_SIZE;
     let mut at = to;
-    let mut i: usize = 0;
-    while i < count {
+    for i in 0..records.len() / TR_SIZE {
         let tr = stored_tr(records, i);
-        let input = tr.ilabel;
-        let output = tr.olabel;
-        let target = tr.nextstate;
-        at = put_tr(out, at, input.0, output.0, tr.weight, target.0);
-        i += 1;
+        at = put_tr(out, at, tr.ilabel.0, tr.olabel.0, tr.weight, tr.nextstate.0);
     }
     at
 }
@@ -51,14 +44,11 @@ fn put_weighed(
         Written out.old to (line_bytes (state_line n.0 (tuple_means tuple) (given_weight (weight_left weight m).answer))) out.new result }
     ensures near { result ≤ to + 64 }
 {
-    let s1 = tuple.s1;
-    let s2 = tuple.s2;
-    let f = tuple.fs;
-    match weight {
-        WeightAnswer::Weight(w, _) => put_state(out, to, n.0, s1.0, s2.0, f, true, w),
-        WeightAnswer::NotFinal(_) => put_state(out, to, n.0, s1.0, s2.0, f, false, 0),
-        WeightAnswer::Refused(_, _) => put_state(out, to, n.0, s1.0, s2.0, f, false, 0),
-    }
+    let given = match weight {
+        Ok((given, _)) => given,
+        Err(_) => None,
+    };
+    put_state(out, to, n.0, tuple.s1.0, tuple.s2.0, tuple.fs, given)
 }
 
 // State n and its transitions.
@@ -126,15 +116,23 @@ fn put_states(
         let m = memory_of heads.now states.now trs.now in
         result ≤ to + 64 * length (lines_from l (session_means session) m 0 session.used.states) }
 {
-    let count = found(session);
     let mut at = to;
-    let mut n: u32 = 0;
-    while n < count {
-        let s = StateId(n);
+    for n in 0..session.used.states {
         at = put_one(
-            session, m1, m2, allowed1, allowed2, ignored, listed, heads, states, trs, s, out, at,
+            session,
+            m1,
+            m2,
+            allowed1,
+            allowed2,
+            ignored,
+            listed,
+            heads,
+            states,
+            trs,
+            StateId(n),
+            out,
+            at,
         );
-        n += 1;
     }
     at
 }
@@ -165,10 +163,9 @@ pub fn put_listing(
         Written out.old 0 (bytes_of lines) out.new result }
     ensures counts { result ≤ length out.new }
 {
-    let used = session.used;
     let a = put_side(out, 0, session.side);
     let b = put_states(
         session, m1, m2, allowed1, allowed2, ignored, listed, heads, states, trs, out, a,
     );
-    put_end(out, b, used.states, used.trs)
+    put_end(out, b, session.used.states, session.used.trs)
 }

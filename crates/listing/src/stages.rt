@@ -11,8 +11,8 @@ ghost use Rattle.listing_write.specs.Written.{Written};
 ghost use Rattle.listing.specs.Stages.{lines_from, Room, Sized, FewLines, ran_of, opened_of, opened_memory};
 
 use crate::lines::put_listing;
-use final_weights::{AllWeights, take_weights};
-use lazy_fst::{AllowedLists, Answer, Session};
+use final_weights::take_weights;
+use lazy_fst::{AllowedLists, Session};
 use listing_write::put_refused;
 use session_checks::Settings;
 use store_records::Used;
@@ -29,6 +29,7 @@ pub fn no_session(settings: Settings) -> Session
 }
 
 // Opens, and goes on.
+#[tactic(auto, unfolding(crate::specs::Stages::opened_of, crate::specs::Stages::opened_memory))]
 pub fn open_listing(
     settings: Settings,
     m1: &[u32],
@@ -57,14 +58,15 @@ pub fn open_listing(
         settings, m1, m2, allowed1, allowed2, ignored, listed, heads, states, trs,
     );
     match answer {
-        Answer::Refused(k, _) => put_refused(out, 0, k),
-        Answer::Accepted(session) => run_listing(
+        Ok(session) => run_listing(
             session, m1, m2, allowed1, allowed2, ignored, listed, heads, states, trs, out,
         ),
+        Err((refusal, _)) => put_refused(out, 0, u32::from(refusal)),
     }
 }
 
 // Runs, and goes on.
+#[tactic(auto, unfolding(crate::specs::Stages::ran_of))]
 fn run_listing(
     session: Session,
     m1: &[u32],
@@ -94,10 +96,10 @@ fn run_listing(
         m1, m2, allowed1, allowed2, ignored, listed, heads, states, trs,
     );
     match answer {
-        Answer::Refused(k, _) => put_refused(out, 0, k),
-        Answer::Accepted(next) => weigh_listing(
+        Ok(next) => weigh_listing(
             next, m1, m2, allowed1, allowed2, ignored, listed, heads, states, trs, out,
         ),
+        Err((refusal, _)) => put_refused(out, 0, u32::from(refusal)),
     }
 }
 
@@ -129,9 +131,9 @@ fn weigh_listing(
         session, m1, m2, allowed1, allowed2, ignored, listed, heads, states, trs,
     );
     match weights {
-        AllWeights::Refused(k) => put_refused(out, 0, k),
-        AllWeights::All => put_listing(
+        Ok(()) => put_listing(
             session, m1, m2, allowed1, allowed2, ignored, listed, heads, states, trs, out,
         ),
+        Err(refusal) => put_refused(out, 0, u32::from(refusal)),
     }
 }

@@ -1,5 +1,4 @@
 pub mod WordLaws
-pub mod TrustedLaws
 pub mod Numbers
 pub mod CallerLaws
 pub mod HandedLaws

@@ -17,13 +17,13 @@ pub fn leave(session: &mut [u32], answer: Answer) -> u32
     ensures { (m : Memory) → leaves result session.new [] m ≡ in_words (λ u. accepted) [] (left answer m) }
 {
     match answer {
-        Answer::Accepted(next) => {
+        Ok(next) => {
             write_session(session, next);
             0
         }
-        Answer::Refused(k, kept) => {
+        Err((refusal, kept)) => {
             write_session(session, kept);
-            k
+            u32::from(refusal)
         }
     }
 }
@@ -34,14 +34,14 @@ pub fn leave_part(session: &mut [u32], words: &mut [u32], answer: PartAnswer) ->
     ensures { (m : Memory) → leaves result session.new words.new m ≡ in_words part words.old (part_left answer m) }
 {
     match answer {
-        PartAnswer::Part(found, next) => {
+        Ok((found, next)) => {
             write_session(session, next);
             write_answer(words, found.first, found.count);
             0
         }
-        PartAnswer::Refused(k, same) => {
+        Err((refusal, same)) => {
             write_session(session, same);
-            k
+            u32::from(refusal)
         }
     }
 }
@@ -53,11 +53,7 @@ pub fn leave_piece(session: &mut [u32], words: &mut [u32], next: StateId, answer
 {
     let number = leave(session, answer);
     let found = word(session, USED_STATES);
-    if found <= next.0 {
-        write_answer(words, next.0, 0);
-    } else {
-        write_answer(words, next.0, found - next.0);
-    }
+    write_answer(words, next.0, found.saturating_sub(next.0));
     number
 }
 
@@ -68,15 +64,15 @@ pub fn leave_weight(words: &mut [u32], answer: WeightAnswer) -> u32
         leaves result (session_words (weight_left answer m).session) words.new m ≡ in_words weight words.old (weight_left answer m) }
 {
     match answer {
-        WeightAnswer::Weight(w, _) => {
+        Ok((Some(w), _)) => {
             write_answer(words, 1, w);
             0
         }
-        WeightAnswer::NotFinal(_) => {
+        Ok((None, _)) => {
             write_answer(words, 0, 0);
             0
         }
-        WeightAnswer::Refused(k, _) => k,
+        Err((refusal, _)) => u32::from(refusal),
     }
 }
 
@@ -86,9 +82,6 @@ pub fn leave_handed(words: &mut [u32], states: &[u32], n: StateId, handed: &[u32
     ensures { words.new ≡ part_words (handed_part states.now n.0 handed.now) }
 {
     let count = tr_room(handed);
-    if count == 0 {
-        write_answer(words, 0, 0);
-    } else {
-        write_answer(words, first_of(states, n), count);
-    }
+    let first = if count == 0 { 0 } else { first_of(states, n) };
+    write_answer(words, first, count);
 }

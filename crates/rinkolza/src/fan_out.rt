@@ -1,31 +1,32 @@
 // The fan-out of a look-up for C and Rust (02, 2.6), which is lent no session and no memory.
 ghost use Rattle.std.specs.Prelude.{◌≡◌, length};
-ghost use Rattle.fan_out_call.specs.Meaning.{fan_out_means};
+ghost use Rattle.fst.specs.Refusals.{checked_by};
 ghost use Rattle.rinkolza.specs.Exported.{lent_words};
 ghost use Rattle.rinkolza.specs.FanOutWords.{count_left, in_count, fan_out_words};
 
 use crate::slices::listed_by;
-use fan_out_call::{FanOut, fan_out};
-use fst::{Label, REFUSED_SETTINGS, StateId};
+use fan_out_call::fan_out;
+use fst::{Label, Refusal, StateId};
 use session_checks::{SETTINGS_WORDS, read_settings};
 
 const COUNT_WORDS: usize = 1;
 
 // The number of matches, in an answer of one word; or the refusal.
-fn leave_count(answer: &mut [u32], found: FanOut) -> u32
+fn leave_count(answer: &mut [u32], found: Result<u32, Refusal>) -> u32
     requires { length answer.old ≡ 1 }
-    ensures { count_left result answer.new ≡ in_count answer.old (fan_out_means found) }
+    ensures { count_left result answer.new ≡ in_count answer.old (checked_by (λ n. n) found) }
 {
     match found {
-        FanOut::Count(n) => {
+        Ok(n) => {
             answer[0] = n;
             0
         }
-        FanOut::Refused(k) => k,
+        Err(refusal) => u32::from(refusal),
     }
 }
 
 // How many matches a label has at a state of machine 1 or 2.
+#[tactic(auto, unfolding(crate::specs::FanOutWords::fan_out_words))]
 #[unsafe(no_mangle)]
 pub extern "C" fn rinkolza_fan_out(
     settings: &[u32],
@@ -44,11 +45,8 @@ pub extern "C" fn rinkolza_fan_out(
     ensures { let l = lent_words m1.now m2.now allowed1.now has1 allowed2.now has2 ignored.now in
         count_left result answer.new ≡ fan_out_words settings.now l machine state label answer.old }
 {
-    if settings.len() != SETTINGS_WORDS {
-        return REFUSED_SETTINGS;
-    }
-    if answer.len() != COUNT_WORDS {
-        return REFUSED_SETTINGS;
+    if settings.len() != SETTINGS_WORDS || answer.len() != COUNT_WORDS {
+        return u32::from(Refusal::Settings);
     }
     let wanted = read_settings(settings);
     let listed = listed_by(has1, has2);

@@ -12,11 +12,12 @@ ghost use Rattle.store_records.specs.Meaning.{memory_of};
 ghost use Rattle.rinkolza.specs.Exported.{lent_words, leaves, open_words, expand_words, final_weight_words, run_words, records_words};
 
 use answers::{leave, leave_handed, leave_part, leave_weight};
-use fst::{REFUSED_SETTINGS, StateId};
+use fst::{Refusal, StateId};
 use session_checks::{SETTINGS_WORDS, read_settings};
 use slices::{ANSWER_WORDS, SESSION_WORDS, listed_by, read_session, sized, write_answer};
 
 // Opens a session with six settings.
+#[tactic(auto, unfolding(crate::specs::Exported::open_words))]
 #[unsafe(no_mangle)]
 pub extern "C" fn rinkolza_open(
     settings: &[u32],
@@ -37,11 +38,8 @@ pub extern "C" fn rinkolza_open(
         let m' = memory_of heads.new states.new trs.new in
         leaves result session.new [] m' ≡ open_words settings.now l session.old m }
 {
-    if settings.len() != SETTINGS_WORDS {
-        return REFUSED_SETTINGS;
-    }
-    if session.len() != SESSION_WORDS {
-        return REFUSED_SETTINGS;
+    if settings.len() != SETTINGS_WORDS || session.len() != SESSION_WORDS {
+        return u32::from(Refusal::Settings);
     }
     let given = read_session(session);
     let wanted = read_settings(settings);
@@ -53,6 +51,7 @@ pub extern "C" fn rinkolza_open(
 }
 
 // Expands state n.
+#[tactic(auto, unfolding(crate::specs::Exported::expand_words))]
 #[unsafe(no_mangle)]
 pub extern "C" fn rinkolza_expand(
     session: &mut [u32],
@@ -75,7 +74,7 @@ pub extern "C" fn rinkolza_expand(
         leaves result session.new answer.new m' ≡ expand_words l session.old answer.old m n }
 {
     if !sized(session, answer) {
-        return REFUSED_SETTINGS;
+        return u32::from(Refusal::Settings);
     }
     let given = read_session(session);
     let listed = listed_by(has1, has2);
@@ -95,6 +94,7 @@ pub extern "C" fn rinkolza_expand(
 }
 
 // The final weight of state n.
+#[tactic(auto, unfolding(crate::specs::Exported::final_weight_words))]
 #[unsafe(no_mangle)]
 pub extern "C" fn rinkolza_final_weight(
     session: &[u32],
@@ -116,7 +116,7 @@ pub extern "C" fn rinkolza_final_weight(
         leaves result session.now answer.new m ≡ final_weight_words l session.now answer.old m n }
 {
     if !sized(session, answer) {
-        return REFUSED_SETTINGS;
+        return u32::from(Refusal::Settings);
     }
     let given = read_session(session);
     let listed = listed_by(has1, has2);
@@ -136,6 +136,7 @@ pub extern "C" fn rinkolza_final_weight(
 }
 
 // Expands in number order until none is left or one is refused.
+#[tactic(auto, unfolding(crate::specs::Exported::run_words))]
 #[unsafe(no_mangle)]
 pub extern "C" fn rinkolza_run(
     session: &mut [u32],
@@ -156,7 +157,7 @@ pub extern "C" fn rinkolza_run(
         leaves result session.new [] m' ≡ run_words l session.old m }
 {
     if session.len() != SESSION_WORDS {
-        return REFUSED_SETTINGS;
+        return u32::from(Refusal::Settings);
     }
     let given = read_session(session);
     let listed = listed_by(has1, has2);
@@ -167,6 +168,7 @@ pub extern "C" fn rinkolza_run(
 }
 
 // The first and the count of an expanded state's records; no number.
+#[tactic(auto, unfolding(crate::specs::Exported::records_words, calls::specs::Store::room_with))]
 #[unsafe(no_mangle)]
 pub extern "C" fn rinkolza_records(
     session: &[u32],

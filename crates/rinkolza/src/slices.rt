@@ -19,19 +19,15 @@ pub const USED_STATES: usize = 7;
 pub fn sized(session: &[u32], answer: &[u32]) -> bool
     ensures { result ≡ (nine session.now && two answer.now) }
 {
-    if session.len() != SESSION_WORDS {
-        return false;
-    }
-    answer.len() == ANSWER_WORDS
+    session.len() == SESSION_WORDS && answer.len() == ANSWER_WORDS
 }
 
 // The session of nine words.
 pub fn read_session(words: &[u32]) -> Session
     ensures { session_means result ≡ session_at words.now }
 {
-    let settings = read_settings(words);
     Session {
-        settings,
+        settings: read_settings(words),
         side: word(words, 6),
         used: Used {
             states: word(words, USED_STATES),
@@ -46,16 +42,17 @@ pub fn write_session(words: &mut [u32], session: Session)
     ensures { words.new ≡ session_words (session_means session) }
 {
     let settings = session.settings;
-    let used = session.used;
-    words[0] = settings.kind;
-    words[1] = settings.filter;
-    words[2] = settings.sigma1.0;
-    words[3] = settings.mode1;
-    words[4] = settings.sigma2.0;
-    words[5] = settings.mode2;
-    words[6] = session.side;
-    words[USED_STATES] = used.states;
-    words[8] = used.trs;
+    words.copy_from_slice(&[
+        settings.kind,
+        settings.filter,
+        settings.sigma1.0,
+        settings.mode1,
+        settings.sigma2.0,
+        settings.mode2,
+        session.side,
+        session.used.states,
+        session.used.trs,
+    ]);
 }
 
 // The two words of an answer.
@@ -63,8 +60,7 @@ pub fn write_answer(words: &mut [u32], first: u32, second: u32)
     requires { length words.old ≡ 2 }
     ensures { words.new ≡ first ∷ second ∷ [] }
 {
-    words[0] = first;
-    words[1] = second;
+    words.copy_from_slice(&[first, second]);
 }
 
 // Whether there are allowed lists.

@@ -10,11 +10,12 @@ ghost use Rattle.rinkolza.specs.Trusted.{piece_words, final_weights_words, Memos
 
 use crate::answers::{leave_handed, leave_part, leave_piece, leave_weight};
 use crate::slices::{ANSWER_WORDS, SESSION_WORDS, listed_by, read_session, sized, write_answer};
-use final_weights::{AllWeights, found, write_weights};
-use fst::{REFUSED_SETTINGS, StateId};
+use final_weights::{found, write_weights};
+use fst::{Refusal, StateId};
 use list_facts::MEMO_WORDS;
 
 // Expands state n.
+#[tactic(auto, unfolding(crate::specs::Exported::expand_words, crate::specs::Trusted::expand_memo))]
 #[unsafe(no_mangle)]
 pub extern "C" fn rinkolza_trusted_expand(
     session: &mut [u32],
@@ -48,7 +49,7 @@ pub extern "C" fn rinkolza_trusted_expand(
         Memos l session.old memo1.new memo2.new }
 {
     if !sized(session, answer) {
-        return REFUSED_SETTINGS;
+        return u32::from(Refusal::Settings);
     }
     let given = read_session(session);
     let listed = listed_by(has1, has2);
@@ -70,6 +71,7 @@ pub extern "C" fn rinkolza_trusted_expand(
 }
 
 // The final weight of state n.
+#[tactic(auto, unfolding(crate::specs::Exported::final_weight_words))]
 #[unsafe(no_mangle)]
 pub extern "C" fn rinkolza_trusted_final_weight(
     session: &[u32],
@@ -93,7 +95,7 @@ pub extern "C" fn rinkolza_trusted_final_weight(
         leaves result session.now answer.new m ≡ final_weight_words l session.now answer.old m n }
 {
     if !sized(session, answer) {
-        return REFUSED_SETTINGS;
+        return u32::from(Refusal::Settings);
     }
     let given = read_session(session);
     let listed = listed_by(has1, has2);
@@ -113,6 +115,7 @@ pub extern "C" fn rinkolza_trusted_final_weight(
 }
 
 // The final weights of all found states, two words for each in number order.
+#[tactic(auto, unfolding(crate::specs::Trusted::final_weights_words))]
 #[unsafe(no_mangle)]
 pub extern "C" fn rinkolza_trusted_final_weights(
     session: &[u32],
@@ -135,24 +138,25 @@ pub extern "C" fn rinkolza_trusted_final_weights(
         leaves result session.now answer.new m ≡ final_weights_words l session.now answer.old m }
 {
     if session.len() != SESSION_WORDS {
-        return REFUSED_SETTINGS;
+        return u32::from(Refusal::Settings);
     }
     let given = read_session(session);
     let count = found(given);
     if answer.len() != ANSWER_WORDS * (count as usize) {
-        return REFUSED_SETTINGS;
+        return u32::from(Refusal::Settings);
     }
     let listed = listed_by(has1, has2);
     let weights = write_weights(
         given, m1, m2, allowed1, allowed2, ignored, listed, heads, states, trs, answer,
     );
     match weights {
-        AllWeights::All => 0,
-        AllWeights::Refused(k) => k,
+        Ok(()) => 0,
+        Err(refusal) => u32::from(refusal),
     }
 }
 
 // A piece of a run: from state n on, in number order, at most k states, until none is left or one is refused.
+#[tactic(auto, unfolding(crate::specs::Trusted::piece_words, crate::specs::Trusted::piece_memo))]
 #[unsafe(no_mangle)]
 pub extern "C" fn rinkolza_trusted_run(
     session: &mut [u32],
@@ -187,7 +191,7 @@ pub extern "C" fn rinkolza_trusted_run(
         Memos l session.old memo1.new memo2.new }
 {
     if !sized(session, answer) {
-        return REFUSED_SETTINGS;
+        return u32::from(Refusal::Settings);
     }
     let given = read_session(session);
     let listed = listed_by(has1, has2);
@@ -206,12 +210,11 @@ pub extern "C" fn rinkolza_trusted_run(
         StateId(n),
         k,
     );
-    let next = piece.next;
-    let done = piece.answer;
-    leave_piece(session, answer, next, done)
+    leave_piece(session, answer, piece.next, piece.answer)
 }
 
 // The first and the count of an expanded state's records; no number.
+#[tactic(auto, unfolding(crate::specs::Exported::records_words, calls::specs::Store::room_with))]
 #[unsafe(no_mangle)]
 pub extern "C" fn rinkolza_trusted_records(
     session: &[u32],

@@ -3,7 +3,7 @@ use mathlib.Core.Path.{◌≡◌, sym, ◌∙◌, ap}
 use Prim.Native.Nat.{ℕ}
 use mathlib.Core.List.{List}
 use Rattle.std.specs.Prelude.{Option}
-use Rattle.fst.proofs.Tests.{fails, holds}
+use Rattle.fst.proofs.Tests.{holds}
 use Rattle.calls.specs.Calls.{Outcome, final_weight_of}
 use Rattle.calls.specs.Sequences.{weight}
 use Rattle.store_records.specs.Meaning.{memory_of}
@@ -11,13 +11,6 @@ use Rattle.lazy_fst.specs.Meaning.{lent_with, weight_left}
 use Rattle.rinkolza.specs.Exported.{leaves, in_words, session_words, session_at, lent_words, final_weight_words}
 use Rattle.rinkolza.proofs.WordLaws.{both_sized, words_of_session, final_session}
 use Rattle.rinkolza.proofs.rinkolza_final_weight.Goals as goal
-
-pub returns-then-not-sized : goal.returns-then-not-sized
-unfolding final_weight_words
-returns-then-not-sized c = rw (fails c.sized.ensures c.if-not-sized.true)
-
-pub leave_weight-requires : goal.leave_weight-requires
-leave_weight-requires c = (both_sized c.args.session.now c.args.answer.now (holds c.sized.ensures c.if-not-sized.false)).1
 
 pub returns : goal.returns
 unfolding final_weight_words

@@ -1,4 +1,4 @@
--- `put_one` meets its contract: the state's own line, then its records.
+-- The state's own line, then its records.
 use mathlib.Core.Path.{◌≡◌, ap}
 use mathlib.Core.List.{List}
 use Prim.Native.Nat.{ℕ, ◌/◌}
@@ -14,9 +14,6 @@ use Rattle.listing.proofs.LinesFit.{tr_lines_length}
 use Rattle.listing.proofs.StageLaws.{one_state}
 use Rattle.listing.proofs.lines.put_one.Goals as goal
 
-pub put_weighed-at-requires : goal.put_weighed-at-requires
-put_weighed-at-requires c = omega (arith, c.requires.fact)
-
 pub put_trs-requires : goal.put_trs-requires
 put_trs-requires c =
     let a = c.args in
@@ -31,6 +28,13 @@ returns c =
     let a = c.args in
     let w = c.put_weighed-at in
     let v = c.put_trs in
-    let r = c.trusted_records-records in
-    let e = ap (λ (x : List ℕ). length x / tr_size) r.ensures.result_value in
-    let t = tr_lines_length (records_of (lent_with a.m1.now a.m2.now a.allowed1.now a.allowed2.now a.ignored.now a.listed) (session_means a.session) (memory_of a.heads.now a.states.now a.trs.now) a.n.0) in record { fact_2 = same_text (one_state (lent_with a.m1.now a.m2.now a.allowed1.now a.allowed2.now a.ignored.now a.listed) (session_means a.session) (memory_of a.heads.now a.states.now a.trs.now) a.n.0 _ _ _ c.get_tuple.ensures c.trusted_final_weight-weight.ensures r.ensures.result_value) (then (w.ensures.written (memory_of a.heads.now a.states.now a.trs.now)) v.ensures.written); near = omega (arith, w.ensures.near, v.ensures.near, e, t) }
+    let r = c.trusted_records-records.ensures.result_value in
+    let l = lent_with a.m1.now a.m2.now a.allowed1.now a.allowed2.now a.ignored.now a.listed in
+    let s = session_means a.session in
+    let m = memory_of a.heads.now a.states.now a.trs.now in
+    let e = ap (λ (x : List ℕ). length x / tr_size) r in
+    let t = tr_lines_length (records_of l s m a.n.0) in
+    record {
+      fact_2 = same_text (one_state l s m a.n.0 _ _ _ c.get_tuple.ensures c.trusted_final_weight-weight.ensures r) (then (w.ensures.written m) v.ensures.written);
+      near = omega (arith, w.ensures.near, v.ensures.near, e, t);
+    }

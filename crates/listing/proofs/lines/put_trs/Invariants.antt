@@ -1,4 +1,4 @@
--- `put_trs` meets its contract. The loop's invariant: the lines from record i on, put from here, are all lines put from the start.
+-- What `put_trs`'s loop keeps: the lines from record i on, put from here, are all lines put from the start.
 use mathlib.Core.Path.{◌≡◌}
 use Prim.Native.Nat.{◌+◌, ◌-◌, ◌*◌, ◌≤◌}
 use lib.ListN.{length}
@@ -6,8 +6,7 @@ use Rattle.listing.proofs.LineLaws.{Rest, tr_lines_from}
 use Rattle.listing.proofs.lines.put_trs.Given as goal
 
 abbrev pub invariant-loop-i : goal.invariant-loop-i
-invariant-loop-i l =
-    (l.i ≤ l.count) × (length l.out ≡ length l.initial.out) × (l.at + 64 * (l.count - l.i) ≤ l.to + 64 * l.count) × Rest l.initial.out l.to (tr_lines_from l.records 0 l.count) l.out l.at (tr_lines_from l.records l.i l.count)
-
-abbrev pub decreases-loop-i : goal.decreases-loop-i
-decreases-loop-i l = l.count - l.i
+invariant-loop-i l = record {
+  near : l.at + 64 * (l.i-end - l.i) ≤ l.to + 64 * l.i-end;
+  rest : Rest l.initial.out l.to (tr_lines_from l.records 0 l.i-end) l.out l.at (tr_lines_from l.records l.i l.i-end);
+}

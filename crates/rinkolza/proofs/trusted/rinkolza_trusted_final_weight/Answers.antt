@@ -4,7 +4,7 @@ use Prim.Native.Nat.{ℕ}
 use mathlib.Core.List.{List}
 use Rattle.std.specs.Prelude.{Option}
 use Rattle.lists.proofs.Members.{and_left}
-use Rattle.fst.proofs.Tests.{fails, holds}
+use Rattle.fst.proofs.Tests.{holds}
 use Rattle.calls.specs.Calls.{Outcome, final_weight_of}
 use Rattle.calls.specs.Sequences.{weight}
 use Rattle.store_records.specs.Meaning.{memory_of}
@@ -12,13 +12,6 @@ use Rattle.lazy_fst.specs.Meaning.{lent_with, weight_left}
 use Rattle.rinkolza.specs.Exported.{leaves, in_words, session_words, session_at, lent_words, final_weight_words}
 use Rattle.rinkolza.proofs.WordLaws.{both_sized, words_of_session, final_session}
 use Rattle.rinkolza.proofs.trusted.rinkolza_trusted_final_weight.Goals as goal
-
-pub returns-then-not-sized : goal.returns-then-not-sized
-unfolding final_weight_words
-returns-then-not-sized c = rw (fails c.sized.ensures c.if-not-sized.true)
-
-pub leave_weight-requires : goal.leave_weight-requires
-leave_weight-requires c = (both_sized c.args.session.now c.args.answer.now (holds c.sized.ensures c.if-not-sized.false)).1
 
 pub returns : goal.returns
 unfolding final_weight_words
@@ -31,6 +24,3 @@ returns c =
     = c.trusted_final_weight-done.ensures ∙ (λ i. final_weight_of (lent_with x.m1.now x.m2.now x.allowed1.now x.allowed2.now x.ignored.now (c.listed_by-listed.ensures i)) (c.read_session-given.ensures i) m x.n) in
     let same = ap (λ (o : Outcome (Option ℕ)). session_words o.session) done ∙ ap session_words (final_session _ (session_at w) m x.n) ∙ words_of_session w (both_sized w x.answer.now h).0 in
     rw h (ap (λ (s : List ℕ). leaves c.leave_weight.result s c.leave_weight.new.words m) (sym same) ∙ (c.leave_weight.ensures m ∙ ap (in_words weight x.answer.now) done))
-
-pub trusted_final_weight-done-requires : goal.trusted_final_weight-done-requires
-trusted_final_weight-done-requires c = rw (c.listed_by-listed.ensures, c.read_session-given.ensures) (c.requires (and_left _ _ (holds c.sized.ensures c.if-not-sized.false)))
