@@ -7,10 +7,10 @@ use Rattle.std.specs.Prelude.{Option, None, Some}
 use Prim.Native.Nat.{ℕ, suc, ◌+◌, ◌*◌, ◌≤◌, ◌<◌}
 use native.Mathlib.Omega.{arith}
 use lib.Dec.{ltb}
-use lib.ListN.{length, length-map, set, length-set}
+use lib.ListN.{length, length-map, set}
 use borrow.Author.Tests.{eq-eqb, ne_eqb, lt-ltb, le-ltb}
 use Rattle.lists.specs.Lists.{put}
-use Rattle.lists.proofs.Put.{length_put, put_none, put_put, put_swap}
+use Rattle.lists.proofs.Put.{put_none, put_put, put_swap}
 use Rattle.words.specs.Labels.{Checked, good, refused, and_then}
 use Rattle.words.specs.Machines.{limit}
 use Rattle.words.specs.Matches.{Tr}
@@ -98,10 +98,6 @@ row_put out out₁ out₂ at here before after first list o a e f g =
     let z : at + 1 ≡ suc at = omega arith in
     let h : first ≡ cond (non_empty list) (suc before) 0 = f ∙ ap (λ k. cond (ltb before k) (suc before) 0) a ∙ ap (λ (b : Bool). cond b (suc before) 0) (some_listed before list) in
     rw (g, z, h, e) refl
-
--- no word more or less
-pub row_length : (out out₁ out₂ : List ℕ) (at here first : ℕ) (l r : List ℕ) → out₁ ≡ put out here l → out₂ ≡ put (set out₁ at first) (at + 1) r → length out₂ ≡ length out
-row_length out out₁ out₂ at here first l r e f = ap length f ∙ length_put (set out₁ at first) (at + 1) r ∙ length-set out₁ at first ∙ ap length e ∙ length_put out here l
 
 -- the kept records, and so the new list, are told by the transitions alone
 pub kept_alike : (trs work : List ℕ) (used : ℕ) (heads heads' states states' : List ℕ) (u u' r : ℕ)

@@ -15,7 +15,7 @@ ghost use Rattle.lazy_fst.specs.Meaning.{lent_with, session_means, weight_left};
 ghost use Rattle.trim_passes.specs.Passes.{number_in, kept_from, new_list, rows_from};
 ghost use Rattle.trim_rows.specs.Rows.{done_means, nothing, counted, state_place, list_place, filled, Fits};
 
-use final_weights::{found, put_weight};
+use final_weights::put_weight;
 use fst::{HEADER_WORDS, STATE_WORDS, StateId, TR_WORDS};
 use lazy_fst::{AllowedLists, Session, WeightAnswer};
 use store_links::first_record;
@@ -30,6 +30,7 @@ pub struct Done {
 }
 
 // The header; all marks are 0.
+#[tactic(auto, unfolding(lists::specs::Lists::put))]
 fn write_header(out: &mut [u32], rows: u32, trs: u32, start: u32)
     requires { header_words ≤ length out.old }
     ensures { out.new ≡ put out.old 0 (rows ∷ trs ∷ start ∷ 0 ∷ 0 ∷ 0 ∷ []) }
@@ -126,8 +127,6 @@ fn write_row(
     if number_of(work, n) == 0 {
         return done;
     }
-    let used = session.used;
-    let last = used.trs;
     let weight = session.trusted_final_weight(
         m1,
         m2,
@@ -140,6 +139,7 @@ fn write_row(
         trs,
         StateId(n),
     );
+    let last = session.used.trs;
     let first = first_record(states, last, n);
     put_row(out, trs, last, work, first, weight, rows, done)
 }
@@ -172,15 +172,12 @@ fn write_rows(
         (c : Composition) → entered l (session_means session) m ≡ good c
         → out.new ≡ filled rows nothing (rows_from c d work.now 0) out.old }
 {
-    let count = found(session);
     let mut done = Done { rows: 0, trs: 0 };
-    let mut n: u32 = 0;
-    while n < count {
+    for n in 0..session.used.states {
         done = write_row(
             session, m1, m2, allowed1, allowed2, ignored, listed, heads, states, trs, work, out,
             rows, n, done,
         );
-        n += 1;
     }
 }
 
