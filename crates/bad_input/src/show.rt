@@ -35,16 +35,6 @@ fn sigmas() -> Sigmas {
     }
 }
 
-// A machine beside itself.
-fn twice<'a>(m: &'a [u32], sigmas: Sigmas, ignored: &'a [u32]) -> Machines<'a> {
-    Machines {
-        m1: m,
-        m2: m,
-        sigmas,
-        ignored,
-    }
-}
-
 // A machine that is matched on a side, with those labels and a list.
 fn matched_on<'a>(words: &'a [u32], on: MatchType, ignored: &'a [u32]) -> Matched<'a> {
     Matched {
@@ -148,7 +138,13 @@ fn record(m: &[u32], ignored: &[u32], t: u32) {
 
 fn facts(m: &[u32], ignored: &[u32]) {
     io::write_all(1, b"f");
-    let f = compose_filters::facts_at(twice(m, sigmas(), ignored), StateId(u32::MAX), StateId(0));
+    let two = Machines {
+        m1: m,
+        m2: m,
+        sigmas: sigmas(),
+        ignored,
+    };
+    let f = compose_filters::facts_at(two, StateId(u32::MAX), StateId(0));
     flag(f.none1);
     flag(f.all1);
     flag(f.none2);
@@ -169,7 +165,12 @@ fn chosen(side: Result<Side, Refusal>) {
 // The choice of the side is for well-formed machines.
 fn side(m: &[u32], ignored: &[u32], first: Label, second: Label) {
     if fst_properties::well_formed(m) {
-        chosen(match_type::match_type(twice(m, Sigmas { first, second }, ignored)));
+        chosen(match_type::match_type(Machines {
+            m1: m,
+            m2: m,
+            sigmas: Sigmas { first, second },
+            ignored,
+        }));
     }
 }
 
