@@ -11,7 +11,6 @@ ghost use Rattle.trims.specs.Trims.{all_expanded, is_good, all_weighed};
 ghost use Rattle.store_records.specs.Meaning.{memory_of, stored, store_in};
 ghost use Rattle.lazy_fst.specs.Meaning.{lent_with, session_means, weight_left};
 
-use final_weights::found;
 use fst::StateId;
 use lazy_fst::{AllowedLists, Session, WeightAnswer};
 use store_records::is_expanded;
@@ -24,12 +23,10 @@ const FINAL: u32 = 4;
 pub fn all_expanded(states: &[u32], count: u32) -> bool
     ensures { (heads trs : List ℕ) (k : ℕ) → result ≡ all_expanded (stored heads states.now trs count k) }
 {
-    let mut n: u32 = 0;
-    while n < count {
+    for n in 0..count {
         if !is_expanded(states, StateId(n)) {
             return false;
         }
-        n += 1;
     }
     true
 }
@@ -40,12 +37,12 @@ fn mark_final(work: &mut [u64], n: u32, weight: WeightAnswer) -> bool
     ensures marks { (m : Memory) → work.new ≡ cond (answered (weight_left weight m).answer) (with_high work.old (2 * n) 4) work.old }
 {
     match weight {
-        WeightAnswer::Weight(_, _) => {
+        Ok((Some(_), _)) => {
             set_high(work, 2 * (n as usize), FINAL);
             true
         }
-        WeightAnswer::NotFinal(_) => true,
-        WeightAnswer::Refused(_, _) => false,
+        Ok((None, _)) => true,
+        Err(_) => false,
     }
 }
 
@@ -76,9 +73,7 @@ pub fn mark_finals(
         (c : Composition) → entered l (session_means session) m ≡ good c → result ≡ true
         → (x : ℕ) → x < session.used.states → status_in work.new x ≡ cond ((store_machine c d).is_final x) 4 0 }
 {
-    let count = found(session);
-    let mut n: u32 = 0;
-    while n < count {
+    for n in 0..session.used.states {
         let s = StateId(n);
         let weight = session.trusted_final_weight(
             m1, m2, allowed1, allowed2, ignored, listed, heads, states, trs, s,
@@ -86,7 +81,6 @@ pub fn mark_finals(
         if !mark_final(work, n, weight) {
             return false;
         }
-        n += 1;
     }
     true
 }

@@ -5,12 +5,9 @@ mod judged;
 mod marked;
 mod trimming;
 
+use fst::Refusal;
 use lazy_fst::Session;
 pub use trimming::{trim, trusted_trim};
 
-// How many words were written; or the number of the refusal. The session stays as it was.
-#[derive(Clone, Copy)]
-pub enum TrimAnswer {
-    Trimmed(u32, Session),
-    Refused(u32, Session),
-}
+// How many words were written; or the refusal. The session stays as it was.
+pub type TrimAnswer = Result<(u32, Session), (Refusal, Session)>;

@@ -15,7 +15,7 @@ ghost use Rattle.trim_passes.specs.Passes.{number_in};
 ghost use Rattle.trim_call.specs.Meaning.{trim_left, handed_back};
 
 use crate::TrimAnswer;
-use fst::{HEADER_WORDS, LIMIT, REFUSED_NO_ROOM, STATE_WORDS, TR_WORDS};
+use fst::{HEADER_WORDS, LIMIT, Refusal, STATE_WORDS, TR_WORDS};
 use lazy_fst::{AllowedLists, Session};
 use store_records::Used;
 use trim_passes::{count_kept, number_states};
@@ -78,11 +78,11 @@ pub fn trim_marked(
     let rows = number_useful(states, trs, used, work);
     let arcs = count_kept(states, trs, used, work);
     if arcs > LIMIT as u64 {
-        return TrimAnswer::Refused(REFUSED_NO_ROOM, session);
+        return Err((Refusal::NoRoom, session));
     }
     let need = words_of(rows, arcs);
     if (out.len() as u64) < need {
-        return TrimAnswer::Refused(REFUSED_NO_ROOM, session);
+        return Err((Refusal::NoRoom, session));
     }
     write_machine(
         session,
@@ -100,5 +100,5 @@ pub fn trim_marked(
         rows,
         arcs as u32,
     );
-    TrimAnswer::Trimmed(need as u32, session)
+    Ok((need as u32, session))
 }

@@ -12,9 +12,8 @@ ghost use Rattle.trim_call.specs.Meaning.{trim_left, handed_back};
 use crate::TrimAnswer;
 use crate::judged::{all_expanded, mark_finals};
 use crate::marked::trim_marked;
-use fst::{REFUSED_NO_ROOM, REFUSED_NOT_EXPANDED, REFUSED_TOO_LARGE};
+use fst::Refusal;
 use lazy_fst::{AllowedLists, Session};
-use match_type::Chosen;
 use session_checks::enter;
 use work_words::clear;
 
@@ -43,14 +42,13 @@ fn trim_cleared(
         → trim_left result out.new w ≡ written out.old w (trimmed_of c d out.old) }
     ensures session { handed_back result ≡ session }
 {
-    let used = session.used;
-    if !all_expanded(states, used.states) {
-        return TrimAnswer::Refused(REFUSED_NOT_EXPANDED, session);
+    if !all_expanded(states, session.used.states) {
+        return Err((Refusal::NotExpanded, session));
     }
     if !mark_finals(
         session, m1, m2, allowed1, allowed2, ignored, listed, heads, states, trs, work,
     ) {
-        return TrimAnswer::Refused(REFUSED_TOO_LARGE, session);
+        return Err((Refusal::TooLarge, session));
     }
     trim_marked(
         session, m1, m2, allowed1, allowed2, ignored, listed, heads, states, trs, out, work,
@@ -113,10 +111,9 @@ pub fn trusted_trim(
         trim_left result out.new work.new ≡ trim_of l (session_means session) m out.old work.old }
     ensures session { handed_back result ≡ session }
 {
-    let used = session.used;
-    let need = 2 * (used.states as usize);
+    let need = 2 * (session.used.states as usize);
     if work.len() < need {
-        return TrimAnswer::Refused(REFUSED_NO_ROOM, session);
+        return Err((Refusal::NoRoom, session));
     }
     trim_in(
         session,
@@ -166,11 +163,9 @@ pub fn trim(
         trs,
     );
     match entered {
-        Chosen::Refused(k) => TrimAnswer::Refused(k, session),
-        Chosen::By(_) => {
-            trusted_trim(
-                session, m1, m2, allowed1, allowed2, ignored, listed, heads, states, trs, out, work,
-            )
-        }
+        Ok(_) => trusted_trim(
+            session, m1, m2, allowed1, allowed2, ignored, listed, heads, states, trs, out, work,
+        ),
+        Err(refusal) => Err((refusal, session)),
     }
 }

@@ -1,5 +1,5 @@
+-- The states below n are marked, and the weights from n on tell the rest.
 use mathlib.Core.Path.{◌≡◌}
-use Prim.Native.Nat.{◌-◌, ◌≤◌}
 use lib.ListN.{length}
 use Rattle.words.specs.Labels.{good}
 use Rattle.words.specs.Steps.{Composition}
@@ -10,9 +10,7 @@ use Rattle.trim_call.proofs.JudgedLaws.{Marking}
 use Rattle.trim_call.proofs.judged.mark_finals.Given as goal
 
 abbrev pub invariant-loop-n : goal.invariant-loop-n
-invariant-loop-n l =
-    (l.n ≤ l.count) × (length l.work ≡ length l.initial.work)
-    × ((k : Composition) → entered (lent_with l.m1 l.m2 l.allowed1 l.allowed2 l.ignored l.listed) (session_means l.session) (memory_of l.heads l.states l.trs) ≡ good k → Marking k (store_in l.heads l.states l.trs l.session.used) l.work l.n)
-
-abbrev pub decreases-loop-n : goal.decreases-loop-n
-decreases-loop-n l = l.count - l.n
+invariant-loop-n l = record {
+  sized : length l.work ≡ length l.initial.work;
+  marking : (k : Composition) → entered (lent_with l.m1 l.m2 l.allowed1 l.allowed2 l.ignored l.listed) (session_means l.session) (memory_of l.heads l.states l.trs) ≡ good k → Marking k (store_in l.heads l.states l.trs l.session.used) l.work l.n;
+}

@@ -1,16 +1,21 @@
-use mathlib.Core.Path.{refl, sym, ◌∙◌, ap}
+-- Checks 1 to 8; then the call that does not check.
+use mathlib.Core.Path.{sym}
 use Rattle.store_records.specs.Meaning.{memory_of}
-use Rattle.session_checks.specs.Meaning.{entered_means}
 use Rattle.lazy_fst.specs.Meaning.{lent_with, session_means}
 use Rattle.lazy_fst.proofs.CallLaws.{passes_by}
 use Rattle.trim_call.proofs.TrimLaws.{stopped}
 use Rattle.trim_call.proofs.trimming.trim.Goals as goal
 
 pub trusted_trim-requires : goal.trusted_trim-requires
-trusted_trim-requires c = passes_by (lent_with c.args.m1.now c.args.m2.now c.args.allowed1.now c.args.allowed2.now c.args.ignored.now c.args.listed) c.args.session (memory_of c.args.heads.now c.args.states.now c.args.trs.now) c.enter-entered.result c.in-By.field-0 (c.enter-entered.ensures _ _) c.in-By.is
+trusted_trim-requires c =
+    let a = c.args in
+    let l = lent_with a.m1.now a.m2.now a.allowed1.now a.allowed2.now a.ignored.now a.listed in
+    let m = memory_of a.heads.now a.states.now a.trs.now in
+    passes_by l a.session m _ (c.in-Ok.ensures l.allowed1 l.allowed2)
 
-pub returns-in-Refused : goal.returns-in-Refused
-returns-in-Refused c = record { work_after = stopped (lent_with c.args.m1.now c.args.m2.now c.args.allowed1.now c.args.allowed2.now c.args.ignored.now c.args.listed) (session_means c.args.session) (memory_of c.args.heads.now c.args.states.now c.args.trs.now) _ _ _ (sym (c.enter-entered.ensures _ _) ∙ ap (entered_means c.args.session.settings (lent_with c.args.m1.now c.args.m2.now c.args.allowed1.now c.args.allowed2.now c.args.ignored.now c.args.listed)) c.in-Refused.is); session = refl }
-
-pub returns-in-By : goal.returns-in-By
-returns-in-By c = record { work_after = c.trusted_trim.ensures.work_after; session = c.trusted_trim.ensures.session }
+pub returns-in-Err-clause-work_after : goal.returns-in-Err-clause-work_after
+returns-in-Err-clause-work_after c =
+    let a = c.args in
+    let l = lent_with a.m1.now a.m2.now a.allowed1.now a.allowed2.now a.ignored.now a.listed in
+    let m = memory_of a.heads.now a.states.now a.trs.now in
+    stopped l (session_means a.session) m _ _ _ (sym (c.in-Err.ensures l.allowed1 l.allowed2))
