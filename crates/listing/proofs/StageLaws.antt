@@ -13,11 +13,11 @@ use Rattle.words.specs.Settings.{Settings, Lent}
 use Rattle.calls.specs.Store.{Memory, state_size, tr_size, room_of, state_room, tr_room, triple_at, room_with, state_room_with, tr_room_with}
 use Rattle.calls.specs.Checks.{Session, Passes}
 use Rattle.calls.specs.Calls.{Outcome, open_of, run_of, final_weight_of, records_of}
-use Rattle.calls.specs.Listing.{Line, side_line, state_line, end_line, refused_line, tr_lines, listed, printed, composed_lines, settings_of, no_session, empty_memory, listing_on}
+use Rattle.calls.specs.Listing.{Line, side_line, state_line, end_line, refused_line, tr_lines, printed, composed_lines, settings_of, no_session, empty_memory, listing_on}
 use Rattle.calls.proofs.RunLaws.{run_passes}
 use Rattle.listing_text.specs.Printing.{line_bytes, bytes_of}
 use Rattle.final_weights.specs.Weights.{given_weight}
-use Rattle.listing.specs.Stages.{lines_at, lines_from, ran_of, opened_of, opened_memory, FewLines}
+use Rattle.listing.specs.Stages.{lines_at, lines_from, ran_of, opened_of, FewLines}
 use Rattle.listing.proofs.LinesFit.{few_lines}
 use Rattle.listing.proofs.LineLaws.{bytes_append, bytes_one}
 

@@ -1,5 +1,4 @@
 -- What `put_states`'s loop keeps: the lines from state n on, put from here, are all lines put from the start.
-use mathlib.Core.Path.{◌≡◌}
 use Prim.Native.Nat.{◌+◌, ◌-◌, ◌*◌, ◌≤◌}
 use lib.ListN.{length}
 use Rattle.store_records.specs.Meaning.{memory_of}

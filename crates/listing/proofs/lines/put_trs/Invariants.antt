@@ -1,7 +1,5 @@
 -- What `put_trs`'s loop keeps: the lines from record i on, put from here, are all lines put from the start.
-use mathlib.Core.Path.{◌≡◌}
 use Prim.Native.Nat.{◌+◌, ◌-◌, ◌*◌, ◌≤◌}
-use lib.ListN.{length}
 use Rattle.listing.proofs.LineLaws.{Rest, tr_lines_from}
 use Rattle.listing.proofs.lines.put_trs.Given as goal
 
