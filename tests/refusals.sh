@@ -16,9 +16,11 @@ wrong() { # EDIT WHAT SAID
     bad=1
 }
 
-# the function that holds a line of a file
+# the function that holds a line of a file: the last that begins at the line or above it, and of an attribute's line the one below it
 function_at() { # FILE LINE
-    head -n "$2" "$1" | sed -n 's/^ *\(pub \)\{0,1\}\(const \|unsafe \|extern "C" \)*fn \([A-Za-z0-9_]*\).*/\3/p' | tail -n 1
+    line=$2
+    while sed -n "${line}p" "$1" | grep -q '^ *#\['; do line=$((line + 1)); done
+    head -n "$line" "$1" | sed -n 's/^ *\(pub \)\{0,1\}\(const \|unsafe \|extern "C" \)*fn \([A-Za-z0-9_]*\).*/\3/p' | tail -n 1
 }
 
 # Whether a function has a goal, as its crate stands. A name with no backquote behind it was cut: then one that begins so.
@@ -40,8 +42,8 @@ for edit in crates/*/must-fail/*.edit; do
     *': refused, as it must be: note: src/'*)
         seen=$((seen + 1))
         at=${said#*: note: }
-        file=${at%%:*} line=${at#*:}
-        name=$(function_at "crates/$crate/$file" "${line%%:*}")
+        file=${at%%:*} place=${at#*:}
+        name=$(function_at "crates/$crate/$file" "${place%%:*}")
         goal=$(printf '%s\n' "$said" | awk 'match($0, /\(`[^`]*`?/) { print substr($0, RSTART + 2, RLENGTH - 2) }')
         if ! grep -q '^file: proofs/' "$edit" && find "crates/$crate/proofs" -path "*[/+]$name/*.antt" | grep -q . && ! has_goal "$crate" "$name" "$goal"; then
             wrong "$edit" "leaves a goal open that $name has not as it stands" "$said"
