@@ -1,6 +1,6 @@
 #!/bin/sh
 # Each must-fail edit says at which input the edited text is wrong, and its old text stands in one line of its file. As each proves its crate again, a crate of definitions has at most five, a crate of code
-# at most three, five where it takes at most 10 seconds to prove, and at most one where it takes over 20. The seconds are those of the last table `| crate | seconds | edits |` of
+# at most three, and at most one where it takes over 20 seconds to prove. The seconds are those of the last table `| crate | seconds | edits |` of
 # docs/LANDINGS.md, which has every crate of crates.txt with the number of its edits.
 set -eu
 cd "$(dirname "$0")/.."
@@ -22,7 +22,7 @@ if [ "$(printf '%s\n' "$rows" | cut -d ' ' -f 1 | sort)" != "$(printf '%s\n' "$c
 fi
 
 budget() { # CRATE SECONDS
-    if ! grep -q '^[^/]*fn ' "crates/$1"/src/*.rt; then echo 5; elif [ "$2" -gt 20 ]; then echo 1; elif [ "$2" -gt 10 ]; then echo 3; else echo 5; fi
+    if ! grep -q '^[^/]*fn ' "crates/$1"/src/*.rt; then echo 5; elif [ "$2" -gt 20 ]; then echo 1; else echo 3; fi
 }
 
 while read -r crate seconds edits; do
