@@ -5,7 +5,7 @@ use mathlib.Core.List.{List, [], ◌∷◌}
 use Prim.Native.Nat.{ℕ, suc, ◌+◌, ◌-◌, ◌*◌, ◌≤◌, ◌<◌}
 use native.Mathlib.Omega.{arith}
 use lib.Dec.{ltb}
-use lib.ListN.{length, length-map, length-take, length-replicate, replicate}
+use lib.ListN.{length, length-map, length-replicate, replicate}
 use borrow.Author.Tests.{lt-ltb, le-ltb}
 use borrow.Rule.Slice.PartMut.{put_mid, mid_of}
 use Rattle.lists.specs.Lists.{keep_if, interval, put}
@@ -142,9 +142,6 @@ long_work l s m c out work work' t e h f g = g ∙ ap (λ (w : List ℕ). writte
 pub stopped : (l : Lent) (s : Session) (m : Memory) (k : ℕ) (out work : List ℕ) → entered l s m ≡ refused k → record { answer = refused k; out = out; work = work } ≡ trim_of l s m out work
 stopped l s m k out work e = sym (entered_first l s m out work k e)
 
--- the part of the work slice that is lent, and the whole after it
-pub part_length : (w : List ℕ) (k : ℕ) → k ≤ length w → length (mid_of 0 (k - 0) w) ≡ k
-part_length w k h = let z = length-take (k - 0) w in omega (arith, z, h)
-
+-- the part of the work slice that is lent is cleared: so is the whole up to there
 pub part_cleared : (w v : List ℕ) (k : ℕ) → v ≡ put (mid_of 0 (k - 0) w) 0 (replicate k 0) → put_mid 0 (k - 0) w v ≡ put w 0 (replicate k 0)
 part_cleared w v k e = ap (put_mid 0 (k - 0) w) e ∙ put_part 0 (k - 0) 0 w (replicate k 0) (let z : length (replicate {A = ℕ} k 0) ≡ k = length-replicate k 0 in omega (arith, z))
