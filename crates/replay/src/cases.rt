@@ -45,17 +45,20 @@ fn room_of<'a>(words: &'a mut [u32], k: u32) -> &'a mut [u32]
     &mut words[from..to]
 }
 
+// The end of line k, None where it is not of words.
+fn end_of(ends: &[Option<usize>], k: u32) -> Option<usize> {
+    ends.get(k as usize).copied().unwrap_or(Some(0))
+}
+
 // The words of line k, none where it is not of words.
-fn words_of<'a>(words: &'a [u32], ends: &[Option<usize>; LINES], k: usize) -> &'a [u32]
-    requires { k < LINES }
-{
-    let from = words.len().min(ROOM * k);
-    let to = from + ends[k].unwrap_or(0).min(words.len() - from);
+fn words_of<'a>(words: &'a [u32], ends: &[Option<usize>], k: u32) -> &'a [u32] {
+    let from = words.len().min(ROOM * k as usize);
+    let to = from + end_of(ends, k).unwrap_or(0).min(words.len() - from);
     &words[from..to]
 }
 
 // The whole listing of the case, or its expansions in order.
-fn answer(words: &[u32], ends: &[Option<usize>; LINES]) {
+fn answer(words: &[u32], ends: &[Option<usize>]) {
     let order = words_of(words, ends, 0);
     let settings = words_of(words, ends, 1);
     let allowed1 = words_of(words, ends, 2);
@@ -64,11 +67,11 @@ fn answer(words: &[u32], ends: &[Option<usize>; LINES]) {
     let m1 = words_of(words, ends, 5);
     let m2 = words_of(words, ends, 6);
     let listed = AllowedLists {
-        first: ends[2].is_some(),
-        second: ends[3].is_some(),
+        first: end_of(ends, 2).is_some(),
+        second: end_of(ends, 3).is_some(),
     };
     let mut out = [0u8; 131200];
-    if ends[0].is_some() {
+    if end_of(ends, 0).is_some() {
         print_order(order, settings, m1, m2, allowed1, allowed2, ignored, listed);
     } else {
         let n = listing(
@@ -80,7 +83,7 @@ fn answer(words: &[u32], ends: &[Option<usize>; LINES]) {
 }
 
 // The line ends, as if a blank came: how many words it has is kept, none where it is not of words, and after the seventh line the case is answered.
-fn end_line(place: Place, words: &mut [u32], ends: &mut [Option<usize>; LINES]) -> Place
+fn end_line(place: Place, words: &mut [u32], ends: &mut [Option<usize>]) -> Place
     ensures { result ≡ place_ended place }
 {
     let line = step_byte(place.line, b' ', room_of(words, place.at));
@@ -98,7 +101,7 @@ fn end_line(place: Place, words: &mut [u32], ends: &mut [Option<usize>; LINES]) 
     new_place()
 }
 
-fn read_byte(place: Place, b: u8, words: &mut [u32], ends: &mut [Option<usize>; LINES]) -> Place
+fn read_byte(place: Place, b: u8, words: &mut [u32], ends: &mut [Option<usize>]) -> Place
     ensures { result ≡ place_byte (length words.old) place b }
 {
     if b == b'\n' {
@@ -117,7 +120,7 @@ pub fn read_bytes(
     start: Place,
     chunk: &[u8],
     words: &mut [u32],
-    ends: &mut [Option<usize>; LINES],
+    ends: &mut [Option<usize>],
 ) -> Place
     ensures { result ≡ place_after (length words.old) start chunk.now }
 {
@@ -129,7 +132,7 @@ pub fn read_bytes(
 }
 
 // The input has ended: a case that was begun is answered, its missing lines being empty.
-pub fn finish(start: Place, words: &mut [u32], ends: &mut [Option<usize>; LINES]) {
+pub fn finish(start: Place, words: &mut [u32], ends: &mut [Option<usize>]) {
     let mut place = start;
     for _ in 0..LINES {
         if !place.begun {

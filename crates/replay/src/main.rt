@@ -13,7 +13,7 @@ use std::io::Read;
 fn read_cases<R: Read>(
     input: &mut R,
     words: &mut [u32],
-    ends: &mut [Option<usize>; LINES],
+    ends: &mut [Option<usize>],
     chunk: &mut [u8],
 ) {
     let mut place = new_place();
