@@ -85,7 +85,7 @@ unfolding serves_of
 serves_plain s on d f1 f2 e = and_left (no_sigma s) _ e
 
 -- and every step fits
-serves_fit : {o : ComposeFstOpOptions} {m1 m2 : List ℕ} {t : Triple} {f1 f2 : ListFacts} (d : Store) (on : MatchType) → ((a1 a2 : List ℕ) → Present o m1 m2 a1 a2 t f1 f2)
+pub serves_fit : {o : ComposeFstOpOptions} {m1 m2 : List ℕ} {t : Triple} {f1 f2 : ListFacts} (d : Store) (on : MatchType) → ((a1 a2 : List ℕ) → Present o m1 m2 a1 a2 t f1 f2)
     → on ≡ plain_direction (side_means o.side) f1.len f2.len → serves_of (option_settings o) on d f1 f2 ≡ true → f1.most ≤ MAX → f2.most ≤ MAX
     → (a1 a2 : List ℕ) → Fits d (steps_at (composing_words o m1 m2 a1 a2) t)
 serves_fit {o = o} {f1 = f1} {f2 = f2} d on p way e h1 h2 a1 a2 =

@@ -142,7 +142,8 @@ pub fn inner_label(m: Matched<'_>, t: u32) -> Label
     heard(m.sigmas, m.ignored, label_on(m.words, m.on, t))
 }
 
-// The transition of record t in a machine that is matched on a side. Its outer label is as lent.
+// The transition of record t in a machine that is matched on a side. Its outer label is as lent. Inlined, so that the machine is not copied for it.
+#[inline(always)]
 pub fn get_tr(m: Matched<'_>, t: u32) -> Tr
     ensures { tr_means result ≡ tr_of (machine_of (words_as_read m.entry)) t }
 {

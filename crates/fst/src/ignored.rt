@@ -6,11 +6,35 @@ ghost use Rattle.fst.specs.Meaning.{ignored_under};
 
 use crate::{EPS_LABEL, Label, Sigmas};
 
+// So many items are asked in turn: a list is mostly short, and a label that it holds mostly stands early.
+const IN_TURN: usize = 8;
+
+// Whether the label stands in the list, item by item.
+fn in_turn(list: &[u32], label: Label) -> bool
+    ensures { result ≡ hasLabel label.0 list.now }
+{
+    for &x in list {
+        if x == label.0 {
+            return true;
+        }
+    }
+    false
+}
+
+// The same, many items at once. Not inlined: the loops that read labels seldom come here.
+#[inline(never)]
+fn at_once(list: &[u32], label: Label) -> bool
+    ensures { result ≡ hasLabel label.0 list.now }
+{
+    list.contains(&label.0)
+}
+
 // Whether the label stands in the list: any words, in any order.
 pub fn has(list: &[u32], label: Label) -> bool
     ensures { result ≡ hasLabel label.0 list.now }
 {
-    list.contains(&label.0)
+    let few = list.len().min(IN_TURN);
+    in_turn(&list[..few], label) || (few < list.len() && at_once(&list[few..], label))
 }
 
 // Whether the label is a sigma label, of either machine: such a label is never replaced.

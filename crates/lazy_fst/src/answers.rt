@@ -89,7 +89,8 @@ pub fn options_of(
     options_with(settings, listed, side, acceptor1, acceptor2)
 }
 
-// The final weight of state n, with the session as it came.
+// The final weight of state n, with the session as it came. Inlined, so that a caller who takes many does not copy it for each.
+#[inline(always)]
 pub fn final_of(
     session: Session,
     options: ComposeFstOpOptions,

@@ -98,7 +98,8 @@ impl Session {
         part_answer(self, expanded)
     }
 
-    // The final weight of state n.
+    // The final weight of state n. Inlined, so that a caller who takes many does not copy the session for each.
+    #[inline(always)]
     #[tactic(auto, unfolding(calls::specs::Calls::final_weight_with, calls::specs::Checks::entered_at_with))]
     pub fn trusted_final_weight(
         self,

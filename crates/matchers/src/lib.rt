@@ -61,7 +61,8 @@ pub fn looked(label: Label) -> Label
     if label == NO_LABEL { EPS_LABEL } else { label }
 }
 
-// The first record from t on that has the label on a side; 0: none.
+// The first record from t on that has the label on a side; 0: none. Inlined, so that the machine is not copied for it.
+#[inline(always)]
 fn seek(m: Matched<'_>, label: Label, t: u32) -> u32
     ensures { result ≡ head0 (with_label (on_of m.entry.on) (words_as_read m.entry) label.0 t) }
 {

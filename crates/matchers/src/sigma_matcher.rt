@@ -76,7 +76,8 @@ fn rewrites_both(sigma: Sigma) -> bool
     }
 }
 
-// The matches of a label at a state, or refusal 11 where the label is sigma.
+// The matches of a label at a state, or refusal 11 where the label is sigma. Inlined, so that the machine is not copied for it.
+#[inline(always)]
 pub fn sigma_iter(
     m: Matched<'_>,
     sigma: Sigma,
