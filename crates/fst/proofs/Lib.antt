@@ -1,2 +1,1 @@
-pub mod ListedIn
 pub mod Tests

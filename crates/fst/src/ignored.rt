@@ -6,8 +6,8 @@ ghost use Rattle.fst.specs.Meaning.{ignored_under};
 
 use crate::{EPS_LABEL, Label, Sigmas};
 
-// So many items are asked in turn: a list is mostly short, and a label that it holds mostly stands early.
-const IN_TURN: usize = 8;
+// A list of no more items is asked item by item.
+const FEW: usize = 8;
 
 // Whether the label stands in the list, item by item.
 fn in_turn(list: &[u32], label: Label) -> bool
@@ -21,7 +21,7 @@ fn in_turn(list: &[u32], label: Label) -> bool
     false
 }
 
-// The same, many items at once. Not inlined: the loops that read labels seldom come here.
+// The same, many items at once. Not inlined: the loops that read labels mostly have no list or a short one.
 #[inline(never)]
 fn at_once(list: &[u32], label: Label) -> bool
     ensures { result ≡ hasLabel label.0 list.now }
@@ -33,8 +33,11 @@ fn at_once(list: &[u32], label: Label) -> bool
 pub fn has(list: &[u32], label: Label) -> bool
     ensures { result ≡ hasLabel label.0 list.now }
 {
-    let few = list.len().min(IN_TURN);
-    in_turn(&list[..few], label) || (few < list.len() && at_once(&list[few..], label))
+    if list.len() <= FEW {
+        in_turn(list, label)
+    } else {
+        at_once(list, label)
+    }
 }
 
 // Whether the label is a sigma label, of either machine: such a label is never replaced.

@@ -1,5 +1,5 @@
 // The lines of a case, read byte by byte; the case is answered when its last line ends.
-ghost use Rattle.std.specs.Prelude.{◌≡◌, ◌<◌, length};
+ghost use Rattle.std.specs.Prelude.{◌≡◌, length};
 ghost use Rattle.replay.specs.Places.{new_place, room_at, place_ended, place_byte, place_after};
 
 use crate::order::print_order;
