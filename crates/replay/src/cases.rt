@@ -45,7 +45,7 @@ fn room_of<'a>(words: &'a mut [u32], k: u32) -> &'a mut [u32]
     &mut words[from..to]
 }
 
-// The end of line k, None where it is not of words.
+// The end of line k, None where it is not of words; 0 where none is kept.
 fn end_of(ends: &[Option<usize>], k: u32) -> Option<usize> {
     ends.get(k as usize).copied().unwrap_or(Some(0))
 }
