@@ -1,1 +1,2 @@
+pub mod ListedIn
 pub mod Tests

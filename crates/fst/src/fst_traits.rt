@@ -136,6 +136,7 @@ pub fn label_on(m: &[u32], on: MatchType, t: u32) -> Label
 }
 
 // The label of record t on the side on which the machine is matched. Sortedness, the facts of the filters, the walk and the look-up see labels through here alone.
+#[inline(always)]
 pub fn inner_label(m: Matched<'_>, t: u32) -> Label
     ensures { result.0 ≡ label_on (on_of m.entry.on) (machine_of (words_as_read m.entry)) t }
 {
