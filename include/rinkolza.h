@@ -212,9 +212,11 @@
  * has no label of either machine, may so change the side to output. Machine 2 is
  * walked then, and its sigma is a label like others: a total may change.
  *
- * Cost: the whole list is gone through for each inner label that is read, so that
- * a list of k words costs up to k comparisons more for each transition that is
- * read. Its order is of no use, and words that stand in it twice cost as others do.
+ * Cost: the list is gone through for each inner label that is read, from its first
+ * word to that label or else to its end, so that a list of k words costs up to k
+ * comparisons more for each transition that is read. The labels that are read most
+ * often stand best among its first; that it is sorted is of no use, and words that
+ * stand in it twice cost as others do.
  * And an expansion weighs each of its moves before it stores any, as with a sigma
  * label: each look-up goes through the whole of a state's list. With thousands of
  * transitions in both lists that is seconds in place of milliseconds; the label 0

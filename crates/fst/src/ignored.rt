@@ -6,11 +6,8 @@ ghost use Rattle.fst.specs.Meaning.{ignored_under};
 
 use crate::{EPS_LABEL, Label, Sigmas};
 
-// A list of no more items is asked item by item.
+// So many items are asked item by item: a list of no more, and the first ones of a longer list.
 const FEW: usize = 8;
-
-// Of a longer one so many are, then the others many at once.
-const EARLY: usize = 4;
 
 // Whether the label stands in the list, item by item.
 fn in_turn(list: &[u32], label: Label) -> bool
@@ -49,7 +46,7 @@ pub fn has(list: &[u32], label: Label) -> bool
     if list.len() <= FEW {
         return in_turn(list, label);
     }
-    let (early, late) = list.split_at(EARLY);
+    let (early, late) = list.split_at(FEW);
     in_turn(early, label) || at_once(late, label)
 }
 
